@@ -1,0 +1,152 @@
+//! Before anything is timed: all implementations must agree, byte for byte, on the answers and on the outputs.
+
+use crate::corpus::{self, Corpus, Pattern, Random};
+use crate::implementations::{Answer, Implementation, IMPLEMENTATIONS};
+
+/// Bytes behind the needed length, which must stay.
+const SPARE: usize = 16;
+const UNTOUCHED: u8 = 0xA5;
+/// For each pattern.
+const DAMAGED_STREAMS: usize = 20;
+const OTHER_SIZES: usize = 400;
+
+/// How many calls were compared, or the first difference.
+pub fn compare(corpora: &[Corpus]) -> Result<usize, String> {
+    let mut random = Random(5);
+    let mut calls = 0;
+    for corpus in corpora {
+        calls += compare_patterns(corpus.name, &corpus.patterns, &mut random)?;
+    }
+    let others = corpus::other_sizes(OTHER_SIZES);
+    Ok(calls + compare_patterns("other sizes", &others, &mut random)?)
+}
+
+fn compare_patterns(
+    name: &str,
+    patterns: &[Pattern],
+    random: &mut Random,
+) -> Result<usize, String> {
+    let mut calls = 0;
+    for (index, pattern) in patterns.iter().enumerate() {
+        calls += compare_pattern(pattern, random)
+            .map_err(|difference| format!("{name}, pattern {index}: {difference}"))?;
+    }
+    Ok(calls)
+}
+
+fn compare_pattern(pattern: &Pattern, random: &mut Random) -> Result<usize, String> {
+    let Pattern {
+        rows,
+        tracks,
+        cells,
+        stream,
+    } = pattern;
+    let (rows, tracks) = (*rows, *tracks);
+    let mut calls = 0;
+
+    calls += same("check", |one| {
+        ((one.check)(stream, rows, tracks), Vec::new())
+    })?;
+    calls += same_as("unpack", cells, |one, out| {
+        (one.unpack)(stream, rows, tracks, out)
+    })?;
+    calls += same_as("pack", stream, |one, out| {
+        (one.pack)(cells, rows, tracks, out)
+    })?;
+
+    let short = random.below(cells.len() as u64 + 1) as usize;
+    calls += same("unpack, short output", |one| {
+        into(short, |out| (one.unpack)(stream, rows, tracks, out))
+    })?;
+    let short = random.below(stream.len() as u64 + 1) as usize;
+    calls += same("pack, short output", |one| {
+        into(short, |out| (one.pack)(cells, rows, tracks, out))
+    })?;
+    calls += same("pack, one track less", |one| {
+        into(stream.len(), |out| (one.pack)(cells, rows, tracks - 1, out))
+    })?;
+
+    for _ in 0..DAMAGED_STREAMS {
+        let damaged = damage(stream, random);
+        let rows = (rows + random.below(3)).saturating_sub(1);
+        calls += same("check, damaged", |one| {
+            ((one.check)(&damaged, rows, tracks), Vec::new())
+        })?;
+        calls += same("unpack, damaged", |one| {
+            into((rows * tracks * 6) as usize, |out| {
+                (one.unpack)(&damaged, rows, tracks, out)
+            })
+        })?;
+    }
+    Ok(calls)
+}
+
+/// A few bytes of the stream changed, and sometimes its end cut off.
+fn damage(stream: &[u8], random: &mut Random) -> Vec<u8> {
+    let mut damaged = stream.to_vec();
+    if damaged.is_empty() {
+        damaged.push(0);
+    }
+    for _ in 0..random.below(3) {
+        let place = random.below(damaged.len() as u64) as usize;
+        damaged[place] = random.below(80) as u8;
+    }
+    if random.below(3) == 0 {
+        let cut = random.below(12) as usize;
+        damaged.truncate(damaged.len().saturating_sub(cut));
+    }
+    damaged
+}
+
+/// An answer, and what the output of this length holds then, with the bytes behind it.
+fn into(length: usize, fill: impl FnOnce(&mut [u8]) -> Answer) -> (Answer, Vec<u8>) {
+    let mut out = vec![UNTOUCHED; length + SPARE];
+    let answer = fill(&mut out[..length]);
+    (answer, out)
+}
+
+fn same(what: &str, call: impl Fn(&Implementation) -> (Answer, Vec<u8>)) -> Result<usize, String> {
+    let first = call(&IMPLEMENTATIONS[0]);
+    for other in &IMPLEMENTATIONS[1..] {
+        let second = call(other);
+        if first.0 != second.0 {
+            return Err(format!(
+                "{what}: {} answers {:?}, {} answers {:?}",
+                IMPLEMENTATIONS[0].name, first.0, other.name, second.0
+            ));
+        }
+        if first.1 != second.1 {
+            return Err(format!(
+                "{what}: {} and {} leave different outputs",
+                IMPLEMENTATIONS[0].name, other.name
+            ));
+        }
+    }
+    Ok(IMPLEMENTATIONS.len())
+}
+
+/// Success with just this output, and the bytes behind it untouched, in an output that is exactly long enough and in a longer one.
+fn same_as(
+    what: &str,
+    expected: &[u8],
+    fill: impl Fn(&Implementation, &mut [u8]) -> Answer,
+) -> Result<usize, String> {
+    let success = Answer {
+        number: 0,
+        place: 0,
+        length: expected.len() as u64,
+    };
+    for room in [expected.len(), expected.len() + SPARE] {
+        for one in &IMPLEMENTATIONS {
+            let (answer, out) = into(room, |out| fill(one, out));
+            if answer != success {
+                return Err(format!("{what}: {} answers {answer:?}", one.name));
+            }
+            let (written, behind) = out.split_at(expected.len());
+            if written != expected || behind.iter().any(|&byte| byte != UNTOUCHED) {
+                return Err(format!("{what}: {} leaves a wrong output", one.name));
+            }
+        }
+    }
+    Ok(2 * IMPLEMENTATIONS.len())
+}

@@ -1,0 +1,162 @@
+//! The four implementations under one interface.
+
+use reference::pattern;
+
+/// `number` 0: no refusal.
+#[repr(C)]
+#[derive(Clone, Copy, Debug, PartialEq, Eq)]
+pub struct Answer {
+    pub number: u64,
+    pub place: u64,
+    pub length: u64,
+}
+
+pub type Check = fn(&[u8], u64, u64) -> Answer;
+pub type Fill = fn(&[u8], u64, u64, &mut [u8]) -> Answer;
+
+pub struct Implementation {
+    pub name: &'static str,
+    pub check: Check,
+    pub unpack: Fill,
+    pub pack: Fill,
+}
+
+pub const OURS: usize = 0;
+pub const PLAIN: usize = 1;
+pub const EXPERT: usize = 2;
+pub const COUNT: usize = 4;
+
+pub const IMPLEMENTATIONS: [Implementation; COUNT] = [
+    Implementation {
+        name: "ours",
+        check: ours::check,
+        unpack: ours::unpack,
+        pack: ours::pack,
+    },
+    Implementation {
+        name: "plain C",
+        check: plain::check,
+        unpack: plain::unpack,
+        pack: plain::pack,
+    },
+    Implementation {
+        name: "expert C",
+        check: expert::check,
+        unpack: expert::unpack,
+        pack: expert::pack,
+    },
+    Implementation {
+        name: "Rust",
+        check: rust_check,
+        unpack: rust_unpack,
+        pack: rust_pack,
+    },
+];
+
+/// Safe functions over three C functions. A slice passes as a pointer and a length; the C functions read and write only there.
+macro_rules! over_c {
+    ($module:ident, $check:ident, $unpack:ident, $pack:ident) => {
+        mod $module {
+            use super::Answer;
+
+            unsafe extern "C" {
+                fn $check(stream: *const u8, length: usize, rows: u64, tracks: u64) -> Answer;
+                fn $unpack(
+                    stream: *const u8,
+                    length: usize,
+                    rows: u64,
+                    tracks: u64,
+                    out: *mut u8,
+                    out_length: usize,
+                ) -> Answer;
+                fn $pack(
+                    cells: *const u8,
+                    length: usize,
+                    rows: u64,
+                    tracks: u64,
+                    out: *mut u8,
+                    out_length: usize,
+                ) -> Answer;
+            }
+
+            pub fn check(stream: &[u8], rows: u64, tracks: u64) -> Answer {
+                // SAFETY: the pointer and the length are those of one slice.
+                unsafe { $check(stream.as_ptr(), stream.len(), rows, tracks) }
+            }
+
+            pub fn unpack(stream: &[u8], rows: u64, tracks: u64, out: &mut [u8]) -> Answer {
+                // SAFETY: each pointer and length are those of one slice, and the two do not overlap.
+                unsafe {
+                    $unpack(
+                        stream.as_ptr(),
+                        stream.len(),
+                        rows,
+                        tracks,
+                        out.as_mut_ptr(),
+                        out.len(),
+                    )
+                }
+            }
+
+            pub fn pack(cells: &[u8], rows: u64, tracks: u64, out: &mut [u8]) -> Answer {
+                // SAFETY: each pointer and length are those of one slice, and the two do not overlap.
+                unsafe {
+                    $pack(
+                        cells.as_ptr(),
+                        cells.len(),
+                        rows,
+                        tracks,
+                        out.as_mut_ptr(),
+                        out.len(),
+                    )
+                }
+            }
+        }
+    };
+}
+
+over_c!(
+    ours,
+    dbm0_check_pattern,
+    dbm0_unpack_pattern,
+    dbm0_pack_pattern
+);
+over_c!(
+    plain,
+    plain_check_pattern,
+    plain_unpack_pattern,
+    plain_pack_pattern
+);
+over_c!(
+    expert,
+    expert_check_pattern,
+    expert_unpack_pattern,
+    expert_pack_pattern
+);
+
+fn answer(result: Result<u64, pattern::Refusal>) -> Answer {
+    match result {
+        Ok(length) => Answer {
+            number: 0,
+            place: 0,
+            length,
+        },
+        Err(refusal) => Answer {
+            number: refusal.number,
+            place: refusal.place,
+            length: 0,
+        },
+    }
+}
+
+fn rust_check(stream: &[u8], rows: u64, tracks: u64) -> Answer {
+    answer(pattern::check(stream, rows, tracks).map(|()| 0))
+}
+
+fn rust_unpack(stream: &[u8], rows: u64, tracks: u64, out: &mut [u8]) -> Answer {
+    answer(pattern::unpack(stream, rows, tracks, out))
+}
+
+fn rust_pack(cells: &[u8], rows: u64, tracks: u64, out: &mut [u8]) -> Answer {
+    answer(pattern::pack(cells, rows, tracks, out))
+}

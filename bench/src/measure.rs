@@ -1,0 +1,189 @@
+//! Interleaved timing in CPU time of the process.
+
+use std::hint::black_box;
+
+use crate::corpus::{Corpus, Pattern, Random};
+use crate::implementations::{Answer, Implementation, COUNT, IMPLEMENTATIONS};
+
+#[derive(Clone, Copy)]
+pub enum Function {
+    Check,
+    Unpack,
+    Pack,
+}
+
+pub const FUNCTIONS: [Function; 3] = [Function::Check, Function::Unpack, Function::Pack];
+
+impl Function {
+    pub fn name(self) -> &'static str {
+        match self {
+            Function::Check => "check",
+            Function::Unpack => "unpack",
+            Function::Pack => "pack",
+        }
+    }
+}
+
+/// Nanoseconds per cell of one implementation, one value a round.
+pub struct Times(Vec<f64>);
+
+impl Times {
+    pub fn median(&self) -> f64 {
+        let middle = self.0.len() / 2;
+        if self.0.len() % 2 == 1 {
+            self.0[middle]
+        } else {
+            (self.0[middle - 1] + self.0[middle]) / 2.0
+        }
+    }
+
+    pub fn minimum(&self) -> f64 {
+        self.0[0]
+    }
+}
+
+/// The times of one function on one corpus, for each implementation.
+pub struct Line {
+    pub corpus: &'static str,
+    pub function: Function,
+    pub times: [Times; COUNT],
+}
+
+/// The outputs of a corpus: one buffer of just the needed length for each pattern, used by every implementation.
+struct Outputs {
+    cells: Vec<Vec<u8>>,
+    streams: Vec<Vec<u8>>,
+}
+
+pub fn measure(corpora: &[Corpus], rounds: usize) -> Vec<Line> {
+    let mut outputs: Vec<Outputs> = corpora
+        .iter()
+        .map(|corpus| Outputs {
+            cells: buffers(corpus, |pattern| pattern.cells.len()),
+            streams: buffers(corpus, |pattern| pattern.stream.len()),
+        })
+        .collect();
+    let mut lines: Vec<Line> = corpora
+        .iter()
+        .flat_map(|corpus| {
+            FUNCTIONS.map(|function| Line {
+                corpus: corpus.name,
+                function,
+                times: std::array::from_fn(|_| Times(Vec::with_capacity(rounds))),
+            })
+        })
+        .collect();
+
+    let mut random = Random(6);
+    for round in 0..=rounds {
+        let mut line = lines.iter_mut();
+        for (corpus, outputs) in corpora.iter().zip(&mut outputs) {
+            for (function, line) in FUNCTIONS.into_iter().zip(&mut line) {
+                for which in shuffled(&mut random) {
+                    let time = pass(corpus, outputs, function, &IMPLEMENTATIONS[which]);
+                    // The first round only warms.
+                    if round > 0 {
+                        line.times[which].0.push(time / corpus.cells() as f64);
+                    }
+                }
+            }
+        }
+    }
+    for line in &mut lines {
+        for times in &mut line.times {
+            times.0.sort_by(f64::total_cmp);
+        }
+    }
+    lines
+}
+
+/// The implementations in a random order, so that none always follows the same one.
+fn shuffled(random: &mut Random) -> [usize; COUNT] {
+    let mut order = std::array::from_fn(|which| which);
+    for last in (1..COUNT).rev() {
+        order.swap(last, random.below(last as u64 + 1) as usize);
+    }
+    order
+}
+
+fn buffers(corpus: &Corpus, length: impl Fn(&Pattern) -> usize) -> Vec<Vec<u8>> {
+    corpus
+        .patterns
+        .iter()
+        .map(|pattern| vec![0; length(pattern)])
+        .collect()
+}
+
+/// The nanoseconds that one implementation takes for the whole corpus.
+fn pass(
+    corpus: &Corpus,
+    outputs: &mut Outputs,
+    function: Function,
+    implementation: &Implementation,
+) -> f64 {
+    let patterns = &corpus.patterns;
+    let start = cpu_time();
+    match function {
+        Function::Check => {
+            for pattern in patterns {
+                expect_success((implementation.check)(
+                    &pattern.stream,
+                    pattern.rows,
+                    pattern.tracks,
+                ));
+            }
+        }
+        Function::Unpack => {
+            for (pattern, out) in patterns.iter().zip(&mut outputs.cells) {
+                expect_success((implementation.unpack)(
+                    &pattern.stream,
+                    pattern.rows,
+                    pattern.tracks,
+                    black_box(out),
+                ));
+            }
+        }
+        Function::Pack => {
+            for (pattern, out) in patterns.iter().zip(&mut outputs.streams) {
+                expect_success((implementation.pack)(
+                    &pattern.cells,
+                    pattern.rows,
+                    pattern.tracks,
+                    black_box(out),
+                ));
+            }
+        }
+    }
+    cpu_time() - start
+}
+
+fn expect_success(answer: Answer) {
+    assert_eq!(answer.number, 0, "a corpus pattern is refused");
+}
+
+#[repr(C)]
+struct Timespec {
+    seconds: i64,
+    nanoseconds: i64,
+}
+
+const CLOCK_PROCESS_CPUTIME_ID: i32 = 2;
+
+unsafe extern "C" {
+    fn clock_gettime(clock: i32, time: *mut Timespec) -> i32;
+}
+
+/// Nanoseconds of CPU time that the process has used.
+fn cpu_time() -> f64 {
+    let mut time = Timespec {
+        seconds: 0,
+        nanoseconds: 0,
+    };
+    // SAFETY: `time` is a timespec of x86-64 Linux, and outlives the call.
+    let failed = unsafe { clock_gettime(CLOCK_PROCESS_CPUTIME_ID, &mut time) };
+    assert_eq!(
+        failed, 0,
+        "the clock of the process's CPU time cannot be read"
+    );
+    time.seconds as f64 * 1e9 + time.nanoseconds as f64
+}

@@ -1,0 +1,67 @@
+-- FORMAT.md, "Cells and patterns" (document 01, "Packed rows"). A pattern is a list of rows, a row a list of cells with the
+-- tracks ascending, a cell the list of its six fields: note, instrument, command 1, parameter 1, command 2, parameter 2.
+use Prim.Native.Nat.{ℕ, zero, suc, _*_, _%_}
+use mathlib.Core.List.{List, [], _∷_, _++_, map}
+use mathlib.Core.Bool.{Bool, true, false, cond, not}
+use lib.ListN.{length, take, drop, replicate}
+use lib.Dec.{eqb, leb, ltb}
+
+-- C2.
+abbrev pub Cell : Type 0
+Cell = List ℕ
+
+abbrev pub Row : Type 0
+Row = List Cell
+
+abbrev pub emptyCell : Cell
+emptyCell = replicate 6 0
+
+abbrev pub emptyRow : ℕ → Row
+emptyRow tracks = replicate tracks emptyCell
+
+-- Both tests hold.
+abbrev pub both : Bool → Bool → Bool
+both true b = b
+both false b = false
+
+-- C1: at most 65,535 rows; an even number of tracks, from 4 to 254.
+abbrev pub sizesFit : ℕ → ℕ → Bool
+sizesFit rows tracks = both (leb rows 65535) (both (leb 4 tracks) (both (leb tracks 254) (eqb (tracks % 2) 0)))
+
+-- C3: how many bytes the cells of a pattern are.
+abbrev pub cellBytes : ℕ → ℕ → ℕ
+cellBytes rows tracks = rows * (tracks * 6)
+
+-- The lists of a list, one after the other.
+abbrev pub joined : {A : Type 0} → List (List A) → List A
+joined [] = []
+joined (x ∷ xs) = x ++ joined xs
+
+-- So many blocks of one size, from the front.
+abbrev pub blocksOf : ℕ → ℕ → List ℕ → List (List ℕ)
+blocksOf zero size bytes = []
+blocksOf (suc n) size bytes = take size bytes ∷ blocksOf n size (drop size bytes)
+
+-- C3: the cells of a row, and the rows of a pattern, off its bytes; and the bytes of rows.
+abbrev pub rowOf : ℕ → List ℕ → Row
+rowOf tracks bytes = blocksOf tracks 6 bytes
+
+abbrev pub rowsOf : ℕ → ℕ → List ℕ → List Row
+rowsOf rows tracks bytes = map (rowOf tracks) (blocksOf rows (tracks * 6) bytes)
+
+abbrev pub bytesOf : List Row → List ℕ
+bytesOf rows = joined (map joined rows)
+
+-- The numbers of a list that are not 0, in their order.
+abbrev pub nonZeros : List ℕ → List ℕ
+nonZeros [] = []
+nonZeros (f ∷ fs) = cond (eqb f 0) (nonZeros fs) (f ∷ nonZeros fs)
+
+-- C4.
+abbrev pub nonEmpty : Cell → Bool
+nonEmpty cell = ltb 0 (length (nonZeros cell))
+
+-- How many cells of a list are not empty.
+abbrev pub nonEmptyCells : List Cell → ℕ
+nonEmptyCells [] = 0
+nonEmptyCells (cell ∷ cells) = cond (nonEmpty cell) (suc (nonEmptyCells cells)) (nonEmptyCells cells)

@@ -1,0 +1,732 @@
+//! The corpus: cases for the library, always the same ones.
+//!
+//! Cases stand one after the other, all numbers big-endian:
+//!
+//! - kind 1, a stream: rows (8), tracks (8), row (8), track (8), room (4), length (4), the stream;
+//! - kind 2, cells: rows (8), tracks (8), room (4), length (4), the cells;
+//! - kind 3, a cell to show: six bytes.
+
+use crate::generate::{bytes, cells, damaged, entry, likely_bytes, sound_stream, Random};
+use crate::pattern::{pack, repack, FIELDS};
+
+/// One case. `row` and `track` are those of the asked cell; `room` is how many bytes each output has.
+#[derive(Clone, Debug, PartialEq, Eq)]
+pub enum Case {
+    Stream {
+        rows: u64,
+        tracks: u64,
+        row: u64,
+        track: u64,
+        room: u32,
+        stream: Vec<u8>,
+    },
+    Cells {
+        rows: u64,
+        tracks: u64,
+        room: u32,
+        cells: Vec<u8>,
+    },
+    Shown([u8; FIELDS]),
+}
+
+/// The bytes of the cases.
+pub fn encoded(cases: &[Case]) -> Vec<u8> {
+    let mut corpus = Vec::new();
+    for case in cases {
+        match case {
+            Case::Stream {
+                rows,
+                tracks,
+                row,
+                track,
+                room,
+                stream,
+            } => {
+                corpus.push(1);
+                for number in [rows, tracks, row, track] {
+                    corpus.extend(number.to_be_bytes());
+                }
+                corpus.extend(room.to_be_bytes());
+                corpus.extend((stream.len() as u32).to_be_bytes());
+                corpus.extend(stream);
+            }
+            Case::Cells {
+                rows,
+                tracks,
+                room,
+                cells,
+            } => {
+                corpus.push(2);
+                for number in [rows, tracks] {
+                    corpus.extend(number.to_be_bytes());
+                }
+                corpus.extend(room.to_be_bytes());
+                corpus.extend((cells.len() as u32).to_be_bytes());
+                corpus.extend(cells);
+            }
+            Case::Shown(cell) => {
+                corpus.push(3);
+                corpus.extend(cell);
+            }
+        }
+    }
+    corpus
+}
+
+/// The case at the front of a corpus and what follows it. None: the corpus is at its end, the kind is unknown, or the case is cut.
+pub fn take(corpus: &[u8]) -> Option<(Case, &[u8])> {
+    let mut left = corpus;
+    let case = match take_bytes(&mut left, 1)?[0] {
+        1 => {
+            let [rows, tracks, row, track] = take_numbers(&mut left)?;
+            let [room, length] = take_lengths(&mut left)?;
+            let stream = take_bytes(&mut left, length)?.to_vec();
+            Case::Stream {
+                rows,
+                tracks,
+                row,
+                track,
+                room,
+                stream,
+            }
+        }
+        2 => {
+            let [rows, tracks] = take_numbers(&mut left)?;
+            let [room, length] = take_lengths(&mut left)?;
+            let cells = take_bytes(&mut left, length)?.to_vec();
+            Case::Cells {
+                rows,
+                tracks,
+                room,
+                cells,
+            }
+        }
+        3 => Case::Shown(take_bytes(&mut left, FIELDS as u32)?.try_into().ok()?),
+        _ => return None,
+    };
+    Some((case, left))
+}
+
+fn take_bytes<'a>(left: &mut &'a [u8], length: u32) -> Option<&'a [u8]> {
+    let (taken, after) = left.split_at_checked(usize::try_from(length).ok()?)?;
+    *left = after;
+    Some(taken)
+}
+
+fn take_numbers<const N: usize>(left: &mut &[u8]) -> Option<[u64; N]> {
+    let mut numbers = [0; N];
+    for number in &mut numbers {
+        *number = u64::from_be_bytes(take_bytes(left, 8)?.try_into().ok()?);
+    }
+    Some(numbers)
+}
+
+fn take_lengths<const N: usize>(left: &mut &[u8]) -> Option<[u32; N]> {
+    let mut numbers = [0; N];
+    for number in &mut numbers {
+        *number = u32::from_be_bytes(take_bytes(left, 4)?.try_into().ok()?);
+    }
+    Some(numbers)
+}
+
+/// All cases.
+pub fn cases() -> Vec<Case> {
+    let mut made = Made {
+        cases: Vec::new(),
+        random: Random::new(1),
+    };
+    made.register();
+    made.indices();
+    made.rooms();
+    made.masks();
+    made.unusual();
+    made.faults();
+    made.cuts_and_changes();
+    made.ranges();
+    made.many_tracks();
+    made.sound();
+    made.broken();
+    made.packed_cells();
+    made.large();
+    made.notes();
+    made.cases
+}
+
+/// The cells of the pattern have this many bytes.
+fn cell_bytes(rows: u64, tracks: u64) -> u32 {
+    (rows * tracks) as u32 * FIELDS as u32
+}
+
+/// Three rows of four tracks in a stream that no packer writes: (entries and row ends).
+fn pieces() -> Vec<Vec<u8>> {
+    vec![
+        vec![0x02, 0x03, 0x47, 0x01],
+        vec![0x01, 0x3F, 0x11, 0x12, 0x13, 0x14, 0x15, 0x16],
+        vec![0x00],
+        vec![0x04, 0x20, 0x66],
+        vec![0x04, 0x00],
+        vec![0x00],
+        vec![0x03, 0x15, 0x1F, 0x00, 0x7F],
+        vec![0x00],
+    ]
+}
+
+struct Made {
+    cases: Vec<Case>,
+    random: Random,
+}
+
+impl Made {
+    /// A stream case that asks for one cell and has a given room.
+    fn stream(
+        &mut self,
+        rows: u64,
+        tracks: u64,
+        (row, track): (u64, u64),
+        room: u32,
+        stream: &[u8],
+    ) {
+        self.cases.push(Case::Stream {
+            rows,
+            tracks,
+            row,
+            track,
+            room,
+            stream: stream.to_vec(),
+        });
+    }
+
+    /// A stream case with a random cell of the pattern and room for the cells, or for a little less or more, or none.
+    fn any_stream(&mut self, rows: u64, tracks: u64, stream: &[u8]) {
+        let row = if rows == 0 || self.random.chance(4) {
+            rows
+        } else {
+            self.random.below(rows)
+        };
+        let track = if self.random.chance(4) {
+            self.random.pick(&[0, tracks + 1])
+        } else {
+            1 + self.random.below(tracks)
+        };
+        let needed = cell_bytes(rows, tracks);
+        let room = match self.random.below(20) {
+            0 => needed.saturating_sub(1),
+            1 => needed + 1,
+            2 => 0,
+            3 => stream.len() as u32,
+            4 => (stream.len() as u32).saturating_sub(1),
+            _ => needed,
+        };
+        self.stream(rows, tracks, (row, track), room, stream);
+    }
+
+    fn cells(&mut self, rows: u64, tracks: u64, room: u32, cells: &[u8]) {
+        self.cases.push(Case::Cells {
+            rows,
+            tracks,
+            room,
+            cells: cells.to_vec(),
+        });
+    }
+
+    /// The samples of the register, each with room for its cells; and the cells that P1 to P5 hold.
+    fn register(&mut self) {
+        let samples: [(u64, u64, &[u8]); 12] = [
+            (2, 4, &[0x02, 0x03, 0x47, 0x01, 0x00, 0x00]),
+            (2, 4, &[0x02, 0x01, 0x47, 0x02, 0x02, 0x01, 0x00, 0x00]),
+            (2, 4, &[0x02, 0x07, 0x47, 0x01, 0x00, 0x00, 0x00]),
+            (1, 4, &[0x01, 0x01, 0x47, 0x01, 0x01, 0x00, 0x00]),
+            (1, 4, &[0x01, 0x00, 0x00]),
+            (0, 4, &[]),
+            (0, 4, &[0x00]),
+            (1, 4, &[0x05, 0x01, 0x47, 0x00]),
+            (1, 6, &[0x05, 0x01, 0x47, 0x00]),
+            (1, 4, &[0x01, 0x41, 0x47, 0x00]),
+            (2, 4, &[0x00]),
+            (1, 4, &[0x01, 0x81, 0x47, 0x00]),
+        ];
+        for (rows, tracks, stream) in samples {
+            self.stream(rows, tracks, (0, 2), cell_bytes(rows, tracks), stream);
+            self.stream(rows, tracks, (0, 1), 6, stream);
+        }
+        let mut pattern = [0; 48];
+        pattern[6] = 0x47;
+        pattern[7] = 0x01;
+        self.cells(2, 4, 48, &pattern);
+        self.cells(2, 4, 6, &pattern);
+        self.cells(2, 4, 5, &pattern);
+        self.cells(1, 4, 24, &[0; 24]);
+        self.cells(0, 4, 0, &[]);
+
+        let full: Vec<u8> = (1..=24).collect();
+        for room in [0, 32, 33, 34, 40] {
+            self.cells(1, 4, room, &full);
+        }
+        let mut packed = vec![0; 33];
+        pack(&full, 1, 4, &mut packed).expect("33 bytes are enough");
+        for room in [0, 23, 24, 25, 32, 33, 34] {
+            self.stream(1, 4, (0, 4), room, &packed);
+        }
+    }
+
+    /// Every row and track of a pattern and those one past, and wild ones; also of a broken stream.
+    fn indices(&mut self) {
+        let sound = pieces().concat();
+        for row in 0..=3 {
+            for track in 0..=5 {
+                self.stream(3, 4, (row, track), 0, &sound);
+            }
+        }
+        let broken = [&sound[..], &[0x00]].concat();
+        let wild = [
+            0,
+            1,
+            2,
+            3,
+            4,
+            5,
+            255,
+            256,
+            257,
+            65_535,
+            65_536,
+            1 << 32,
+            1 << 63,
+            u64::MAX,
+        ];
+        for stream in [&sound, &broken] {
+            for number in wild {
+                self.stream(3, 4, (number, 1), 0, stream);
+                self.stream(3, 4, (0, number), 0, stream);
+                self.stream(3, 4, (number, number), 0, stream);
+            }
+        }
+        // The fault stands before, in and after the asked row.
+        for place in 0..sound.len() {
+            let mut broken = sound.clone();
+            broken[place] = 0xC0;
+            for row in 0..3 {
+                self.stream(3, 4, (row, 1 + place as u64 % 4), 0, &broken);
+            }
+        }
+        self.stream(0, 4, (0, 1), 0, &[]);
+        self.stream(0, 4, (0, 1), 0, &[0]);
+        self.stream(0, 4, (u64::MAX, u64::MAX), 0, &[0]);
+    }
+
+    /// Rooms of 0, and of one less, just and one more than the cells and than the packed stream need.
+    fn rooms(&mut self) {
+        let sound = pieces().concat();
+        let mut packed = vec![0; 100];
+        let length = repack(&sound, 3, 4, &mut packed).expect("100 bytes are enough") as u32;
+        let broken = [&sound[..], &[0x00]].concat();
+        let lacking = &sound[..sound.len() - 1];
+        for room in [0, 1, length - 1, length, length + 1, 71, 72, 73, 100] {
+            self.stream(3, 4, (0, 1), room, &sound);
+            self.stream(3, 4, (1, 4), room, &packed[..length as usize]);
+            self.stream(3, 4, (2, 3), room, &broken);
+            self.stream(3, 4, (2, 3), room, lacking);
+        }
+        for room in [0, 1, 5] {
+            self.stream(0, 4, (0, 1), room, &[]);
+            self.stream(0, 254, (0, 1), room, &[7]);
+            self.cells(0, 4, room, &[]);
+            self.cells(0, 254, room, &[]);
+        }
+        for room in 0..=10 {
+            self.cells(3, 4, room, &[0; 72]);
+            self.stream(3, 4, (1, 1), room, &[0, 0, 0]);
+        }
+    }
+
+    /// Every mask: alone, over a full cell, with zeros over a full cell, and cut after each number of fields.
+    fn masks(&mut self) {
+        for mask in 0..64u8 {
+            let fields = mask.count_ones() as usize;
+            let values = [0x51, 0x52, 0x53, 0x54, 0x55, 0x56];
+            let named = [&[3, mask], &values[..fields]].concat();
+            let zeros = [&[3, mask], &[0; 6][..fields]].concat();
+            let full = [3, 0x3F, 0x61, 0x62, 0x63, 0x64, 0x65, 0x66];
+            self.stream(1, 4, (0, 3), 24, &[&named[..], &[0]].concat());
+            self.stream(1, 4, (0, 3), 24, &[&full[..], &named, &[0]].concat());
+            self.stream(1, 4, (0, 3), 24, &[&full[..], &zeros, &[0]].concat());
+            let mut cell = [0; 24];
+            for field in 0..FIELDS {
+                if mask & (1 << field) != 0 {
+                    cell[12 + field] = 0x71 + field as u8;
+                }
+            }
+            self.cells(1, 4, 3 + fields as u32, &cell);
+            self.cells(1, 4, 2 + fields as u32, &cell);
+        }
+        for mask in [0x01, 0x20, 0x3F, 0x2A, 0x15] {
+            for length in 0..8 {
+                let cut = [0, 2, mask, 1, 2, 3, 4, 5];
+                self.stream(2, 4, (0, 1), 48, &cut[..length]);
+            }
+        }
+        // Masks with a high bit.
+        for mask in (64..=255u8)
+            .step_by(3)
+            .chain([0x41, 0x7F, 0x80, 0xBF, 0xC0])
+        {
+            self.stream(1, 4, (0, 1), 0, &[0x01, mask, 0, 0, 0]);
+        }
+    }
+
+    /// Repeated and descending tracks, masks of 0, values of 0.
+    fn unusual(&mut self) {
+        let streams: [(u64, u64, &[u8]); 10] = [
+            (1, 4, &[4, 1, 0x41, 3, 1, 0x42, 2, 1, 0x43, 1, 1, 0x44, 0]),
+            (1, 4, &[1, 1, 0x41, 1, 1, 0x42, 1, 1, 0x43, 0]),
+            (1, 4, &[1, 1, 0x41, 2, 1, 0x42, 1, 2, 0x43, 2, 2, 0x44, 0]),
+            (
+                1,
+                4,
+                &[1, 0x3F, 1, 2, 3, 4, 5, 6, 1, 0x3F, 0, 0, 0, 0, 0, 0, 0],
+            ),
+            (
+                1,
+                4,
+                &[1, 0x3F, 0, 0, 0, 0, 0, 0, 1, 0x3F, 1, 2, 3, 4, 5, 6, 0],
+            ),
+            (2, 4, &[1, 0x3F, 1, 2, 3, 4, 5, 6, 0, 1, 0x00, 0]),
+            (2, 4, &[1, 0x3F, 1, 2, 3, 4, 5, 6, 0, 1, 0x01, 9, 0]),
+            (1, 4, &[4, 0, 3, 0, 2, 0, 1, 0, 4, 0, 0]),
+            (3, 4, &[1, 0, 0, 2, 0, 0, 3, 0, 0]),
+            (1, 4, &[2, 0x20, 0, 2, 0x01, 0, 2, 0x08, 7, 2, 0x08, 0, 0]),
+        ];
+        for (rows, tracks, stream) in streams {
+            for track in 1..=2 {
+                self.stream(
+                    rows,
+                    tracks,
+                    (rows - 1, track),
+                    cell_bytes(rows, tracks),
+                    stream,
+                );
+            }
+        }
+    }
+
+    /// Each kind of fault before each piece of a stream and at its end.
+    fn faults(&mut self) {
+        let pieces = pieces();
+        let faulty: [&[u8]; 10] = [
+            &[0x05, 0x01, 0x47],
+            &[0x05],
+            &[0xFF, 0x00],
+            &[0x80, 0x01, 0x01],
+            &[0x01, 0x41, 0x47],
+            &[0x01, 0x80],
+            &[0x04, 0xFF, 1, 2, 3, 4, 5, 6],
+            &[0x00],
+            &[0x01],
+            &[0x02, 0x3F, 1, 2, 3, 4, 5],
+        ];
+        for place in 0..=pieces.len() {
+            let before = pieces[..place].concat();
+            let after = pieces[place..].concat();
+            let row = self.random.below(3);
+            for fault in faulty {
+                // With what follows, and as the stream's end.
+                self.stream(3, 4, (row, 2), 72, &[&before, fault, &after].concat());
+                self.stream(3, 4, (row, 2), 0, &[&before, fault].concat());
+            }
+            self.stream(3, 4, (row, 2), 72, &before);
+            for rows in 0..6 {
+                self.stream(rows, 4, (0, 1), 0, &before);
+            }
+        }
+    }
+
+    /// The packer's streams, cut at every byte and with single bytes changed.
+    fn cuts_and_changes(&mut self) {
+        for (rows, tracks, filled, named) in [(3, 4, 60, 50), (2, 6, 40, 80), (4, 4, 30, 35)] {
+            let cells = cells(&mut self.random, rows, tracks, filled, named);
+            let mut packed = vec![0; 500];
+            let length =
+                pack(&cells, rows, tracks, &mut packed).expect("500 bytes are enough") as usize;
+            packed.truncate(length);
+            let needed = cell_bytes(rows, tracks);
+            for cut in 0..=length {
+                let row = self.random.below(rows);
+                self.stream(rows, tracks, (row, 1), 0, &packed[..cut]);
+            }
+            for place in 0..length {
+                for change in 0..4 {
+                    let mut stream = packed.clone();
+                    stream[place] = match change {
+                        0 => 0,
+                        1 => stream[place].wrapping_add(1),
+                        2 => stream[place] ^ self.random.pick(&[0x02, 0x40, 0x80]),
+                        _ => self.random.byte(),
+                    };
+                    let (row, track) = (self.random.below(rows), 1 + self.random.below(tracks));
+                    let room = if change % 2 == 0 { needed } else { 0 };
+                    self.stream(rows, tracks, (row, track), room, &stream);
+                }
+            }
+        }
+    }
+
+    /// Rows and tracks in range and out of it, with products that wrap at 64 bits and numbers that wrap at 8, 16 and 32.
+    fn ranges(&mut self) {
+        let rows = [
+            0,
+            1,
+            2,
+            65_535,
+            65_536,
+            65_537,
+            65_538,
+            (1 << 32) + 1,
+            (1 << 61) + 1,
+            1 << 63,
+            u64::MAX,
+        ];
+        let tracks = [
+            0,
+            1,
+            2,
+            3,
+            4,
+            5,
+            6,
+            127,
+            128,
+            253,
+            254,
+            255,
+            256,
+            258,
+            260,
+            65_540,
+            (1 << 32) + 4,
+            (1 << 62) + 4,
+            1 << 63,
+            u64::MAX - 1,
+            u64::MAX,
+        ];
+        for &rows in &rows {
+            for &tracks in &tracks {
+                let stream: &[u8] = match self.random.below(4) {
+                    0 => &[],
+                    1 => &[0],
+                    2 => &[0, 0],
+                    _ => &[1, 1, 1, 0],
+                };
+                let (row, track) = (
+                    self.random.pick(&[0, rows.wrapping_sub(1), rows]),
+                    self.random.pick(&[0, 1, tracks]),
+                );
+                let room = self.random.pick(&[0, 24, 48]);
+                self.stream(rows, tracks, (row, track), room, stream);
+                // The length that a product of 64 bits gives, where it is a small one.
+                let product = rows.wrapping_mul(tracks).wrapping_mul(FIELDS as u64);
+                let length = if product <= 48 {
+                    product as usize
+                } else {
+                    self.random.pick(&[0, 24])
+                };
+                self.cells(rows, tracks, 8, &vec![1; length]);
+            }
+        }
+        for (rows, tracks) in [
+            (1u64 << 61, 4),
+            (1 << 62, 4),
+            ((1 << 61) + 1, 4),
+            (0, 1 << 63),
+            (1 << 32, 1 << 32),
+            (4, 1 << 62),
+        ] {
+            self.stream(rows, tracks, (0, 1), 64, &[0]);
+            self.stream(rows, tracks, (0, 1), 0, &[]);
+            self.cells(rows, tracks, 64, &[]);
+            self.cells(rows, tracks, 64, &[1; 24]);
+        }
+        for length in 0..=30 {
+            self.cells(1, 4, 3, &vec![if length % 2 == 0 { 0 } else { 9 }; length]);
+        }
+        for length in [0, 1, 23, 24, 47, 48, 49, 72] {
+            self.cells(2, 4, 0, &vec![1; length]);
+            self.cells(0, 4, 9, &vec![0; length]);
+            self.cells(65_535, 254, 9, &vec![0; length]);
+            self.cells(65_536, 4, 9, &vec![0; length]);
+        }
+    }
+
+    /// 254 tracks, and the tracks on both sides of where a signed byte ends.
+    fn many_tracks(&mut self) {
+        for track in [1, 2, 126, 127, 128, 129, 253, 254, 255] {
+            self.stream(
+                1,
+                254,
+                (0, u64::from(track)),
+                0,
+                &[track, 0x03, 0x35, track, 0],
+            );
+            self.stream(
+                2,
+                254,
+                (1, u64::from(track)),
+                0,
+                &[0, track, 0x03, 0x8B, track, 0],
+            );
+            self.stream(1, 254, (0, 1), 8, &[track, 0x3F, 1, 2, 3, 4, 5, 6, 0]);
+            self.stream(
+                1,
+                128,
+                (0, u64::from(track)),
+                5,
+                &[track, 0x03, 0x35, track, 0],
+            );
+        }
+        let stream = [254, 1, 1, 128, 2, 2, 127, 4, 3, 1, 8, 4, 254, 1, 5, 0];
+        for room in [1523, 1524, 1525, 16, 15] {
+            self.stream(1, 254, (0, 254), room, &stream);
+        }
+        for (filled, room) in [(0, 1), (3, 200), (100, 2000)] {
+            let cells = cells(&mut self.random, 1, 254, filled, 60);
+            self.cells(1, 254, room, &cells);
+        }
+        let full: Vec<u8> = (0..1524).map(|byte| 1 + (byte % 255) as u8).collect();
+        for room in [2032, 2033, 2034] {
+            self.cells(1, 254, room, &full);
+        }
+    }
+
+    /// Random sound streams, some asked with one row or two tracks more or less.
+    fn sound(&mut self) {
+        for turn in 0..420 {
+            let rows = self.random.below(4);
+            let tracks = self.random.pick(&[4, 4, 4, 6, 8]);
+            let most = self.random.below(7);
+            let stream = sound_stream(&mut self.random, rows, tracks, most);
+            match turn % 6 {
+                0 if tracks > 4 => self.any_stream(rows, tracks - 2, &stream),
+                1 => self.any_stream(rows + 1, tracks, &stream),
+                2 if rows > 0 => self.any_stream(rows - 1, tracks, &stream),
+                3 => self.any_stream(rows, tracks + 2, &stream),
+                _ => self.any_stream(rows, tracks, &stream),
+            }
+        }
+    }
+
+    /// Random bytes, and sound streams that are damaged.
+    fn broken(&mut self) {
+        for _ in 0..160 {
+            let length = self.random.below(24);
+            let stream = bytes(&mut self.random, length);
+            let rows = self.random.below(3);
+            self.any_stream(rows, 4, &stream);
+            let length = self.random.below(30);
+            let stream = bytes(&mut self.random, length);
+            self.stream(rows, 254, (0, 7), 0, &stream);
+        }
+        for _ in 0..240 {
+            let length = self.random.below(16);
+            let stream = likely_bytes(&mut self.random, length);
+            let rows = self.random.below(5);
+            self.any_stream(rows, 4, &stream);
+        }
+        for _ in 0..240 {
+            let rows = self.random.below(4);
+            let tracks = self.random.pick(&[4, 6]);
+            let stream = sound_stream(&mut self.random, rows, tracks, 4);
+            let stream = damaged(&mut self.random, &stream);
+            self.any_stream(rows, tracks, &stream);
+        }
+        // An entry that is cut, after a number of sound ones.
+        for _ in 0..60 {
+            let mut stream = sound_stream(&mut self.random, 1, 4, 3);
+            let entry = entry(&mut self.random, 4);
+            let kept = self.random.below(entry.len() as u64) as usize;
+            stream.extend(&entry[..kept]);
+            self.any_stream(2, 4, &stream);
+        }
+    }
+
+    /// Cells of many densities, packed into rooms around the needed one.
+    fn packed_cells(&mut self) {
+        for (filled, named) in [
+            (0, 0),
+            (5, 60),
+            (20, 20),
+            (30, 100),
+            (50, 50),
+            (75, 30),
+            (100, 50),
+            (100, 100),
+        ] {
+            for (rows, tracks) in [(0, 6), (1, 4), (2, 4), (3, 6), (1, 16), (5, 4)] {
+                let cells = cells(&mut self.random, rows, tracks, filled, named);
+                let mut packed = vec![0; 1000];
+                let needed =
+                    pack(&cells, rows, tracks, &mut packed).expect("1000 bytes are enough") as u32;
+                for room in [needed, needed.saturating_sub(1), needed + 1, 0] {
+                    self.cells(rows, tracks, room, &cells);
+                }
+                self.stream(rows, tracks, (0, 1), needed, &packed[..needed as usize]);
+            }
+        }
+        // One field in one cell, at each place.
+        for place in 0..48 {
+            let mut cells = [0; 48];
+            cells[place] = self.random.pick(&[1, 0x47, 0x80, 0xFF]);
+            self.cells(2, 4, 5, &cells);
+        }
+    }
+
+    /// Some patterns of a usual size, and outputs of the most room.
+    fn large(&mut self) {
+        for (rows, tracks, most) in [(64, 8, 5), (128, 4, 2)] {
+            let stream = sound_stream(&mut self.random, rows, tracks, most);
+            self.stream(
+                rows,
+                tracks,
+                (rows - 1, tracks),
+                cell_bytes(rows, tracks),
+                &stream,
+            );
+        }
+        let packed = cells(&mut self.random, 64, 8, 30, 50);
+        self.cells(64, 8, 3000, &packed);
+        let packed = cells(&mut self.random, 5, 254, 10, 40);
+        self.cells(5, 254, 65_537, &packed);
+
+        // 43 rows of 254 tracks are 65,532 bytes; 44 rows do not fit.
+        let stream = sound_stream(&mut self.random, 43, 254, 6);
+        self.stream(43, 254, (42, 254), u32::MAX, &stream);
+        let stream = sound_stream(&mut self.random, 44, 254, 2);
+        self.stream(44, 254, (43, 1), 300, &stream);
+
+        // Many rows, short streams, and rows that are all empty.
+        for rows in [255, 256, 257, 65_534, 65_535] {
+            self.stream(rows, 4, (rows - 1, 4), 10, &[0; 256]);
+            self.stream(rows, 254, (0, 1), 0, &[]);
+            self.stream(rows, 4, (0, 1), 0, &[1, 1, 0x47, 0]);
+            self.stream(rows, 4, (0, 1), 0, &[1, 1]);
+        }
+    }
+
+    /// Every byte as a note, and every field on its own.
+    fn notes(&mut self) {
+        for note in 0..=255 {
+            let other = bytes(&mut self.random, 5);
+            self.cases.push(Case::Shown([
+                note, other[0], other[1], other[2], other[3], other[4],
+            ]));
+        }
+        for field in 0..FIELDS {
+            for value in [1, 0x1F, 0x7F, 0x80, 0xFF] {
+                let mut cell = [0; FIELDS];
+                cell[field] = value;
+                self.cases.push(Case::Shown(cell));
+            }
+        }
+        for note in [0x0F, 0x10, 0x1B, 0x1C, 0x1F, 0x20, 0x8B, 0x8C, 0x90, 0xFF] {
+            self.stream(1, 4, (0, 1), 0, &[1, 1, note, 0]);
+        }
+    }
+}

@@ -1,0 +1,119 @@
+//! What is expected of each case of a corpus, as text.
+
+use std::fmt::Write;
+
+use crate::corpus::{take, Case};
+use crate::pattern::{cell, check, pack, repack, shown, unpack, Cell, Note, Refusal};
+
+/// An output is filled with this byte before the call.
+pub const FILL: u8 = 0xAA;
+
+/// More room than this is taken as this.
+pub const MOST_ROOM: u32 = 65_536;
+
+/// The expected lines, up to the end, an unknown kind or a case that is cut; the last line counts the cases.
+pub fn expected(corpus: &[u8]) -> String {
+    let mut text = String::new();
+    let mut left = corpus;
+    let mut count = 0u64;
+    while let Some((case, after)) = take(left) {
+        lines(&case, &mut text);
+        left = after;
+        count += 1;
+    }
+    line(&mut text, format_args!("cases {count}"));
+    text
+}
+
+fn lines(case: &Case, text: &mut String) {
+    match case {
+        Case::Stream {
+            rows,
+            tracks,
+            row,
+            track,
+            room,
+            stream,
+        } => {
+            let (number, place) = numbers(check(stream, *rows, *tracks).err());
+            line(text, format_args!("check {number} {place}"));
+            written(text, "unpack", *room, |out| {
+                unpack(stream, *rows, *tracks, out)
+            });
+            written(text, "repack", *room, |out| {
+                repack(stream, *rows, *tracks, out)
+            });
+            let answer = cell(stream, *rows, *tracks, *row, *track);
+            let (number, place) = numbers(answer.err());
+            let values = answer.map_or([0; 8], values);
+            line(
+                text,
+                format_args!("cell {number} {place} {}", spaced(values)),
+            );
+        }
+        Case::Cells {
+            rows,
+            tracks,
+            room,
+            cells,
+        } => {
+            written(text, "pack", *room, |out| pack(cells, *rows, *tracks, out));
+        }
+        Case::Shown(bytes) => {
+            line(
+                text,
+                format_args!("shown {}", spaced(values(shown(*bytes)))),
+            );
+        }
+    }
+}
+
+/// The line of a call that fills an output.
+fn written(
+    text: &mut String,
+    name: &str,
+    room: u32,
+    call: impl FnOnce(&mut [u8]) -> Result<u64, Refusal>,
+) {
+    let mut out = vec![FILL; room.min(MOST_ROOM) as usize];
+    let answer = call(&mut out);
+    let (number, place) = numbers(answer.err());
+    let length = answer.unwrap_or(0);
+    let mut hex = String::new();
+    for byte in out {
+        write!(hex, "{byte:02x}").expect("a string takes every write");
+    }
+    line(text, format_args!("{name} {number} {place} {length} {hex}"));
+}
+
+fn numbers(refusal: Option<Refusal>) -> (u64, u64) {
+    refusal.map_or((0, 0), |refusal| (refusal.number, refusal.place))
+}
+
+/// The kind of note with its two numbers, then the five other fields.
+fn values(cell: Cell) -> [u8; 8] {
+    let (kind, a, b) = match cell.note {
+        Note::None => (0, 0, 0),
+        Note::KeyOff => (1, 0, 0),
+        Note::Pitch { octave, semitone } => (2, octave, semitone),
+        Note::Unknown(byte) => (3, byte, 0),
+    };
+    [
+        kind,
+        a,
+        b,
+        cell.instrument,
+        cell.command1,
+        cell.parameter1,
+        cell.command2,
+        cell.parameter2,
+    ]
+}
+
+fn spaced(values: [u8; 8]) -> String {
+    values.map(|value| value.to_string()).join(" ")
+}
+
+fn line(text: &mut String, line: std::fmt::Arguments) {
+    writeln!(text, "{line}").expect("a string takes every write");
+}

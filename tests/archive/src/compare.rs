@@ -1,0 +1,166 @@
+//! The comparison: a library, given as its three calls, against the reference.
+
+use crate::interface::{self, Answer};
+use reference::pattern::{self, Refusal};
+
+/// How many bytes stand before and after a lent output.
+const GUARD: usize = 64;
+
+/// An output in the middle of a larger buffer. Every byte begins as one that depends on its place, so that a byte that is moved,
+/// cleared or copied shows.
+pub struct Lent {
+    pub bytes: Vec<u8>,
+    room: usize,
+}
+
+impl Lent {
+    pub fn new(room: usize) -> Lent {
+        let bytes = (0..room + 2 * GUARD).map(filler).collect();
+        Lent { bytes, room }
+    }
+
+    /// The part that a call is lent.
+    pub fn out(&mut self) -> &mut [u8] {
+        &mut self.bytes[GUARD..GUARD + self.room]
+    }
+}
+
+fn filler(place: usize) -> u8 {
+    (place % 251) as u8 ^ 0xA5
+}
+
+/// A library under comparison.
+#[derive(Clone, Copy)]
+pub struct Library {
+    pub check: fn(&[u8], u64, u64) -> Answer,
+    pub unpack: fn(&[u8], u64, u64, &mut Lent) -> Answer,
+    pub pack: fn(&[u8], u64, u64, &mut Lent) -> Answer,
+}
+
+/// libpattern.a.
+pub const ARCHIVE: Library = Library {
+    check: interface::check,
+    unpack: |stream, rows, tracks, lent| interface::unpack(stream, rows, tracks, lent.out()),
+    pack: |cells, rows, tracks, lent| interface::pack(cells, rows, tracks, lent.out()),
+};
+
+/// The reference itself.
+pub const REFERENCE: Library = Library {
+    check: |stream, rows, tracks| answer(pattern::check(stream, rows, tracks).map(|()| 0)),
+    unpack: |stream, rows, tracks, lent| answer(pattern::unpack(stream, rows, tracks, lent.out())),
+    pack: |cells, rows, tracks, lent| answer(pattern::pack(cells, rows, tracks, lent.out())),
+};
+
+/// The answer of the C interface for an answer of the reference.
+pub fn answer(result: Result<u64, Refusal>) -> Answer {
+    match result {
+        Ok(length) => Answer {
+            number: 0,
+            place: 0,
+            length,
+        },
+        Err(Refusal { number, place }) => Answer {
+            number,
+            place,
+            length: 0,
+        },
+    }
+}
+
+/// Checks and unpacks a stream into this much room. The error says what differs, with the whole case.
+pub fn stream(
+    library: Library,
+    stream: &[u8],
+    rows: u64,
+    tracks: u64,
+    room: usize,
+) -> Result<(), String> {
+    let told = |what: String| {
+        format!("{what}\nstream {stream:02x?}, {rows} rows, {tracks} tracks, room {room}")
+    };
+    let is = (library.check)(stream, rows, tracks);
+    let expected = (REFERENCE.check)(stream, rows, tracks);
+    same_answer("check", is, expected).map_err(told)?;
+    let (mut is_lent, mut expected_lent) = (Lent::new(room), Lent::new(room));
+    let is = (library.unpack)(stream, rows, tracks, &mut is_lent);
+    let expected = (REFERENCE.unpack)(stream, rows, tracks, &mut expected_lent);
+    same_answer("unpack", is, expected).map_err(told)?;
+    same_bytes("unpack", &is_lent, &expected_lent).map_err(told)
+}
+
+/// Packs cells into this much room. The error says what differs, with the whole case.
+pub fn cells(
+    library: Library,
+    cells: &[u8],
+    rows: u64,
+    tracks: u64,
+    room: usize,
+) -> Result<(), String> {
+    let told = |what: String| {
+        format!("{what}\ncells {cells:02x?}, {rows} rows, {tracks} tracks, room {room}")
+    };
+    let (mut is_lent, mut expected_lent) = (Lent::new(room), Lent::new(room));
+    let is = (library.pack)(cells, rows, tracks, &mut is_lent);
+    let expected = (REFERENCE.pack)(cells, rows, tracks, &mut expected_lent);
+    same_answer("pack", is, expected).map_err(told)?;
+    same_bytes("pack", &is_lent, &expected_lent).map_err(told)
+}
+
+/// Cells packed and unpacked again are the same cells, and their length is the one that an output of nothing tells.
+pub fn round_trip(library: Library, cells: &[u8], rows: u64, tracks: u64) -> Result<(), String> {
+    let told = |what: &str| format!("{what}\ncells {cells:02x?}, {rows} rows, {tracks} tracks");
+    let asked = (library.pack)(cells, rows, tracks, &mut Lent::new(0));
+    let mut lent = Lent::new((rows * (1 + 8 * tracks)) as usize);
+    let packed = (library.pack)(cells, rows, tracks, &mut lent);
+    if packed.number != 0 {
+        return Err(told("pack refuses in the most room that it can need"));
+    }
+    if packed.length != asked.place {
+        return Err(told("pack writes another length than it tells"));
+    }
+    let stream = lent.out()[..packed.length as usize].to_vec();
+    if (library.check)(&stream, rows, tracks)
+        != (Answer {
+            number: 0,
+            place: 0,
+            length: 0,
+        })
+    {
+        return Err(told("the packed stream does not pass the check"));
+    }
+    let mut lent = Lent::new(cells.len());
+    let unpacked = (library.unpack)(&stream, rows, tracks, &mut lent);
+    let whole = Answer {
+        number: 0,
+        place: 0,
+        length: cells.len() as u64,
+    };
+    if unpacked != whole || lent.out() != cells {
+        return Err(told("unpacking gives other cells"));
+    }
+    Ok(())
+}
+
+fn same_answer(call: &str, is: Answer, expected: Answer) -> Result<(), String> {
+    if is == expected {
+        return Ok(());
+    }
+    Err(format!("{call} gives {is:?}, expected {expected:?}"))
+}
+
+/// The output and the guards on both sides.
+fn same_bytes(call: &str, is: &Lent, expected: &Lent) -> Result<(), String> {
+    let differs = is
+        .bytes
+        .iter()
+        .zip(&expected.bytes)
+        .position(|(is, expected)| is != expected);
+    let Some(place) = differs else {
+        return Ok(());
+    };
+    let (is_byte, expected_byte) = (is.bytes[place], expected.bytes[place]);
+    let offset = place as i64 - GUARD as i64;
+    Err(format!(
+        "{call} leaves {is_byte:02x} at {offset} of its output, expected {expected_byte:02x}"
+    ))
+}

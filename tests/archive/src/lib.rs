@@ -1,0 +1,6 @@
+//! Compares libpattern.a with the independent second program.
+
+#![deny(unsafe_code)]
+
+pub mod compare;
+pub mod interface;

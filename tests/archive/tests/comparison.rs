@@ -1,0 +1,274 @@
+//! The comparison itself: it finds nothing between the reference and the reference, and it notices each of these wrong libraries.
+
+use archive::compare::{self, Lent, Library, REFERENCE};
+use archive::interface::Answer;
+use reference::corpus::{cases, Case};
+use reference::expect::MOST_ROOM;
+use reference::generate::{cells, Random};
+
+/// How many cases of the corpus differ.
+fn differences(library: Library) -> usize {
+    cases()
+        .iter()
+        .filter(|case| match case {
+            Case::Stream {
+                rows,
+                tracks,
+                room,
+                stream,
+                ..
+            } => compare::stream(
+                library,
+                stream,
+                *rows,
+                *tracks,
+                (*room).min(MOST_ROOM) as usize,
+            )
+            .is_err(),
+            Case::Cells {
+                rows,
+                tracks,
+                room,
+                cells,
+            } => compare::cells(
+                library,
+                cells,
+                *rows,
+                *tracks,
+                (*room).min(MOST_ROOM) as usize,
+            )
+            .is_err(),
+            Case::Shown(_) => false,
+        })
+        .count()
+}
+
+const ACCEPTED: Answer = Answer {
+    number: 0,
+    place: 0,
+    length: 0,
+};
+
+#[test]
+fn nothing_between_the_reference_and_itself() {
+    assert_eq!(differences(REFERENCE), 0);
+    let random = &mut Random::new(3);
+    let cells = cells(random, 4, 6, 50, 50);
+    assert_eq!(compare::round_trip(REFERENCE, &cells, 4, 6), Ok(()));
+}
+
+#[test]
+fn a_check_that_accepts_everything() {
+    assert!(
+        differences(Library {
+            check: |_, _, _| ACCEPTED,
+            ..REFERENCE
+        }) > 100
+    );
+}
+
+#[test]
+fn a_check_that_refuses_everything() {
+    let check = |_: &[u8], _, _| Answer {
+        number: 15,
+        place: 0,
+        length: 0,
+    };
+    assert!(differences(Library { check, ..REFERENCE }) > 100);
+}
+
+#[test]
+fn another_place() {
+    let check = |stream: &[u8], rows, tracks| {
+        let answer = (REFERENCE.check)(stream, rows, tracks);
+        Answer {
+            place: if answer.number == 15 {
+                answer.place + 1
+            } else {
+                answer.place
+            },
+            ..answer
+        }
+    };
+    assert!(differences(Library { check, ..REFERENCE }) > 100);
+}
+
+#[test]
+fn an_unpacker_that_writes_nothing() {
+    let unpack = |stream: &[u8], rows, tracks, lent: &mut Lent| {
+        let room = lent.out().len();
+        (REFERENCE.unpack)(stream, rows, tracks, &mut Lent::new(room))
+    };
+    assert!(
+        differences(Library {
+            unpack,
+            ..REFERENCE
+        }) > 100
+    );
+}
+
+#[test]
+fn an_unpacker_that_fills_row_0_only() {
+    let unpack = |stream: &[u8], rows, tracks: u64, lent: &mut Lent| {
+        let answer = (REFERENCE.unpack)(stream, rows, tracks, lent);
+        if answer.length > 0 {
+            lent.out()[tracks as usize * 6..answer.length as usize].fill(0);
+        }
+        answer
+    };
+    assert!(
+        differences(Library {
+            unpack,
+            ..REFERENCE
+        }) > 100
+    );
+}
+
+#[test]
+fn an_unpacker_that_clears_its_output_first() {
+    let unpack = |stream: &[u8], rows, tracks, lent: &mut Lent| {
+        let answer = (REFERENCE.unpack)(stream, rows, tracks, lent);
+        if answer.number == 15 {
+            lent.out().fill(0);
+        }
+        answer
+    };
+    assert!(
+        differences(Library {
+            unpack,
+            ..REFERENCE
+        }) > 100
+    );
+}
+
+#[test]
+fn an_unpacker_that_gives_15_before_17() {
+    let unpack = |stream: &[u8], rows, tracks, lent: &mut Lent| {
+        let check = (REFERENCE.check)(stream, rows, tracks);
+        if check.number != 0 {
+            return check;
+        }
+        (REFERENCE.unpack)(stream, rows, tracks, lent)
+    };
+    assert!(
+        differences(Library {
+            unpack,
+            ..REFERENCE
+        }) > 100
+    );
+}
+
+#[test]
+fn a_byte_before_or_past_the_output() {
+    for past in [false, true] {
+        let unpack: fn(&[u8], u64, u64, &mut Lent) -> Answer = if past {
+            |stream, rows, tracks, lent| {
+                let answer = (REFERENCE.unpack)(stream, rows, tracks, lent);
+                let end = lent.bytes.len() - 64;
+                lent.bytes[end] ^= 1;
+                answer
+            }
+        } else {
+            |stream, rows, tracks, lent| {
+                let answer = (REFERENCE.unpack)(stream, rows, tracks, lent);
+                lent.bytes[63] ^= 1;
+                answer
+            }
+        };
+        let streams = cases()
+            .iter()
+            .filter(|case| matches!(case, Case::Stream { .. }))
+            .count();
+        assert_eq!(
+            differences(Library {
+                unpack,
+                ..REFERENCE
+            }),
+            streams
+        );
+    }
+}
+
+#[test]
+fn a_packer_that_clears_the_rest() {
+    let pack = |cells: &[u8], rows, tracks, lent: &mut Lent| {
+        let answer = (REFERENCE.pack)(cells, rows, tracks, lent);
+        if answer.number == 0 {
+            lent.out()[answer.length as usize..].fill(0);
+        }
+        answer
+    };
+    assert!(differences(Library { pack, ..REFERENCE }) > 20);
+}
+
+#[test]
+fn a_needed_length_that_is_invented() {
+    let pack = |cells: &[u8], rows, tracks, lent: &mut Lent| {
+        let answer = (REFERENCE.pack)(cells, rows, tracks, lent);
+        Answer {
+            place: if answer.number == 17 {
+                rows * (1 + 8 * tracks)
+            } else {
+                0
+            },
+            ..answer
+        }
+    };
+    let library = Library { pack, ..REFERENCE };
+    assert!(differences(library) > 50);
+    assert!(compare::round_trip(library, &[0; 24], 1, 4).is_err());
+}
+
+#[test]
+fn a_packer_that_names_all_six_fields() {
+    let pack = |cells: &[u8], rows: u64, tracks: u64, lent: &mut Lent| {
+        let answer = (REFERENCE.pack)(cells, rows, tracks, lent);
+        if answer.number == 16 {
+            return answer;
+        }
+        let mut packed = Vec::new();
+        for row in cells.chunks(tracks as usize * 6) {
+            for (cell, track) in row.chunks(6).zip(1..) {
+                packed.extend([track, 0x3F]);
+                packed.extend(cell);
+            }
+            packed.push(0);
+        }
+        let length = packed.len() as u64;
+        match lent.out().get_mut(..packed.len()) {
+            Some(out) => {
+                out.copy_from_slice(&packed);
+                Answer {
+                    number: 0,
+                    place: 0,
+                    length,
+                }
+            }
+            None => Answer {
+                number: 17,
+                place: length,
+                length: 0,
+            },
+        }
+    };
+    let library = Library { pack, ..REFERENCE };
+    assert!(differences(library) > 100);
+    // The round trip alone does not see it: that is what the comparison is for.
+    assert_eq!(compare::round_trip(library, &[0; 24], 1, 4), Ok(()));
+}
+
+#[test]
+fn a_round_trip_that_loses_a_field() {
+    let pack = |cells: &[u8], rows, tracks, lent: &mut Lent| {
+        let mut cells = cells.to_vec();
+        cells
+            .iter_mut()
+            .skip(5)
+            .step_by(6)
+            .for_each(|field| *field = 0);
+        (REFERENCE.pack)(&cells, rows, tracks, lent)
+    };
+    let library = Library { pack, ..REFERENCE };
+    assert!(compare::round_trip(library, &[1; 24], 1, 4).is_err());
+    assert!(differences(library) > 50);
+}
