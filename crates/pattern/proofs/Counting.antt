@@ -4,9 +4,9 @@ use mathlib.Core.Path.{_≡_, refl, sym, ap, _∙_}
 use mathlib.Core.List.{List, [], _∷_, _++_}
 use mathlib.Core.Bool.{Bool, true, false, cond, not, _||_}
 use native.Mathlib.Omega.{arith}
-use native.Mathlib.Nat.{add-suc, zero-add, suc-mul}
+use native.Mathlib.Nat.{add-suc, zero-add, suc-mul, add-assoc}
 use native.Mathlib.Numerals.{add-one}
-use borrow.Author.Tests.{lt-ltb}
+use borrow.Author.Tests.{lt-ltb, eqb-true, eqb-false, not-false}
 use mir.Val.{boolByte}
 use lib.Dec.{eqb, ltb}
 use lib.ListN.{length, getD, take, drop, length-append, take-append-drop, drop-of-length-le}
@@ -159,3 +159,41 @@ module _ (cells : List ℕ) (n : ℕ) where
         go : (left : ℕ) → at + left * 6 ≡ length cells → count + left ≤ n → count + nonEmptyCells (blocksOf left 6 (drop at cells)) ≡ nonEmptyCells (blocksOf n 6 cells) → (count ≡ nonEmptyCells (blocksOf n 6 cells)) × (count ≤ n)
         go zero e b p = (omega arith, omega arith)
         go (suc left) e b p = absurd (omega (arith, suc-mul left 6))
+
+-- The same of the six bytes as one number.
+or-none : (a b : Bool) → a || b ≡ false → (a ≡ false) × (b ≡ false)
+or-none true b e = absurd (let z : _≡_ {A = ℕ} 0 1 = cc in omega arith)
+or-none false b e = (refl, e)
+
+zero-of : (f : ℕ) → nonZero f ≡ false → f ≡ 0
+zero-of f e = eqb-true f 0 (not-false (eqb f 0) e)
+
+pub word-filled : (bytes : List ℕ) (at word : ℕ) → at + 6 ≤ length bytes → word ≡ getD bytes at 0 + 256 * getD bytes (at + 1) 0 + 65536 * (getD bytes (at + 2) 0 + 256 * getD bytes (at + 2 + 1) 0) + 4294967296 * (getD bytes (at + 4) 0 + 256 * getD bytes (at + 4 + 1) 0) → not (eqb word 0) ≡ nonEmpty (cellAt bytes at)
+word-filled bytes at word h e′ = go (eqb word 0) refl
+  where
+    e : word ≡ getD bytes at 0 + 256 * getD bytes (at + 1) 0 + 65536 * (getD bytes (at + 2) 0 + 256 * getD bytes (at + 3) 0) + 4294967296 * (getD bytes (at + 4) 0 + 256 * getD bytes (at + 5) 0)
+    e = rw (add-assoc at 2 1, add-assoc at 4 1) at e′
+
+    go : (t : Bool) → eqb word 0 ≡ t → not t ≡ nonEmpty (cellAt bytes at)
+    go true z =
+        let none = eqb-true word 0 z in
+        let is = e in
+        let b0 : getD bytes at 0 ≡ 0 = omega arith in
+        let b1 : getD bytes (at + 1) 0 ≡ 0 = omega arith in
+        let b2 : getD bytes (at + 2) 0 ≡ 0 = omega arith in
+        let b3 : getD bytes (at + 3) 0 ≡ 0 = omega arith in
+        let b4 : getD bytes (at + 4) 0 ≡ 0 = omega arith in
+        let b5 : getD bytes (at + 5) 0 ≡ 0 = omega arith in
+        sym (rw (b0, b1, b2, b3, b4, b5) at (sym (cell-filled bytes at h)))
+    go false z = some (nonEmpty (cellAt bytes at)) refl
+      where
+        some : (t : Bool) → nonEmpty (cellAt bytes at) ≡ t → true ≡ t
+        some true f = refl
+        some false f =
+            let n0 = or-none (nonZero (getD bytes at 0)) (nonZero (getD bytes (at + 1) 0) || (nonZero (getD bytes (at + 2) 0) || (nonZero (getD bytes (at + 3) 0) || (nonZero (getD bytes (at + 4) 0) || (nonZero (getD bytes (at + 5) 0)))))) (cell-filled bytes at h ∙ f) in
+            let n1 = or-none (nonZero (getD bytes (at + 1) 0)) (nonZero (getD bytes (at + 2) 0) || (nonZero (getD bytes (at + 3) 0) || (nonZero (getD bytes (at + 4) 0) || (nonZero (getD bytes (at + 5) 0))))) (n0 .1) in
+            let n2 = or-none (nonZero (getD bytes (at + 2) 0)) (nonZero (getD bytes (at + 3) 0) || (nonZero (getD bytes (at + 4) 0) || (nonZero (getD bytes (at + 5) 0)))) (n1 .1) in
+            let n3 = or-none (nonZero (getD bytes (at + 3) 0)) (nonZero (getD bytes (at + 4) 0) || (nonZero (getD bytes (at + 5) 0))) (n2 .1) in
+            let n4 = or-none (nonZero (getD bytes (at + 4) 0)) (nonZero (getD bytes (at + 5) 0)) (n3 .1) in
+            let some-word : word ≡ 0 → ⊥ = eqb-false word 0 z in
+            absurd (some-word (omega (arith, e, zero-of (getD bytes at 0) (n0 .0), zero-of (getD bytes (at + 1) 0) (n1 .0), zero-of (getD bytes (at + 2) 0) (n2 .0), zero-of (getD bytes (at + 3) 0) (n3 .0), zero-of (getD bytes (at + 4) 0) (n4 .0), zero-of (getD bytes (at + 5) 0) (n4 .1))))

@@ -2,10 +2,11 @@
 use Prim.Native.Nat.{ℕ, zero, suc, _+_, _<_, _≤_, _/_, _%_}
 use mathlib.Core.Path.{_≡_, refl, sym, ap, _∙_}
 use mathlib.Core.List.{List, [], _∷_, _++_, append-assoc}
-use mathlib.Core.Bool.{Bool, true, false}
+use mathlib.Core.Bool.{Bool, true, false, cond}
 use native.Mathlib.Omega.{arith}
 use native.Mathlib.Nat.{add-suc, suc-add, add-zero, add-assoc}
-use borrow.Author.Tests.{eq-eqb, ne-eqb}
+use borrow.Author.Tests.{eq-eqb, ne-eqb, eqb-true, eqb-false}
+use lib.Dec.{eqb}
 use native.Mathlib.Numerals.{add-one}
 use lib.ListN.{length, getD, take, drop, set, take-append-drop}
 use lib.Seq.{drop-cons, take-suc, take-suc-set, drop-set-lt, append-snoc, getD-drop, drop-drop, set-getD}
@@ -71,3 +72,16 @@ module _ (s : List ℕ) (from mask : ℕ) (out₀ : List ℕ) (to : ℕ) where
     stores-last c h =
         let none : c .left ≡ 0 = omega arith in
         sym (take-append-drop (to + field) out) ∙ rw (none, add-zero) at (c .same)
+
+    -- One turn, whether the field is named or not.
+    pub stores-turn : StoringTo s from mask out₀ to out next rest field → to + field < length out → field < 6 → (bit value next′ : ℕ) → bit ≡ rest % 2 → value ≡ cond (eqb bit 1) (getD s next 0) (getD out (to + field) 0) → next′ ≡ next + bit → StoringTo s from mask out₀ to (set out (to + field) value) next′ (rest / 2) (field + 1)
+    stores-turn c h f bit value next′ b v n = go (eqb bit 1) refl
+      where
+        go : (t : Bool) → eqb bit 1 ≡ t → StoringTo s from mask out₀ to (set out (to + field) value) next′ (rest / 2) (field + 1)
+        go true e =
+            let one : bit ≡ 1 = eqb-true bit 1 e in
+            rw (v, n, one) (stores-named c h f (sym b ∙ one))
+        go false e =
+            let not-one : bit ≡ 1 → ⊥ = eqb-false bit 1 e in
+            let none : bit ≡ 0 = omega (arith, b, not-one) in
+            rw (v, n, none, add-zero next) (stores-other c h f (λ o. not-one (b ∙ o)))

@@ -1,33 +1,41 @@
--- The table of the entries' lengths by their masks is right at each of its 256 masks.
-use Prim.Native.Nat.{ℕ, _<_}
-use mathlib.Core.Path.{_≡_}
+-- The table of the entries' lengths has at each sound mask the length of an entry with that mask.
+use Prim.Native.Nat.{ℕ, zero, suc, _+_, _/_, _%_, _<_, _≤_}
+use mathlib.Core.Path.{_≡_, refl, ap, _∙_}
 use mathlib.Core.List.{List, [], _∷_}
-use mathlib.Core.Bool.{Bool}
+use mathlib.Core.Bool.{Bool, true, false, cond}
+use native.Mathlib.Omega.{arith}
+use native.Mathlib.Nat.{add-zero, add-suc, suc-add}
+use lib.Dec.{eqb}
 use lib.ListN.{length, getD}
-use lib.Dec.{T, eqb, ltb, eqb→eq, ltb→lt}
-use Rattle.laws.proofs.Table.{both, both-left, both-right, at}
-use Rattle.pattern.specs.Steps.{entryLength}
+use borrow.Author.Tests.{le-ltb}
+use Rattle.pattern.specs.Entries.{bits, count, soundMask, fieldsNamed}
+use Rattle.pattern.specs.Steps.{entryLength, lengthsFrom, entryLengths}
 
--- The table LENGTHS of src/reader.rt.
-abbrev pub lengths : List ℕ
-lengths =
-    2 ∷ 3 ∷ 3 ∷ 4 ∷ 3 ∷ 4 ∷ 4 ∷ 5 ∷ 3 ∷ 4 ∷ 4 ∷ 5 ∷ 4 ∷ 5 ∷ 5 ∷ 6 ∷ 3 ∷ 4 ∷ 4 ∷ 5 ∷ 4 ∷ 5 ∷ 5 ∷ 6 ∷ 4 ∷ 5 ∷ 5 ∷ 6
-    ∷ 5 ∷ 6 ∷ 6 ∷ 7 ∷ 3 ∷ 4 ∷ 4 ∷ 5 ∷ 4 ∷ 5 ∷ 5 ∷ 6 ∷ 4 ∷ 5 ∷ 5 ∷ 6 ∷ 5 ∷ 6 ∷ 6 ∷ 7 ∷ 4 ∷ 5 ∷ 5 ∷ 6 ∷ 5 ∷ 6 ∷ 6 ∷
-    7 ∷ 5 ∷ 6 ∷ 6 ∷ 7 ∷ 6 ∷ 7 ∷ 7 ∷ 8 ∷ 0 ∷ 0 ∷ 0 ∷ 0 ∷ 0 ∷ 0 ∷ 0 ∷ 0 ∷ 0 ∷ 0 ∷ 0 ∷ 0 ∷ 0 ∷ 0 ∷ 0 ∷ 0 ∷ 0 ∷ 0 ∷ 0
-    ∷ 0 ∷ 0 ∷ 0 ∷ 0 ∷ 0 ∷ 0 ∷ 0 ∷ 0 ∷ 0 ∷ 0 ∷ 0 ∷ 0 ∷ 0 ∷ 0 ∷ 0 ∷ 0 ∷ 0 ∷ 0 ∷ 0 ∷ 0 ∷ 0 ∷ 0 ∷ 0 ∷ 0 ∷ 0 ∷ 0 ∷ 0 ∷
-    0 ∷ 0 ∷ 0 ∷ 0 ∷ 0 ∷ 0 ∷ 0 ∷ 0 ∷ 0 ∷ 0 ∷ 0 ∷ 0 ∷ 0 ∷ 0 ∷ 0 ∷ 0 ∷ 0 ∷ 0 ∷ 0 ∷ 0 ∷ 0 ∷ 0 ∷ 0 ∷ 0 ∷ 0 ∷ 0 ∷ 0 ∷ 0
-    ∷ 0 ∷ 0 ∷ 0 ∷ 0 ∷ 0 ∷ 0 ∷ 0 ∷ 0 ∷ 0 ∷ 0 ∷ 0 ∷ 0 ∷ 0 ∷ 0 ∷ 0 ∷ 0 ∷ 0 ∷ 0 ∷ 0 ∷ 0 ∷ 0 ∷ 0 ∷ 0 ∷ 0 ∷ 0 ∷ 0 ∷ 0 ∷
-    0 ∷ 0 ∷ 0 ∷ 0 ∷ 0 ∷ 0 ∷ 0 ∷ 0 ∷ 0 ∷ 0 ∷ 0 ∷ 0 ∷ 0 ∷ 0 ∷ 0 ∷ 0 ∷ 0 ∷ 0 ∷ 0 ∷ 0 ∷ 0 ∷ 0 ∷ 0 ∷ 0 ∷ 0 ∷ 0 ∷ 0 ∷ 0
-    ∷ 0 ∷ 0 ∷ 0 ∷ 0 ∷ 0 ∷ 0 ∷ 0 ∷ 0 ∷ 0 ∷ 0 ∷ 0 ∷ 0 ∷ 0 ∷ 0 ∷ 0 ∷ 0 ∷ 0 ∷ 0 ∷ 0 ∷ 0 ∷ 0 ∷ 0 ∷ 0 ∷ 0 ∷ 0 ∷ 0 ∷ 0 ∷
-    0 ∷ 0 ∷ 0 ∷ 0 ∷ 0 ∷ 0 ∷ 0 ∷ 0 ∷ 0 ∷ 0 ∷ 0 ∷ 0 ∷ 0 ∷ 0 ∷ 0 ∷ 0 ∷ 0 ∷ 0 ∷ 0 ∷ 0 ∷ 0 ∷ 0 ∷ 0 ∷ 0 ∷ 0 ∷ 0 ∷ 0 ∷ 0
-    ∷ 0 ∷ 0 ∷ 0 ∷ 0 ∷ 0 ∷ 0 ∷ 0 ∷ 0 ∷ []
+pub lengths-at : (n mask k : ℕ) → k < n → getD (lengthsFrom n mask) k 0 ≡ entryLength (mask + k)
+lengths-at zero mask k h = absurd (omega arith)
+lengths-at (suc n) mask zero h = rw (add-zero mask)
+lengths-at (suc n) mask (suc k) h = lengths-at n (suc mask) k (omega arith) ∙ rw (suc-add mask k, add-suc mask k)
 
-right : ℕ → ℕ → Bool
-right mask x = both (eqb x (entryLength mask)) (ltb x 9)
+pub count-most : (n m : ℕ) → count (bits n m) ≤ n
+count-most zero m = omega arith
+count-most (suc n) m = go (eqb (m % 2) 1) (count-most n (m / 2))
+  where
+    go : (b : Bool) → count (bits n (m / 2)) ≤ n → count (b ∷ bits n (m / 2)) ≤ suc n
+    go true h = omega arith
+    go false h = omega arith
 
-pub lengths-right : (mask : ℕ) → mask < 256 → (getD lengths mask 0 ≡ entryLength mask) × (getD lengths mask 0 < 9)
-unfolding right
-lengths-right mask h =
-    let t = at right lengths tt mask h in
-    let x = getD lengths mask 0 in
-    (eqb→eq x (entryLength mask) (both-left (eqb x (entryLength mask)) (ltb x 9) t), ltb→lt x 9 (both-right (eqb x (entryLength mask)) (ltb x 9) t))
+pub entry-length-most : (mask : ℕ) → entryLength mask < 9
+entry-length-most mask = go (soundMask mask)
+  where
+    go : (b : Bool) → cond b (2 + fieldsNamed mask) 0 < 9
+    go true = omega (arith, count-most 6 mask)
+    go false = omega arith
+
+-- Read at a sound mask; and where the mask is not sound.
+pub length-read : (lengths : List ℕ) (mask : ℕ) → lengths ≡ entryLengths → mask < 64 → getD lengths mask 0 ≡ entryLength mask
+length-read lengths mask e h =
+    let same : 0 + mask ≡ mask = omega arith in
+    ap (λ (l : List ℕ). getD l mask 0) e ∙ lengths-at 64 0 mask h ∙ ap entryLength same
+
+pub length-unsound : (mask : ℕ) → 64 ≤ mask → 0 ≡ entryLength mask
+length-unsound mask h = rw (le-ltb mask 64 h)

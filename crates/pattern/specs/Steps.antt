@@ -15,6 +15,14 @@ use Rattle.pattern.specs.Stream.{Front, nothing, rowEnd, entry, fault, r
 abbrev pub entryLength : ℕ → ℕ
 entryLength mask = cond (soundMask mask) (2 + fieldsNamed mask) 0
 
+-- The lengths for the sound masks, in their order.
+abbrev pub lengthsFrom : ℕ → ℕ → List ℕ
+lengthsFrom zero mask = []
+lengthsFrom (suc n) mask = entryLength mask ∷ lengthsFrom n (suc mask)
+
+abbrev pub entryLengths : List ℕ
+entryLengths = lengthsFrom 64 0
+
 abbrev pub pieceLength : ℕ → ℕ → ℕ
 pieceLength track mask = cond (eqb track 0) 1 (entryLength mask)
 

@@ -3,7 +3,7 @@ use crate::reader::wide;
 ghost use mathlib.Core.Path.{_≡_};
 ghost use mathlib.Core.List.{_++_};
 ghost use Prim.Native.Nat.{_+_, _*_, _<_, _≤_};
-ghost use lib.ListN.{length, take};
+ghost use lib.ListN.{length, getD, take};
 ghost use Rattle.pattern.specs.Cells.{blocksOf, rowOf, rowsOf, nonZeros, nonEmpty, nonEmptyCells};
 ghost use Rattle.pattern.specs.Entries.{rowStream};
 ghost use Rattle.pattern.specs.Packer.{packedEntry, packedEntries, packedStream, packedLength};
@@ -43,15 +43,20 @@ pub fn non_zero_bytes(bytes: &[u8]) -> usize
     count + wide(count_few(&bytes[at..]))
 }
 
+// Two bytes as one number.
+fn pair(bytes: &[u8], at: usize) -> usize
+    requires { ⌜ at + 2 ≤ length (now bytes) ⌝ }
+    ensures { λ r. ⌜ (r ≡ getD (now (bytes .entry)) at 0 + 256 * getD (now (bytes .entry)) (at + 1) 0) × (r < 65536) ⌝ }
+{
+    wide(bytes[at]) + 256 * wide(bytes[at + 1])
+}
+
 // Whether the cell at `at` is not empty.
 fn filled(cells: &[u8], at: usize) -> bool
     requires { ⌜ at + 6 ≤ length (now cells) ⌝ }
     ensures { λ r. ⌜ r ≡ nonEmpty (cellAt (now (cells .entry)) at) ⌝ }
 {
-    (cells[at] != 0)
-        | ((cells[at + 1] != 0)
-            | ((cells[at + 2] != 0)
-                | ((cells[at + 3] != 0) | ((cells[at + 4] != 0) | (cells[at + 5] != 0)))))
+    pair(cells, at) + 65536 * pair(cells, at + 2) + 4294967296 * pair(cells, at + 4) != 0
 }
 
 // How many of the cells are not empty.

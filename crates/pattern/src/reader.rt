@@ -2,31 +2,21 @@
 use refusal::{refuse, Cause, Verdict};
 ghost use mathlib.Core.Path.{_≡_};
 ghost use Prim.Native.Nat.{ℕ, _+_, _*_, _<_, _≤_};
+ghost use mathlib.Core.Bool.{cond};
+ghost use lib.Dec.{eqb};
 ghost use lib.ListN.{length, drop, replicate};
 ghost use Rattle.pattern.specs.Entries.{fieldsNamed};
 ghost use Rattle.pattern.specs.Stream.{front, readStream, reading, whole, cellsRead};
 ghost use Rattle.pattern.specs.Answers.{verdictOf};
 ghost use Rattle.refusal.specs.declared.Verdict.the-variants.{Accepted};
-ghost use Rattle.pattern.specs.Steps.{entryLength, pieceLength, frontLength, storedAt, RowAhead, Carried, Loaded, Skipped, RowsRead, AfterRows};
+ghost use Rattle.pattern.specs.Steps.{entryLengths, entryLength, pieceLength, frontLength, storedAt, RowAhead, Carried, Loaded, Skipped, RowsRead, AfterRows};
 
-// How long an entry with each mask is, in bytes: the track, the mask and the named fields; 0 for a mask that is not sound.
-const LENGTHS: [u8; 256] = [
+// How long an entry with each sound mask is, in bytes: the track, the mask and the named fields.
+const LENGTHS: [u8; 64] = [
     2, 3, 3, 4, 3, 4, 4, 5, 3, 4, 4, 5, 4, 5, 5, 6,
     3, 4, 4, 5, 4, 5, 5, 6, 4, 5, 5, 6, 5, 6, 6, 7,
     3, 4, 4, 5, 4, 5, 5, 6, 4, 5, 5, 6, 5, 6, 6, 7,
     4, 5, 5, 6, 5, 6, 6, 7, 5, 6, 6, 7, 6, 7, 7, 8,
-    0, 0, 0, 0, 0, 0, 0, 0, 0, 0, 0, 0, 0, 0, 0, 0,
-    0, 0, 0, 0, 0, 0, 0, 0, 0, 0, 0, 0, 0, 0, 0, 0,
-    0, 0, 0, 0, 0, 0, 0, 0, 0, 0, 0, 0, 0, 0, 0, 0,
-    0, 0, 0, 0, 0, 0, 0, 0, 0, 0, 0, 0, 0, 0, 0, 0,
-    0, 0, 0, 0, 0, 0, 0, 0, 0, 0, 0, 0, 0, 0, 0, 0,
-    0, 0, 0, 0, 0, 0, 0, 0, 0, 0, 0, 0, 0, 0, 0, 0,
-    0, 0, 0, 0, 0, 0, 0, 0, 0, 0, 0, 0, 0, 0, 0, 0,
-    0, 0, 0, 0, 0, 0, 0, 0, 0, 0, 0, 0, 0, 0, 0, 0,
-    0, 0, 0, 0, 0, 0, 0, 0, 0, 0, 0, 0, 0, 0, 0, 0,
-    0, 0, 0, 0, 0, 0, 0, 0, 0, 0, 0, 0, 0, 0, 0, 0,
-    0, 0, 0, 0, 0, 0, 0, 0, 0, 0, 0, 0, 0, 0, 0, 0,
-    0, 0, 0, 0, 0, 0, 0, 0, 0, 0, 0, 0, 0, 0, 0, 0,
 ];
 
 // A byte as a usize.
@@ -37,25 +27,32 @@ pub fn wide(x: u8) -> usize
 }
 
 // How long an entry with this mask is; 0 where the mask is not sound.
-pub fn entry_length(mask: u8) -> usize
+fn entry_length(mask: u8, lengths: &[u8]) -> usize
+    requires { ⌜ now lengths ≡ entryLengths ⌝ }
     ensures { λ r. ⌜ (r ≡ entryLength mask) × (r < 9) ⌝ }
 {
-    wide(LENGTHS[wide(mask)])
+    if 63 < mask {
+        0
+    } else {
+        wide(lengths[wide(mask)])
+    }
 }
 
 // How long a row end or an entry is that begins with these two bytes.
-fn piece_length(track: u8, mask: u8) -> usize
+fn piece_length(track: u8, mask: u8, lengths: &[u8]) -> usize
+    requires { ⌜ now lengths ≡ entryLengths ⌝ }
     ensures { λ r. ⌜ r ≡ pieceLength track mask ⌝ }
 {
     if track == 0 {
         1
     } else {
-        entry_length(mask)
+        entry_length(mask, lengths)
     }
 }
 
 // How many bytes the row end or the sound entry at `at` takes; 0 at a fault and at the stream's end.
-fn front_length(s: &[u8], at: usize, tracks: usize) -> usize
+fn front_length(s: &[u8], at: usize, tracks: usize, lengths: &[u8]) -> usize
+    requires { ⌜ now lengths ≡ entryLengths ⌝ }
     ensures { λ r. ⌜ r ≡ frontLength (front tracks (drop at (now (s .entry)))) ⌝ }
 {
     if s.len() <= at {
@@ -68,7 +65,7 @@ fn front_length(s: &[u8], at: usize, tracks: usize) -> usize
         }
         return 0;
     }
-    let length = piece_length(track, s[at + 1]);
+    let length = piece_length(track, s[at + 1], lengths);
     if tracks < wide(track) {
         return 0;
     }
@@ -82,10 +79,11 @@ fn front_length(s: &[u8], at: usize, tracks: usize) -> usize
 pub fn check_stream(s: &[u8], rows: usize, tracks: usize) -> Verdict
     ensures { λ r. ⌜ r ≡ verdictOf (readStream rows tracks (now (s .entry))) ⌝ }
 {
+    let lengths = LENGTHS;
     let mut left = rows;
     let mut at: usize = 0;
     while 0 < left {
-        let length = front_length(s, at, tracks);
+        let length = front_length(s, at, tracks, &lengths);
         if length == 0 {
             return Verdict::Refused(refuse(Cause::Stream, at));
         }
@@ -113,6 +111,17 @@ pub fn clear(out: &mut [u8])
     }
 }
 
+// The first byte where the bit is 1, else the second.
+fn pick(bit: u8, value: u8, old: u8) -> u8
+    ensures { λ r. ⌜ r ≡ cond (eqb bit 1) value old ⌝ }
+{
+    if bit == 1 {
+        value
+    } else {
+        old
+    }
+}
+
 // Stores the fields that a mask names, which stand at `from`, in the cell at `to`; the others stay.
 fn store_fields(s: &[u8], from: usize, mask: u8, out: &mut [u8], to: usize)
     requires { ⌜ (from + fieldsNamed mask < length (now s)) × (to + 6 ≤ length (now out)) ⌝ }
@@ -122,18 +131,13 @@ fn store_fields(s: &[u8], from: usize, mask: u8, out: &mut [u8], to: usize)
     let mut bits = mask;
     let mut field: usize = 0;
     while field < 6 {
+        let bit = bits % 2;
         let value = s[next];
         let old = out[to + field];
-        if bits % 2 == 1 {
-            out[to + field] = value;
-            next = next + 1;
-            bits = bits / 2;
-            field = field + 1;
-        } else {
-            out[to + field] = old;
-            bits = bits / 2;
-            field = field + 1;
-        }
+        out[to + field] = pick(bit, value, old);
+        next = next + wide(bit);
+        bits = bits / 2;
+        field = field + 1;
     }
 }
 
@@ -142,12 +146,13 @@ pub fn carry_row(s: &[u8], start: usize, row: &mut [u8]) -> usize
     requires { ⌜ RowAhead (now s) start (length (now row)) ⌝ }
     ensures { λ r. ⌜ Carried (now (s .entry)) start (now (row .entry)) r (now (row .exit)) ⌝ }
 {
+    let lengths = LENGTHS;
     let mut at = start;
     while s[at] != 0 {
         let track = wide(s[at]);
         let mask = s[at + 1];
         store_fields(s, at + 2, mask, row, (track - 1) * 6);
-        at = at + entry_length(mask);
+        at = at + entry_length(mask, &lengths);
     }
     at + 1
 }
@@ -191,9 +196,10 @@ fn skip_row(s: &[u8], start: usize) -> usize
     requires { ⌜ ((size : ℕ) × RowAhead (now s) start size) ⌝ }
     ensures { λ r. ⌜ Skipped (now (s .entry)) start r ⌝ }
 {
+    let lengths = LENGTHS;
     let mut at = start;
     while s[at] != 0 {
-        at = at + entry_length(s[at + 1]);
+        at = at + entry_length(s[at + 1], &lengths);
     }
     at + 1
 }

@@ -3,11 +3,13 @@ use mathlib.Core.Path.{_≡_, _∙_, ap, sym, refl}
 use lib.ListN.{length}
 use borrow.Author.Needs.{needs}
 use native.Mathlib.Omega.{arith}
-use Rattle.pattern.proofs.Fields.{StoringTo, stores-first, stores-named, stores-other, stores-last}
+use Rattle.pattern.proofs.Fields.{StoringTo, stores-first, stores-turn, stores-last}
 use Rattle.pattern.proofs.reader.store_fields.Statement.{statement}
 use Rattle.pattern.proofs.reader.store_fields.Tie as tie
 use Rattle.pattern.proofs.reader.store_fields.Reads as reads
 use Rattle.pattern.proofs.reader.store_fields.Lts as lts
+use Rattle.pattern.proofs.reader.pick.Reads as pick-reads
+use Rattle.pattern.proofs.reader.wide.Reads as wide-reads
 
 abbrev Inv-loop : tie.InvT-loop
 Inv-loop s from mask out₀ to next₀ bits₀ field₀ out next bits field = (field ≤ 6) × (length out ≡ length out₀) × StoringTo s from mask out₀ to out next bits field
@@ -15,71 +17,59 @@ Inv-loop s from mask out₀ to next₀ bits₀ field₀ out next bits field = (f
 abbrev μ-loop : tie.MeasureT-loop
 μ-loop s from mask out₀ to next₀ bits₀ field₀ out next bits field = 6 - field
 
--- src/reader.rt:124:5
+-- src/reader.rt:133:5
 loop-holds : tie.Need-loop-holds Inv-loop μ-loop
-loop-holds c = (search needs, search needs, stores-first _ _ _ _ _ (c .pre .0))
+loop-holds c = (search needs, search needs, stores-first _ _ _ _ _ (c .before .before .pre .0))
 
--- src/reader.rt:125:21
+-- src/reader.rt:135:21
 shared-slice-read-value : tie.Need-shared-slice-read-value Inv-loop μ-loop
 shared-slice-read-value c = search needs
 
--- src/reader.rt:126:23
+-- src/reader.rt:136:23
 add-old : tie.Need-add-old Inv-loop μ-loop
 add-old c = search needs
 
--- src/reader.rt:126:19
+-- src/reader.rt:136:19
 slice-read-old : tie.Need-slice-read-old Inv-loop μ-loop
 slice-read-old c = search needs
 
--- src/reader.rt:128:17
+-- src/reader.rt:137:27
+pick-requires : tie.Need-pick-requires Inv-loop μ-loop
+pick-requires c κs = search needs
+
+-- src/reader.rt:137:13
 add-out : tie.Need-add-out Inv-loop μ-loop
 add-out c = search needs
 
--- src/reader.rt:128:13
+-- src/reader.rt:137:9
 slice-write-out : tie.Need-slice-write-out Inv-loop μ-loop
 slice-write-out c = search needs
 
--- src/reader.rt:129:20
+-- src/reader.rt:138:23
+wide-requires : tie.Need-wide-requires Inv-loop μ-loop
+wide-requires c κs = search needs
+
+-- src/reader.rt:138:16
 add-next : tie.Need-add-next Inv-loop μ-loop
 add-next c = search needs
 
--- src/reader.rt:131:21
+-- src/reader.rt:140:17
 add-field : tie.Need-add-field Inv-loop μ-loop
 add-field c = search needs
 
--- src/reader.rt:124:5
+-- src/reader.rt:133:5
 loop-less : tie.Need-loop-less Inv-loop μ-loop
 loop-less c = search needs
 
--- src/reader.rt:124:5
+-- src/reader.rt:133:5
 loop-again : tie.Need-loop-again Inv-loop μ-loop
-loop-again c = (search needs, search needs, stores-named _ _ _ _ _ _ _ _ _ (c .before .before .before .before .loop .inv .2) (omega arith) (search needs) (c .if1 .taken))
+loop-again c = (search needs, search needs, stores-turn _ _ _ _ _ _ _ _ _ (c .before .before .before .before .before .loop .inv .2) (omega arith) (search needs) (c .before .before .before .before .before .loop .bits % 2) (c .before .pick .result) _ refl (c .before .pick .ensures) (ap (c .before .before .before .before .before .loop .next +_) (c .wide .ensures .0)))
 
--- src/reader.rt:133:17
-add-out-2 : tie.Need-add-out-2 Inv-loop μ-loop
-add-out-2 c = search needs
-
--- src/reader.rt:133:13
-slice-write-out-2 : tie.Need-slice-write-out-2 Inv-loop μ-loop
-slice-write-out-2 c = search needs
-
--- src/reader.rt:135:21
-add-field-2 : tie.Need-add-field-2 Inv-loop μ-loop
-add-field-2 c = search needs
-
--- src/reader.rt:124:5
-loop-less-2 : tie.Need-loop-less-2 Inv-loop μ-loop
-loop-less-2 c = search needs
-
--- src/reader.rt:124:5
-loop-again-2 : tie.Need-loop-again-2 Inv-loop μ-loop
-loop-again-2 c = (search needs, search needs, stores-other _ _ _ _ _ _ _ _ _ (c .before .before .before .before .loop .inv .2) (omega arith) (search needs) (c .if1 .left))
-
--- src/reader.rt:117:1
+-- src/reader.rt:126:1
 same-length : tie.Need-same-length Inv-loop μ-loop
 same-length c = search needs
 
--- src/reader.rt:117:1
+-- src/reader.rt:126:1
 returns : tie.Need-returns Inv-loop μ-loop
 returns c = stores-last _ _ _ _ _ _ _ _ _ (c .before .loop .inv .2) (search needs)
 
@@ -93,16 +83,13 @@ store-fields-spec =
     shared-slice-read-value
     add-old
     slice-read-old
+    pick-requires
     add-out
     slice-write-out
+    wide-requires
     add-next
     add-field
     loop-less
     loop-again
-    add-out-2
-    slice-write-out-2
-    add-field-2
-    loop-less-2
-    loop-again-2
     same-length
     returns)

@@ -1,0 +1,16 @@
+use borrow.Author.Needs.{needs}
+use borrow.Author.Tests.{lt-ltb, le-ltb}
+use Rattle.conformance.specs.Text.{hexDigit}
+use Rattle.conformance.proofs.text.digit.Statement.{statement}
+use Rattle.conformance.proofs.text.digit.Tie as tie
+
+returns : tie.Need-returns
+unfolding hexDigit
+returns c = simp (lt-ltb _ _ (c .if1 .taken))
+
+returns-2 : tie.Need-returns-2
+unfolding hexDigit
+returns-2 c = simp (le-ltb _ _ (c .if1 .left))
+
+pub digit-spec : {M : Type 1} → statement M
+digit-spec = tie.close (tie.spec (λ c. search needs) (λ c. search needs) returns returns-2)

@@ -1,0 +1,283 @@
+// One case after the other.
+use crate::numbers::be32;
+use crate::numbers::be64;
+use crate::text::fill;
+use crate::text::print_bytes;
+use crate::text::print_numbers;
+use crate::text::within;
+use pattern::CellAnswer;
+use pattern::Packing;
+use pattern::Unpacking;
+use pattern::cells::Cell;
+use pattern::cells::Note;
+use refusal::Refusal;
+use refusal::Verdict;
+ghost use Prim.Native.Nat.{_≤_};
+ghost use lib.ListN.{length};
+
+// An answer as it is printed: 0 for each number that it does not have.
+struct Answer {
+    number: usize,
+    place: usize,
+    length: usize,
+}
+
+// A note as it is printed: 0 none, 1 key off, 2 a pitch, 3 unknown, with octave and semitone, or the byte.
+struct NoteNumbers {
+    kind: u8,
+    a: u8,
+    b: u8,
+}
+
+fn of_refusal(r: Refusal) -> Answer {
+    Answer {
+        number: r.number as usize,
+        place: r.place,
+        length: 0,
+    }
+}
+
+fn of_length(length: usize) -> Answer {
+    Answer {
+        number: 0,
+        place: 0,
+        length,
+    }
+}
+
+fn of_verdict(v: Verdict) -> Answer {
+    match v {
+        Verdict::Accepted => of_length(0),
+        Verdict::Refused(r) => of_refusal(r),
+    }
+}
+
+fn of_unpacking(u: Unpacking) -> Answer {
+    match u {
+        Unpacking::Unpacked(n) => of_length(n),
+        Unpacking::Refused(r) => of_refusal(r),
+    }
+}
+
+fn of_packing(p: Packing) -> Answer {
+    match p {
+        Packing::Packed(n) => of_length(n),
+        Packing::Refused(r) => of_refusal(r),
+    }
+}
+
+fn of_cell(c: CellAnswer) -> Answer {
+    match c {
+        CellAnswer::Found(_) => of_length(0),
+        CellAnswer::Refused(r) => of_refusal(r),
+    }
+}
+
+// The cell found, or an empty one.
+fn found(c: CellAnswer) -> Cell {
+    match c {
+        CellAnswer::Found(cell) => cell,
+        CellAnswer::Refused(_) => Cell {
+            note: Note::None,
+            instrument: 0,
+            command1: 0,
+            parameter1: 0,
+            command2: 0,
+            parameter2: 0,
+        },
+    }
+}
+
+fn note_numbers(note: Note) -> NoteNumbers {
+    match note {
+        Note::None => NoteNumbers {
+            kind: 0,
+            a: 0,
+            b: 0,
+        },
+        Note::KeyOff => NoteNumbers {
+            kind: 1,
+            a: 0,
+            b: 0,
+        },
+        Note::Pitch { octave, semitone } => NoteNumbers {
+            kind: 2,
+            a: octave,
+            b: semitone,
+        },
+        Note::Unknown(byte) => NoteNumbers {
+            kind: 3,
+            a: byte,
+            b: 0,
+        },
+    }
+}
+
+fn print_check(stream: &[u8], rows: usize, tracks: usize, line: &mut [u8]) {
+    let a = of_verdict(pattern::check(stream, rows, tracks));
+    print_numbers(b"check", &[a.number, a.place], line);
+}
+
+fn print_unpack(stream: &[u8], rows: usize, tracks: usize, out: &mut [u8], line: &mut [u8]) {
+    fill(out);
+    let a = of_unpacking(pattern::unpack(stream, rows, tracks, out));
+    print_bytes(b"unpack", &[a.number, a.place, a.length], out, line);
+}
+
+fn print_repack(stream: &[u8], rows: usize, tracks: usize, out: &mut [u8], line: &mut [u8]) {
+    fill(out);
+    let a = of_packing(pattern::repack(stream, rows, tracks, out));
+    print_bytes(b"repack", &[a.number, a.place, a.length], out, line);
+}
+
+fn print_pack(cells: &[u8], rows: usize, tracks: usize, out: &mut [u8], line: &mut [u8]) {
+    fill(out);
+    let a = of_packing(pattern::pack(cells, rows, tracks, out));
+    print_bytes(b"pack", &[a.number, a.place, a.length], out, line);
+}
+
+fn print_cell(
+    stream: &[u8],
+    rows: usize,
+    tracks: usize,
+    row: usize,
+    track: usize,
+    line: &mut [u8],
+) {
+    let answer = pattern::cell(stream, rows, tracks, row, track);
+    let a = of_cell(answer);
+    let c = found(answer);
+    let note = c.note;
+    let p = note_numbers(note);
+    let numbers = [
+        a.number,
+        a.place,
+        p.kind as usize,
+        p.a as usize,
+        p.b as usize,
+        c.instrument as usize,
+        c.command1 as usize,
+        c.parameter1 as usize,
+        c.command2 as usize,
+        c.parameter2 as usize,
+    ];
+    print_numbers(b"cell", &numbers, line);
+}
+
+fn print_stream(
+    stream: &[u8],
+    rows: usize,
+    tracks: usize,
+    row: usize,
+    track: usize,
+    out: &mut [u8],
+    line: &mut [u8],
+) {
+    print_check(stream, rows, tracks, line);
+    print_unpack(stream, rows, tracks, out, line);
+    print_repack(stream, rows, tracks, out, line);
+    print_cell(stream, rows, tracks, row, track, line);
+}
+
+fn print_shown(cell: [u8; 6], line: &mut [u8]) {
+    let c = pattern::shown(cell);
+    let note = c.note;
+    let p = note_numbers(note);
+    let numbers = [
+        p.kind as usize,
+        p.a as usize,
+        p.b as usize,
+        c.instrument as usize,
+        c.command1 as usize,
+        c.parameter1 as usize,
+        c.command2 as usize,
+        c.parameter2 as usize,
+    ];
+    print_numbers(b"shown", &numbers, line);
+}
+
+// Each function below takes the input from a case's first byte on, and answers how many bytes the
+// case has: 0 where no whole case stands there.
+
+fn stream_case(s: &[u8], out: &mut [u8], line: &mut [u8]) -> usize
+    ensures { λ r. ⌜ r ≤ length (now (s .entry)) ⌝ }
+{
+    if s.len() < 41 {
+        return 0;
+    }
+    let length = be32(s, 37);
+    if s.len() - 41 < length {
+        return 0;
+    }
+    let end = 41 + length;
+    let stream = &s[41..end];
+    let rows = be64(s, 1);
+    let tracks = be64(s, 9);
+    let row = be64(s, 17);
+    let track = be64(s, 25);
+    let room = within(be32(s, 33), out);
+    print_stream(stream, rows, tracks, row, track, &mut out[..room], line);
+    end
+}
+
+fn cells_case(s: &[u8], out: &mut [u8], line: &mut [u8]) -> usize
+    ensures { λ r. ⌜ r ≤ length (now (s .entry)) ⌝ }
+{
+    if s.len() < 25 {
+        return 0;
+    }
+    let length = be32(s, 21);
+    if s.len() - 25 < length {
+        return 0;
+    }
+    let end = 25 + length;
+    let rows = be64(s, 1);
+    let tracks = be64(s, 9);
+    let room = within(be32(s, 17), out);
+    print_pack(&s[25..end], rows, tracks, &mut out[..room], line);
+    end
+}
+
+fn shown_case(s: &[u8], line: &mut [u8]) -> usize
+    ensures { λ r. ⌜ r ≤ length (now (s .entry)) ⌝ }
+{
+    if s.len() < 7 {
+        return 0;
+    }
+    print_shown([s[1], s[2], s[3], s[4], s[5], s[6]], line);
+    7
+}
+
+fn case(s: &[u8], out: &mut [u8], line: &mut [u8]) -> usize
+    ensures { λ r. ⌜ r ≤ length (now (s .entry)) ⌝ }
+{
+    if s.len() == 0 {
+        return 0;
+    }
+    let kind = s[0];
+    if kind == 1 {
+        return stream_case(s, out, line);
+    }
+    if kind == 2 {
+        return cells_case(s, out, line);
+    }
+    if kind == 3 {
+        return shown_case(s, line);
+    }
+    0
+}
+
+// Prints every case, and answers how many there were.
+pub fn run(s: &[u8], out: &mut [u8], line: &mut [u8]) -> usize {
+    let mut at = 0;
+    let mut n = 0;
+    while at < s.len() {
+        let size = case(&s[at..], out, line);
+        if size == 0 {
+            return n;
+        }
+        at += size;
+        n += 1;
+    }
+    n
+}

@@ -1,0 +1,40 @@
+// Prints what the library `pattern` says of each case of standard input.
+//
+// The input has at most 262,144 bytes, and its numbers are big-endian. A case is one of
+//   1, rows u64, tracks u64, row u64, track u64, room u32, length u32, a stream of that length:
+//      prints what checking, unpacking, repacking and the question for one cell answer;
+//   2, rows u64, tracks u64, room u32, length u32, cells of that length: prints what packing answers;
+//   3, the six bytes of a cell: prints the cell as it is shown.
+// Room is the length of the output that is lent, at most 65,536; each of its bytes is 170 before the
+// call. Another first byte, or a case that is cut, ends the run. The last line counts the cases.
+mod cases;
+mod numbers;
+mod text;
+
+use crate::cases::run;
+use crate::text::print_numbers;
+ghost use mathlib.Core.Path.{_≡_};
+ghost use lib.ListN.{length};
+
+// Room for the input. The `ensures` gives the length, which lending the array as a slice needs.
+fn input_space() -> [u8; 262144]
+    ensures { λ r. ⌜ 262144 ≡ length r ⌝ }
+{
+    [0; 262144]
+}
+
+// Room for the longest line: a word, numbers, and 65,536 bytes at two digits each.
+fn line_space() -> [u8; 131200]
+    ensures { λ r. ⌜ 131200 ≡ length r ⌝ }
+{
+    [0; 131200]
+}
+
+fn main() {
+    let mut input = input_space();
+    let n = io::read_full(0, &mut input);
+    let mut out = io::large_buffer();
+    let mut line = line_space();
+    let cases = run(&input[..n], &mut out, &mut line);
+    print_numbers(b"cases", &[cases], &mut line);
+}
