@@ -25,3 +25,4 @@ pub mod Samples
 pub mod Counting
 pub mod Writing
 pub mod Repacking
+pub mod Notes

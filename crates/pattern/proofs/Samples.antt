@@ -8,10 +8,7 @@ use Rattle.refusal.specs.declared.Verdict.{Verdict}
 use Rattle.pattern.specs.Cells.{rowsOf}
 use Rattle.pattern.specs.Stream.{readFrom, reading, cellsRead}
 use Rattle.pattern.specs.Packer.{packedStream}
-use Rattle.pattern.specs.Answers.{checkAnswer, cellOf}
-use Rattle.pattern.specs.Shown.{noteByte}
-use Rattle.pattern.specs.declared.CellAnswer.{CellAnswer}
-use Rattle.pattern.specs.declared.CellAnswer.the-variants.{Found, Refused}
+use Rattle.pattern.specs.Answers.{checkAnswer, cellOf, cellNumbers}
 
 -- A row of the table: the sample's number, what the definitions give, and what the register says.
 pub record Sample : Type 0 where
@@ -31,11 +28,6 @@ checked rows tracks stream = verdictNumbers (checkAnswer stream rows tracks)
 -- What the cells of a stream pack to.
 repacked : ℕ → ℕ → List ℕ → List ℕ
 repacked rows tracks stream = packedStream (rowsOf rows tracks (cellsRead rows tracks stream))
-
--- The note's byte and the instrument of a cell, counted as the queries do.
-cellNumbers : CellAnswer → List ℕ
-cellNumbers (Found c) = noteByte (c .note) ∷ c .instrument ∷ c .command1 ∷ c .parameter1 ∷ c .command2 ∷ c .parameter2 ∷ []
-cellNumbers (Refused r) = r .number ∷ []
 
 p1 : List ℕ
 p1 = 0x02 ∷ 0x03 ∷ 0x47 ∷ 0x01 ∷ 0x00 ∷ 0x00 ∷ []
@@ -65,10 +57,10 @@ accepted : List ℕ
 accepted = 0 ∷ 0 ∷ []
 
 pub samples : List Sample
-unfolding checked repacked cellNumbers p1 p2 p3 p4 p5 p7 p8 p9 accepted
+unfolding checked repacked p1 p2 p3 p4 p5 p7 p8 p9 accepted
 samples =
     record { number = 1; found = checked 2 4 p1; registered = accepted }
-    ∷ record { number = 1; found = cellNumbers (cellOf p1 2 4 0 2); registered = 0x47 ∷ 1 ∷ 0 ∷ 0 ∷ 0 ∷ 0 ∷ [] }
+    ∷ record { number = 1; found = cellNumbers (cellOf p1 2 4 0 2); registered = 0 ∷ 0 ∷ 0x47 ∷ 1 ∷ 0 ∷ 0 ∷ 0 ∷ 0 ∷ [] }
     ∷ record { number = 1; found = repacked 2 4 p1; registered = p1 }
     ∷ record { number = 2; found = checked 2 4 p2; registered = accepted }
     ∷ record { number = 2; found = cellsRead 2 4 p2; registered = cellsRead 2 4 p1 }

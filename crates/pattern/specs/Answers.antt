@@ -1,7 +1,7 @@
 -- What each call answers, and what its lent output then holds: FORMAT.md, F1 to F9 (document 01, "Refusal numbers and their
 -- order"). In each answer the refusals stand in the order in which they are given.
 use Prim.Native.Nat.{ℕ, _+_, _-_, _*_}
-use mathlib.Core.List.{List, [], _++_}
+use mathlib.Core.List.{List, [], _∷_, _++_}
 use mathlib.Core.Bool.{Bool, true, false, cond, not}
 use lib.ListN.{length, getD, drop}
 use lib.Dec.{eqb, leb, ltb}
@@ -14,7 +14,7 @@ use Rattle.pattern.specs.Cells.{Cell, both, sizesFit, cellBytes, rowsOf,
 use Rattle.pattern.specs.Entries.{rowsFrom}
 use Rattle.pattern.specs.Stream.{Reading, brokenAt, whole, readStream, entriesRead, cellsRead}
 use Rattle.pattern.specs.Packer.{packedStream, packedLength}
-use Rattle.pattern.specs.Shown.{shownCell}
+use Rattle.pattern.specs.Shown.{shownCell, noteByte}
 use Rattle.pattern.specs.declared.Unpacking.{Unpacking}
 use Rattle.pattern.specs.declared.Unpacking.the-variants.{Unpacked, Refused as UnpackingRefused}
 use Rattle.pattern.specs.declared.Packing.{Packing}
@@ -104,6 +104,12 @@ cellOf stream rows tracks row track =
     cond (not (sizesFit rows tracks)) (CellRefused (refusal Sizes 0))
     (cond (not (cellThere rows tracks row track)) (CellRefused (refusal NotThere 0))
     (cellIf (readStream rows tracks stream) tracks row track))
+
+-- F1, N1: what the answer for a cell tells as numbers: the refusal's number and place, 0 and 0 where there is none, and then
+-- the note's byte, the instrument and the two commands with their parameters.
+abbrev pub cellNumbers : CellAnswer → List ℕ
+cellNumbers (Found c) = 0 ∷ 0 ∷ noteByte (c .note) ∷ c .instrument ∷ c .command1 ∷ c .parameter1 ∷ c .command2 ∷ c .parameter2 ∷ []
+cellNumbers (CellRefused r) = r .number ∷ r .place ∷ []
 
 -- F1: what an answer tells in C: the refusal's number and place, and the length written; 0 where there is none.
 abbrev pub told : ℕ → ℕ → ℕ → PatternAnswer

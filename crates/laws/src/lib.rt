@@ -1,1 +1,0 @@
-// Lemmas on lists, numbers and tables that several crates cite: see proofs/. There is no function here.
