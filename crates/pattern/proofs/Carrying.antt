@@ -4,6 +4,7 @@ use mathlib.Core.Path.{_≡_, refl, sym, ap, _∙_}
 use mathlib.Core.List.{List, [], _∷_, _++_, append-assoc}
 use mathlib.Core.Bool.{Bool, true, false}
 use native.Mathlib.Omega.{arith}
+use borrow.Author.Tests.{lt-ltb}
 use native.Mathlib.Nat.{add-zero, zero-add, zero-mul, suc-mul, add-comm, add-assoc}
 use lib.ListN.{length, getD, take, drop, set, length-append, length-take, length-drop}
 use lib.Seq.{drop-append-seam, drop-drop, take-at, drop-at, take-add, drop-append-le, take-append-le, length-take-le}
@@ -12,7 +13,8 @@ use Rattle.pattern.specs.Entries.{Entry, entryBytes, fieldsNamed, named,
 use Rattle.pattern.specs.Stream.{Front, nothing, rowEnd, entry, fault, front, Reading, brokenAt, whole, newRow, addEntry, reading}
 use Rattle.pattern.specs.Steps.{RowAhead, Carried, storedAt, entryLength}
 use Rattle.pattern.proofs.Reading.{reading-nothing, reading-fault, reading-row-end, reading-entry}
-use Rattle.pattern.proofs.Checking.{RowEndAt, EntryAt, row-end-at, entry-at, SoundEntry, sound-entry}
+use Rattle.pattern.proofs.Checking.{RowEndAt, EntryAt, row-end-at, entry-at}
+use Rattle.pattern.proofs.Soundness.{Sound, sound-facts}
 use Rattle.pattern.proofs.Shapes.{length-store, joined-row}
 
 -- The block of a number, and another in its place.
@@ -84,7 +86,7 @@ module _ (s : List ℕ) (tracks left at : ℕ) (es : List Entry) (later : List (
           (new-row-whole (reading tracks left (at + 1) rest) (sym (reading-row-end tracks left at (drop at s) rest e) ∙ reads))
       go (entry f rest) e =
           let found = entry-at tracks s rest at f e in
-          absurd (omega (arith, z, found .track-is, sound-entry tracks f (found .sound) .low))
+          absurd (omega (arith, z, found .track-is, sound-facts tracks f (found .sound) .low))
 
   pub at-entry : (getD s at 0 ≡ 0 → ⊥) → NextEntry
   at-entry z = go (front tracks (drop at s)) refl
@@ -106,22 +108,22 @@ module _ (s : List ℕ) (tracks left at : ℕ) (es : List Entry) (later : List (
     pub entry-long : entryLength (getD s (at + 1) 0) ≡ 2 + fieldsNamed (getD s (at + 1) 0)
 
   module _ (more : getD s at 0 ≡ 0 → ⊥) (found : NextEntry) where
-    sized : SoundEntry tracks (found .e)
-    sized = sound-entry tracks (found .e) (found .found .sound)
+    sized : Sound tracks (found .e)
+    sized = sound-facts tracks (found .e) (found .found .sound)
 
     pub entry-steps : (n : ℕ) → n ≡ entryLength (getD s (at + 1) 0) → n ≡ length (entryBytes (found .e))
-    entry-steps n l = l ∙ rw (found .found .mask-is, sized .mask-sound) (omega (arith, sized .fields))
+    entry-steps n l = l ∙ rw (found .found .mask-is, lt-ltb _ 64 (sized .small)) (omega (arith, sized .filled))
 
 -- The row's bytes with an entry's fields stored are the row with the entry carried out.
 pub carries : (s : List ℕ) (tracks at : ℕ) (e : Entry) (bytes row : List ℕ) → EntryAt tracks s bytes at e → length row ≡ tracks * 6 → rowOf tracks (storedAt s (at + 2) (e .mask) row ((e .track - 1) * 6)) ≡ carryOut e (rowOf tracks row)
 carries s tracks at e bytes row found long =
-    let sound = sound-entry tracks e (found .sound) in
+    let sound = sound-facts tracks e (found .sound) in
     let k = e .track - 1 in
     let inside : k < tracks = omega (arith, sound .low, sound .high) in
     let cell = take 6 (drop (k * 6) row) in
     let fields : drop (at + 2) s ≡ e .fields ++ bytes = sym (drop-drop 2 at s) ∙ ap (drop 2) (found .splits) in
     let six : length cell ≡ 6 = length-take-le 6 (drop (k * 6) row) (omega (arith, length-drop (k * 6) row)) in
-    let same : store (named (e .mask)) (drop (at + 2) s) cell ≡ store (named (e .mask)) (e .fields) cell = sym (store-take (named (e .mask)) (drop (at + 2) s) cell (omega (arith, ap length fields, length-append (e .fields) bytes, sound .fields))) ∙ rw (fields, ← sound .fields, take-at (e .fields) bytes (length (e .fields)) refl) in
+    let same : store (named (e .mask)) (drop (at + 2) s) cell ≡ store (named (e .mask)) (e .fields) cell = sym (store-take (named (e .mask)) (drop (at + 2) s) cell (omega (arith, ap length fields, length-append (e .fields) bytes, sound .filled))) ∙ rw (fields, ← sound .filled, take-at (e .fields) bytes (length (e .fields)) refl) in
     rw (same) (block-set tracks 6 k row (store (named (e .mask)) (e .fields) cell) inside (length-store (named (e .mask)) (e .fields) cell ∙ six) (omega arith) ∙ rw (block-at tracks 6 k row emptyCell inside))
 
 -- Where the loop over a row's entries stands: the entries left, and that carrying them out gives what all of them give.
@@ -133,15 +135,15 @@ pub record Carrying (s : List ℕ) (start : ℕ) (row₀ : List ℕ) (ahead : Ro
 pub entry-met : (s : List ℕ) (tracks left at : ℕ) (es : List Entry) (later : List (List Entry)) (reads : reading tracks (suc left) at (drop at s) ≡ whole (es ∷ later)) → (getD s at 0 ≡ 0 → ⊥) → EntryMet s tracks left at es later reads
 entry-met s tracks left at es later reads more =
     let next = at-entry s tracks left at es later reads more in
-    let sound = sound-entry tracks (next .e) (next .found .sound) in
+    let sound = sound-facts tracks (next .e) (next .found .sound) in
     let mask = next .found .mask-is in
     let track = next .found .track-is in
     let on = row-inside s tracks left (at + length (entryBytes (next .e))) (next .rest) later (next .reads-on) in
-    record
-    { named-inside = rw mask (omega (arith, on, sound .fields))
-    ; track-low = rw track (sound .low)
-    ; track-high = rw track (sound .high)
-    ; entry-long = rw (mask, sound .mask-sound)
+    record {
+      named-inside = rw mask (omega (arith, on, sound .filled));
+      track-low = rw track (sound .low);
+      track-high = rw track (sound .high);
+      entry-long = rw (mask, lt-ltb _ 64 (sound .small));
     }
 
 module _ (s : List ℕ) (start : ℕ) (row₀ : List ℕ) (ahead : RowAhead s start (length row₀)) where
@@ -168,10 +170,10 @@ module _ (s : List ℕ) (start : ℕ) (row₀ : List ℕ) (ahead : RowAhead s st
           let t′ : track ≡ next .e .track = t ∙ next .found .track-is in
           let l′ : n ≡ length (entryBytes (next .e)) = entry-steps s (ahead .tracks) (ahead .left) at (state .entries) (ahead .later) (state .reads) more next n (l ∙ ap entryLength m) in
           let moved = carries s (ahead .tracks) at (next .e) (next .bytes) row (next .found) (long ∙ ahead .fits) in
-          record
-          { entries = next .rest
-          ; reads = rw l′ (next .reads-on)
-          ; same = rw (r, m′, t′, moved) (ap (λ (es : List Entry). carryAll es (rowOf (ahead .tracks) row)) (sym (next .is)) ∙ state .same)
+          record {
+            entries = next .rest;
+            reads = rw l′ (next .reads-on);
+            same = rw (r, m′, t′, moved) (ap (λ (es : List Entry). carryAll es (rowOf (ahead .tracks) row)) (sym (next .is)) ∙ state .same);
           }
 
     pub carrying-last : getD s at 0 ≡ 0 → (reading (ahead .tracks) (ahead .left) (at + 1) (drop (at + 1) s) ≡ whole (ahead .later)) × (row ≡ joined (carryAll (ahead .entries) (rowOf (ahead .tracks) row₀))) × (at + 1 ≤ length s)

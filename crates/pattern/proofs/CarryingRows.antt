@@ -72,13 +72,13 @@ module _ (s : List ℕ) (rows tracks : ℕ) where
       module _ (es : List Entry) (rest : List (List Entry)) (is : state .later ≡ es ∷ rest) where
         abbrev ahead : RowAhead s at (length (take (tracks * 6) (drop base out)))
         ahead =
-            record
-            { tracks = tracks
-            ; left = l
-            ; entries = es
-            ; later = rest
-            ; reads = rw some at (state .reads) ∙ ap whole is
-            ; fits = ap length rows-part ∙ length-replicate (tracks * 6) 0
+            record {
+              tracks = tracks;
+              left = l;
+              entries = es;
+              later = rest;
+              reads = rw some at (state .reads) ∙ ap whole is;
+              fits = ap length rows-part ∙ length-replicate (tracks * 6) 0;
             }
 
         turn : (part : List ℕ) (after : ℕ) → Carried s at (take (tracks * 6) (drop base out)) after part → CarryingRows s rows tracks (take base out ++ (part ++ drop (tracks * 6) (drop base out))) after (base + tracks * 6) l
@@ -86,13 +86,13 @@ module _ (s : List ℕ) (rows tracks : ℕ) where
             let done = carried ahead in
             let row : part ≡ joined (rowFrom tracks es) = done .1 ∙ ap (λ (bytes : List ℕ). joined (carryAll es (rowOf tracks bytes))) rows-part ∙ ap (λ (row : Row). joined (carryAll es row)) (zeros-row tracks) in
             let long : length part ≡ tracks * 6 = ap length row ∙ length-joined 6 (row-from-shaped tracks es) in
-            record
-            { later = rest
-            ; done = state .done ++ part
-            ; reads = done .0
-            ; base-is = length-append (state .done) part ∙ omega (arith, state .base-is, long)
-            ; holds = rw rows-rest (ap (_++ (part ++ replicate (l * (tracks * 6)) 0)) (ap (take base) (state .holds) ∙ take-at (state .done) _ base (state .base-is)) ∙ sym (append-assoc (state .done) part _))
-            ; gives = state .gives ∙ rw is (rw (← row) (sym (append-assoc (state .done) part _)))
+            record {
+              later = rest;
+              done = state .done ++ part;
+              reads = done .0;
+              base-is = length-append (state .done) part ∙ omega (arith, state .base-is, long);
+              holds = rw rows-rest (ap (_++ (part ++ replicate (l * (tracks * 6)) 0)) (ap (take base) (state .holds) ∙ take-at (state .done) _ base (state .base-is)) ∙ sym (append-assoc (state .done) part _));
+              gives = state .gives ∙ rw is (rw (← row) (sym (append-assoc (state .done) part _)));
             }
 
       -- The part that is lent is k bytes long.
@@ -114,15 +114,15 @@ pub loaded : (s : List ℕ) (at size after : ℕ) (cleared row : List ℕ) → c
 loaded s at size after cleared row zeros carried ahead =
     let long : length cleared ≡ size = ap length zeros ∙ length-replicate size 0 in
     let found =
-        carried
-        (record
-        { tracks = ahead .tracks
-        ; left = ahead .left
-        ; entries = ahead .entries
-        ; later = ahead .later
-        ; reads = ahead .reads
-        ; fits = long ∙ ahead .fits
-        })
-        in
+    carried
+    (record {
+      tracks = ahead .tracks;
+      left = ahead .left;
+      entries = ahead .entries;
+      later = ahead .later;
+      reads = ahead .reads;
+      fits = long ∙ ahead .fits;
+    })
+    in
     let empty : rowOf (ahead .tracks) cleared ≡ emptyRow (ahead .tracks) = ap (rowOf (ahead .tracks)) (zeros ∙ ap (λ (n : ℕ). replicate n 0) (ahead .fits)) ∙ zeros-row (ahead .tracks) in
     (found .0, found .1 ∙ ap (λ (r : Row). joined (carryAll (ahead .entries) r)) empty, found .2)

@@ -7,16 +7,15 @@ use native.Mathlib.Omega.{arith}
 use native.Mathlib.Nat.{add-zero}
 use lib.ListN.{length, getD, drop, length-append, length-drop, drop-of-length-le}
 use lib.Seq.{drop-append-seam, drop-drop, getD-drop, drop-cons}
-use borrow.Author.Tests.{leb-true, eqb-true}
 use Rattle.refusal.specs.Numbers.{refusal}
 use Rattle.refusal.specs.declared.Cause.the-variants.{Stream}
 use Rattle.refusal.specs.declared.Verdict.the-variants.{Accepted, Refused}
-use Rattle.pattern.specs.Cells.{both}
-use Rattle.pattern.specs.Entries.{Entry, entryBytes, soundEntry, soundMask, fieldsNamed}
+use Rattle.pattern.specs.Entries.{Entry, entryBytes, soundEntry}
 use Rattle.pattern.specs.Stream.{Front, nothing, rowEnd, entry, fault, front, Reading, brokenAt, whole, newRow, addEntry, reading}
 use Rattle.pattern.specs.Answers.{verdictOf}
 use Rattle.pattern.specs.Steps.{frontLength}
-use Rattle.pattern.proofs.Reading.{front-of, both-true, reading-end, reading-over, reading-nothing, reading-fault, reading-row-end, reading-entry}
+use Rattle.pattern.proofs.Reading.{front-of, reading-end, reading-over, reading-nothing, reading-fault, reading-row-end, reading-entry}
+use Rattle.pattern.proofs.Soundness.{sound-facts}
 
 -- What stands at the front of a part is there in the whole.
 module _ (s xs rest : List ℕ) (at : ℕ) (splits : drop at s ≡ xs ++ rest) where
@@ -48,37 +47,23 @@ module _ (tracks : ℕ) (s rest : List ℕ) (at : ℕ) where
   pub row-end-at : front tracks (drop at s) ≡ rowEnd rest → RowEndAt s rest at
   row-end-at f =
       let splits : drop at s ≡ (0 ∷ []) ++ rest = front-of tracks (drop at s) f in
-      record
-      { rest-is = after-piece s (0 ∷ []) rest at splits
-      ; byte = ap (λ (i : ℕ). getD s i 0) (sym (add-zero at)) ∙ piece-byte s (0 ∷ []) rest at splits 0
-      ; inside = piece-inside s (0 ∷ []) rest at splits (omega arith)
+      record {
+        rest-is = after-piece s (0 ∷ []) rest at splits;
+        byte = ap (λ (i : ℕ). getD s i 0) (sym (add-zero at)) ∙ piece-byte s (0 ∷ []) rest at splits 0;
+        inside = piece-inside s (0 ∷ []) rest at splits (omega arith);
       }
 
   pub entry-at : (e : Entry) → front tracks (drop at s) ≡ entry e rest → EntryAt tracks s rest at e
   entry-at e f =
       let found = front-of tracks (drop at s) f in
-      record
-      { rest-is = after-piece s (entryBytes e) rest at (found .1)
-      ; track-is = ap (λ (i : ℕ). getD s i 0) (sym (add-zero at)) ∙ piece-byte s (entryBytes e) rest at (found .1) 0
-      ; mask-is = piece-byte s (entryBytes e) rest at (found .1) 1
-      ; inside = piece-inside s (entryBytes e) rest at (found .1) (omega arith)
-      ; sound = found .0
-      ; splits = found .1
+      record {
+        rest-is = after-piece s (entryBytes e) rest at (found .1);
+        track-is = ap (λ (i : ℕ). getD s i 0) (sym (add-zero at)) ∙ piece-byte s (entryBytes e) rest at (found .1) 0;
+        mask-is = piece-byte s (entryBytes e) rest at (found .1) 1;
+        inside = piece-inside s (entryBytes e) rest at (found .1) (omega arith);
+        sound = found .0;
+        splits = found .1;
       }
-
--- A sound entry's track is from 1 to the tracks, its mask is sound, and its fields are as many as it names.
-pub record SoundEntry (tracks : ℕ) (e : Entry) : Type 0 where
-  pub low : 1 ≤ e .track
-  pub high : e .track ≤ tracks
-  pub mask-sound : soundMask (e .mask) ≡ true
-  pub fields : length (e .fields) ≡ fieldsNamed (e .mask)
-
-pub sound-entry : (tracks : ℕ) (e : Entry) → soundEntry tracks e ≡ true → SoundEntry tracks e
-sound-entry tracks e h =
-    let a = both-true _ _ h in
-    let b = both-true _ _ (a .1) in
-    let d = both-true _ _ (b .1) in
-    record { low = leb-true _ _ (a .0); high = leb-true _ _ (b .0); mask-sound = d .0; fields = eqb-true _ _ (d .1) }
 
 verdict-new-row : (r : Reading) → verdictOf (newRow r) ≡ verdictOf r
 verdict-new-row (brokenAt p) = refl
@@ -114,7 +99,7 @@ module _ (s : List ℕ) (tracks rows left at n : ℕ) (some : left ≡ suc rows)
           rw (length-of e, some, reading-row-end tracks rows at (drop at s) rest e, verdict-new-row, found .rest-is) (refl, found .inside)
       go (entry f rest) e =
           let found = entry-at tracks s rest at f e in
-          absurd (omega (arith, found .track-is, z, sound-entry tracks f (found .sound) .low))
+          absurd (omega (arith, found .track-is, z, sound-facts tracks f (found .sound) .low))
 
   pub check-entry : (n ≡ 0 → ⊥) → (getD s at 0 ≡ 0 → ⊥) → (verdictOf (reading tracks left (at + n) (drop (at + n) s)) ≡ verdictOf (reading tracks left at (drop at s))) × (at + n ≤ length s)
   check-entry p z = go (front tracks (drop at s)) refl

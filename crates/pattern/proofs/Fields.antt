@@ -19,9 +19,15 @@ storedFrom names values out to = take to out ++ (store names values (take (lengt
 module _ (ns : List Bool) (values out : List ℕ) (to : ℕ) (inside : to < length out) where
   pub stored-named : storedFrom (true ∷ ns) values out to ≡ storedFrom ns (drop 1 values) (set out to (getD values 0 0)) (to + 1)
   stored-named =
-      rw (add-one to, add-suc to (length ns), suc-add to (length ns), take-suc-set out to (getD values 0 0) inside,
-      drop-set-lt (suc to) out to (getD values 0 0) (omega arith),
-      drop-set-lt (suc (to + length ns)) out to (getD values 0 0) (omega arith), drop-cons out to 0 inside)
+      rw (
+        add-one to,
+        add-suc to (length ns),
+        suc-add to (length ns),
+        take-suc-set out to (getD values 0 0) inside,
+        drop-set-lt (suc to) out to (getD values 0 0) (omega arith),
+        drop-set-lt (suc (to + length ns)) out to (getD values 0 0) (omega arith),
+        drop-cons out to 0 inside,
+      )
       (sym (append-assoc (take to out) (getD values 0 0 ∷ []) _))
 
   pub stored-other : storedFrom (false ∷ ns) values out to ≡ storedFrom ns values out (to + 1)

@@ -38,13 +38,13 @@ module _ (s : List ℕ) (tracks at left : ℕ) (later : List (List Entry)) (read
     next : (after : ℕ) (line : List ℕ) → Loaded s at size after line → NextRow s tracks after l later line
     next after line loads =
         let got = loads ahead in
-        record
-        { es = es
-        ; rest = rest
-        ; is = is
-        ; left = got .0
-        ; line-is = got .1
-        ; row-is = ap (rowOf tracks) (got .1) ∙ row-joined (rowFrom tracks es) (row-from-shaped tracks es)
+        record {
+          es = es;
+          rest = rest;
+          is = is;
+          left = got .0;
+          line-is = got .1;
+          row-is = ap (rowOf tracks) (got .1) ∙ row-joined (rowFrom tracks es) (row-from-shaped tracks es);
         }
 
   found : (es : List Entry) × (rest : List (List Entry)) × (later ≡ es ∷ rest)
@@ -104,12 +104,12 @@ module _ (s : List ℕ) (rows tracks : ℕ) where
     module _ (l : ℕ) (some : left ≡ suc l) (line : List ℕ) (after : ℕ) (next : NextRow s tracks after l (state .later) line) (n : ℕ) (long : length line ≡ tracks * 6) (is : n ≡ packedLength (rowsOf 1 tracks line)) where
       sum : n + packedLength (rowsFrom tracks (next .rest)) ≡ packedLength (rowsFrom tracks (state .later))
       sum =
-          omega
-          ( arith
-          , is
-          , one-length tracks line (rowFrom tracks (next .es)) long (next .row-is)
-          , length-more (rowFrom tracks (next .es)) (rowsFrom tracks (next .rest))
-          , ap (λ (es : List (List Entry)). packedLength (rowsFrom tracks es)) (next .is)
+          omega (
+            arith,
+            is,
+            one-length tracks line (rowFrom tracks (next .es)) long (next .row-is),
+            length-more (rowFrom tracks (next .es)) (rowsFrom tracks (next .rest)),
+            ap (λ (es : List (List Entry)). packedLength (rowsFrom tracks es)) (next .is),
           )
 
       pub counting-room : length′ + n ≤ packedLength (rowsRead s rows tracks)
@@ -151,10 +151,10 @@ module _ (s : List ℕ) (rows tracks : ℕ) (out₀ : List ℕ) where
 
       pub repacking-turn : (out′ : List ℕ) (to′ : ℕ) → length out′ ≡ length out → to′ ≡ to + length row → take to′ out′ ≡ take to out ++ row → RepackingRows s rows tracks out₀ out′ after to′ l
       repacking-turn out′ to′ long p q =
-          record
-          { later = next .rest
-          ; reads = next .left
-          ; writing = writing-more out₀ 0 (packedStream (rowsRead s rows tracks)) row _ (rw splits at (state .writing)) long p q
+          record {
+            later = next .rest;
+            reads = next .left;
+            writing = writing-more out₀ 0 (packedStream (rowsRead s rows tracks)) row _ (rw splits at (state .writing)) long p q;
           }
 
 -- The answer of repacking, by the verdict of the stream.

@@ -53,13 +53,13 @@ module _ (s : List ℕ) (n : ℕ) (all : RowsRead s n) where
 
       abbrev pub skips-ahead : RowAhead s at (all .tracks * 6)
       skips-ahead =
-          record
-          { tracks = all .tracks
-          ; left = all .rows - suc (state .done)
-          ; entries = getD (all .entries) (state .done) []
-          ; later = drop (suc (state .done)) (all .entries)
-          ; reads = row-behind s n all at (state .done) inside (state .reads) (all .rows - suc (state .done)) (omega (arith, inside))
-          ; fits = refl
+          record {
+            tracks = all .tracks;
+            left = all .rows - suc (state .done);
+            entries = getD (all .entries) (state .done) [];
+            later = drop (suc (state .done)) (all .entries);
+            reads = row-behind s n all at (state .done) inside (state .reads) (all .rows - suc (state .done)) (omega (arith, inside));
+            fits = refl;
           }
 
       pub skips-turn : (after : ℕ) → Skipped s at after → SkippingRows s n all after l
@@ -90,13 +90,13 @@ module _ (s : List ℕ) (rows tracks row track : ℕ) (ok : verdictOf (readStrea
   module _ (at : ℕ) (after : AfterRows s row at) where
     abbrev pub cell-ahead : RowAhead s at (tracks * 6)
     cell-ahead =
-        record
-        { tracks = tracks
-        ; left = rows - suc row
-        ; entries = getD (read .0) row []
-        ; later = drop (suc row) (read .0)
-        ; reads = row-behind s row all-read at row row-there (after all-read) (rows - suc row) (omega (arith, row-there))
-        ; fits = refl
+        record {
+          tracks = tracks;
+          left = rows - suc row;
+          entries = getD (read .0) row [];
+          later = drop (suc row) (read .0);
+          reads = row-behind s row all-read at row row-there (after all-read) (rows - suc row) (omega (arith, row-there));
+          fits = refl;
         }
 
     pub cell-shown : (size end : ℕ) (line : List ℕ) → size ≡ tracks * 6 → Loaded s at size end line → cellAt line ((track - 1) * 6) ≡ cellRead s rows tracks row track

@@ -42,16 +42,16 @@ module _ (rows tracks : ℕ) where
     checked fits = rw fits
 
     pub accepts-exactly : sizesFit rows tracks ≡ true → (checkAnswer stream rows tracks ≡ Accepted) ↔ ((entries : List (List Entry)) × StreamOf rows tracks stream entries)
-    accepts-exactly fits =
-        ( λ h. (let read = accepted-reading (readStream rows tracks stream) .0 (sym (checked fits) ∙ h) in (read .0, reads-exactly rows tracks stream (read .0) .0 (read .1)))
-        , λ h. checked fits ∙ accepted-reading (readStream rows tracks stream) .1 (h .0, reads-exactly rows tracks stream (h .0) .1 (h .1))
-        )
+    accepts-exactly fits = (
+      λ h. (let read = accepted-reading (readStream rows tracks stream) .0 (sym (checked fits) ∙ h) in (read .0, reads-exactly rows tracks stream (read .0) .0 (read .1))),
+      λ h. checked fits ∙ accepted-reading (readStream rows tracks stream) .1 (h .0, reads-exactly rows tracks stream (h .0) .1 (h .1)),
+    )
 
     pub refuses-exactly : (place : ℕ) → sizesFit rows tracks ≡ true → (checkAnswer stream rows tracks ≡ Refused (refusal Stream place)) ↔ BrokenAt rows tracks stream place
-    refuses-exactly place fits =
-        ( λ h. refused-exactly rows tracks stream place .0 (refused-reading (readStream rows tracks stream) place .0 (sym (checked fits) ∙ h))
-        , λ h. checked fits ∙ refused-reading (readStream rows tracks stream) place .1 (refused-exactly rows tracks stream place .1 h)
-        )
+    refuses-exactly place fits = (
+      λ h. refused-exactly rows tracks stream place .0 (refused-reading (readStream rows tracks stream) place .0 (sym (checked fits) ∙ h)),
+      λ h. checked fits ∙ refused-reading (readStream rows tracks stream) place .1 (refused-exactly rows tracks stream place .1 h),
+    )
 
   -- By the two tests of packing.
   module _ (cells : List ℕ) (room n : ℕ) where

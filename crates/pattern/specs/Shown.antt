@@ -32,11 +32,11 @@ noteByte (Unknown note) = note
 -- N1: all but the note as stored.
 abbrev pub shownCell : List ℕ → Cell
 shownCell cell =
-    record
-    { note = shownNote (getD cell 0 0)
-    ; instrument = getD cell 1 0
-    ; command1 = getD cell 2 0
-    ; parameter1 = getD cell 3 0
-    ; command2 = getD cell 4 0
-    ; parameter2 = getD cell 5 0
+    record {
+      note = shownNote (getD cell 0 0);
+      instrument = getD cell 1 0;
+      command1 = getD cell 2 0;
+      parameter1 = getD cell 3 0;
+      command2 = getD cell 4 0;
+      parameter2 = getD cell 5 0;
     }

@@ -4,11 +4,20 @@ mod packer;
 mod reader;
 mod repacker;
 
-use crate::cells::{Cell, Note};
-use crate::packer::{packed_length, write_rows};
-use crate::reader::{check_stream, load_row, skip_rows, unpack_rows};
-use crate::repacker::{repack_rows, repacked_length};
-use refusal::{refuse, Cause, Refusal, Verdict};
+use crate::cells::Cell;
+use crate::cells::Note;
+use crate::packer::packed_length;
+use crate::packer::write_rows;
+use crate::reader::check_stream;
+use crate::reader::load_row;
+use crate::reader::skip_rows;
+use crate::reader::unpack_rows;
+use crate::repacker::repack_rows;
+use crate::repacker::repacked_length;
+use refusal::Cause;
+use refusal::Refusal;
+use refusal::Verdict;
+use refusal::refuse;
 ghost use mathlib.Core.Path.{_≡_};
 ghost use lib.ListN.{length};
 ghost use Prim.Native.Nat.{_+_, _*_, _≤_, _<_};
@@ -148,7 +157,13 @@ pub fn pack(cells: &[u8], rows: usize, tracks: usize, out: &mut [u8]) -> Packing
 }
 
 // Repacks an accepted stream into the room that is left: 17. `line` is room for a row.
-fn repack_accepted(stream: &[u8], rows: usize, tracks: usize, line: &mut [u8], out: &mut [u8]) -> Packing
+fn repack_accepted(
+    stream: &[u8],
+    rows: usize,
+    tracks: usize,
+    line: &mut [u8],
+    out: &mut [u8],
+) -> Packing
     requires { ⌜ (verdictOf (readStream rows tracks (now stream)) ≡ Accepted) × (length (now line) ≡ tracks * 6) × (rows < 65536) × (tracks < 255) ⌝ }
     ensures { λ r. ⌜ (r ≡ packedIf (packedLength (rowsRead (now (stream .entry)) rows tracks)) (length (now (out .entry)))) × (now (out .exit) ≡ outputPacked r (packedStream (rowsRead (now (stream .entry)) rows tracks)) (now (out .entry))) ⌝ }
 {
@@ -180,11 +195,25 @@ fn shown_at(row: &[u8], at: usize) -> Cell
     requires { ⌜ at + 6 ≤ length (now row) ⌝ }
     ensures { λ r. ⌜ r ≡ shownCell (cellAt (now (row .entry)) at) ⌝ }
 {
-    shown([row[at], row[at + 1], row[at + 2], row[at + 3], row[at + 4], row[at + 5]])
+    shown([
+        row[at],
+        row[at + 1],
+        row[at + 2],
+        row[at + 3],
+        row[at + 4],
+        row[at + 5],
+    ])
 }
 
 // The cell of an accepted stream at a row, from 0, and a track, from 1. `line` is room for a row.
-fn read_cell(stream: &[u8], rows: usize, tracks: usize, row: usize, track: usize, line: &mut [u8]) -> Cell
+fn read_cell(
+    stream: &[u8],
+    rows: usize,
+    tracks: usize,
+    row: usize,
+    track: usize,
+    line: &mut [u8],
+) -> Cell
     requires { ⌜ (verdictOf (readStream rows tracks (now stream)) ≡ Accepted) × (cellThere rows tracks row track ≡ true) × (length (now line) ≡ tracks * 6) ⌝ }
     ensures { λ r. ⌜ r ≡ shownCell (cellRead (now (stream .entry)) rows tracks row track) ⌝ }
 {
@@ -235,7 +264,12 @@ pub extern "C" fn dbm0_check_pattern(stream: &[u8], rows: usize, tracks: usize) 
 
 // Unpacks a stream, for C.
 #[no_mangle]
-pub extern "C" fn dbm0_unpack_pattern(stream: &[u8], rows: usize, tracks: usize, out: &mut [u8]) -> PatternAnswer
+pub extern "C" fn dbm0_unpack_pattern(
+    stream: &[u8],
+    rows: usize,
+    tracks: usize,
+    out: &mut [u8],
+) -> PatternAnswer
     ensures { λ r. ⌜ (r ≡ toldUnpacking (unpackAnswer (now (stream .entry)) rows tracks (length (now (out .entry))))) × (now (out .exit) ≡ unpackOutput (now (stream .entry)) rows tracks (now (out .entry))) ⌝ }
 {
     match unpack(stream, rows, tracks, out) {
@@ -246,7 +280,12 @@ pub extern "C" fn dbm0_unpack_pattern(stream: &[u8], rows: usize, tracks: usize,
 
 // Packs a pattern's cells, for C.
 #[no_mangle]
-pub extern "C" fn dbm0_pack_pattern(cells: &[u8], rows: usize, tracks: usize, out: &mut [u8]) -> PatternAnswer
+pub extern "C" fn dbm0_pack_pattern(
+    cells: &[u8],
+    rows: usize,
+    tracks: usize,
+    out: &mut [u8],
+) -> PatternAnswer
     ensures { λ r. ⌜ (r ≡ toldPacking (packAnswer (now (cells .entry)) rows tracks (length (now (out .entry))))) × (now (out .exit) ≡ packOutput (now (cells .entry)) rows tracks (now (out .entry))) ⌝ }
 {
     match pack(cells, rows, tracks, out) {

@@ -1,5 +1,7 @@
 // Reading packed rows: what stands at a place of a stream, the check, and carrying entries out.
-use refusal::{refuse, Cause, Verdict};
+use refusal::Cause;
+use refusal::Verdict;
+use refusal::refuse;
 ghost use mathlib.Core.Path.{_≡_};
 ghost use Prim.Native.Nat.{ℕ, _+_, _*_, _<_, _≤_};
 ghost use mathlib.Core.Bool.{cond};
@@ -13,10 +15,70 @@ ghost use Rattle.pattern.specs.Steps.{entryLengths, entryLength, pieceLe
 
 // How long an entry with each sound mask is, in bytes: the track, the mask and the named fields.
 const LENGTHS: [u8; 64] = [
-    2, 3, 3, 4, 3, 4, 4, 5, 3, 4, 4, 5, 4, 5, 5, 6,
-    3, 4, 4, 5, 4, 5, 5, 6, 4, 5, 5, 6, 5, 6, 6, 7,
-    3, 4, 4, 5, 4, 5, 5, 6, 4, 5, 5, 6, 5, 6, 6, 7,
-    4, 5, 5, 6, 5, 6, 6, 7, 5, 6, 6, 7, 6, 7, 7, 8,
+    2,
+    3,
+    3,
+    4,
+    3,
+    4,
+    4,
+    5,
+    3,
+    4,
+    4,
+    5,
+    4,
+    5,
+    5,
+    6,
+    3,
+    4,
+    4,
+    5,
+    4,
+    5,
+    5,
+    6,
+    4,
+    5,
+    5,
+    6,
+    5,
+    6,
+    6,
+    7,
+    3,
+    4,
+    4,
+    5,
+    4,
+    5,
+    5,
+    6,
+    4,
+    5,
+    5,
+    6,
+    5,
+    6,
+    6,
+    7,
+    4,
+    5,
+    5,
+    6,
+    5,
+    6,
+    6,
+    7,
+    5,
+    6,
+    6,
+    7,
+    6,
+    7,
+    7,
+    8,
 ];
 
 // A byte as a usize.
@@ -115,11 +177,7 @@ pub fn clear(out: &mut [u8])
 fn pick(bit: u8, value: u8, old: u8) -> u8
     ensures { λ r. ⌜ r ≡ cond (eqb bit 1) value old ⌝ }
 {
-    if bit == 1 {
-        value
-    } else {
-        old
-    }
+    if bit == 1 { value } else { old }
 }
 
 // Stores the fields that a mask names, which stand at `from`, in the cell at `to`; the others stay.

@@ -1,5 +1,6 @@
 // The packer's stream of the pattern that an accepted stream holds, a row at a time.
-use crate::packer::{packed_length, write_row};
+use crate::packer::packed_length;
+use crate::packer::write_row;
 use crate::reader::load_row;
 ghost use mathlib.Core.Path.{_≡_};
 ghost use Prim.Native.Nat.{_*_, _<_};

@@ -10,93 +10,35 @@ use lib.ListN.{drop}
 use Rattle.pattern.proofs.Sizes.{sizes}
 use Rattle.pattern.proofs.unpack.Statement.{statement}
 use Rattle.pattern.proofs.unpack.Tie as tie
-use Rattle.pattern.proofs.unpack.Reads as reads
-use Rattle.pattern.proofs.unpack.Lts as lts
-use Rattle.pattern.proofs.reader.check_stream.Reads as check-stream-reads
-use Rattle.pattern.proofs.reader.unpack_rows.Reads as unpack-rows-reads
-use Rattle.pattern.proofs.sizes_fit.Reads as sizes-fit-reads
-use Rattle.refusal.proofs.refuse.Reads as refuse-reads
 
--- src/lib.rt:113:9
-sizes-fit-requires : tie.Need-sizes-fit-requires
-sizes-fit-requires c κs = search needs
-
--- src/lib.rt:114:35
-refuse-requires : tie.Need-refuse-requires
-refuse-requires c κs = search needs
-
--- src/lib.rt:114:9
 returns : tie.Need-returns
 returns c = (simp (← c .before .before .sizes-fit .ensures, c .before .if1 .taken, c .refuse .ensures), simp (← c .before .before .sizes-fit .ensures, c .before .if1 .taken))
 
--- src/lib.rt:116:24
 mul-size : tie.Need-mul-size
 mul-size c = let fits = sizes (c .before .before .before .before .args .rows) (c .before .before .before .before .args .tracks) (sym (c .before .sizes-fit .ensures) ∙ not-false _ (c .if1 .left)) in record { fits = omega arith }
 
--- src/lib.rt:116:16
 mul-size-2 : tie.Need-mul-size-2
 mul-size-2 c = let fits = sizes (c .before .before .before .before .args .rows) (c .before .before .before .before .args .tracks) (sym (c .before .sizes-fit .ensures) ∙ not-false _ (c .if1 .left)) in record { fits = omega arith }
 
--- src/lib.rt:118:35
-refuse-requires-2 : tie.Need-refuse-requires-2
-refuse-requires-2 c κs = search needs
-
--- src/lib.rt:118:9
 returns-2 : tie.Need-returns-2
 returns-2 c = (simp (← c .before .before .before .sizes-fit .ensures, c .before .before .if1 .left, lt-ltb _ _ (c .before .if2 .taken), c .refuse2 .ensures), simp (← c .before .before .before .sizes-fit .ensures, c .before .before .if1 .left, lt-ltb _ _ (c .before .if2 .taken)))
 
--- src/lib.rt:120:34
-check-stream-requires : tie.Need-check-stream-requires
-check-stream-requires c κs = search needs
-
--- src/lib.rt:120:29
-enum-known-r : tie.Need-enum-known-r
-enum-known-r c = search needs
-
--- src/lib.rt:121:9
 returns-3 : tie.Need-returns-3
 returns-3 c = let read = sym (c .before .before .before .check-stream .ensures) ∙ c .before .r .given .1 in (simp (← c .before .before .before .before .before .before .sizes-fit .ensures, c .before .before .before .before .before .if1 .left, le-ltb _ _ (c .before .before .before .before .if2 .left), read), simp (← c .before .before .before .before .before .before .sizes-fit .ensures, c .before .before .before .before .before .if1 .left, le-ltb _ _ (c .before .before .before .before .if2 .left), read))
 
 enum-told : tie.Need-enum-told
 enum-told c = search needs
 
--- src/lib.rt:123:39
-slice-relend-prefix-unpack-rows : tie.Need-slice-relend-prefix-unpack-rows
-slice-relend-prefix-unpack-rows c = search needs
-
--- src/lib.rt:123:39
 slice-aggregate-unpack-rows : tie.Need-slice-aggregate-unpack-rows
 slice-aggregate-unpack-rows c = sym (length-take-le (c .before .before .before .before .before .before .before .before .before .args .rows * (c .before .before .before .before .before .before .before .before .before .args .tracks * 6)) (c .before .before .before .before .before .before .before .before .before .args .out .now) (c .before .before .before .before .if2 .left))
 
--- src/lib.rt:123:5
 unpack-rows-requires : tie.Need-unpack-rows-requires
 unpack-rows-requires c κs = let fits = sizes (c .before .before .before .before .before .before .before .before .before .args .rows) (c .before .before .before .before .before .before .before .before .before .args .tracks) (sym (c .before .before .before .before .before .before .sizes-fit .ensures) ∙ not-false _ (c .before .before .before .before .before .if1 .left)) in (sym (c .before .before .before .check-stream .ensures) ∙ c .before .enum-told .given .1, length-take-le (c .before .before .before .before .before .before .before .before .before .args .rows * (c .before .before .before .before .before .before .before .before .before .args .tracks * 6)) (c .before .before .before .before .before .before .before .before .before .args .out .now) (c .before .before .before .before .if2 .left), omega arith)
 
--- src/lib.rt:110:1
-same-length : tie.Need-same-length
-same-length c = search needs
-
--- src/lib.rt:110:1
 returns-4 : tie.Need-returns-4
 returns-4 c = let read = sym (c .before .before .before .before .before .before .check-stream .ensures) ∙ c .before .before .before .before .enum-told .given .1 in (simp (← c .before .before .before .before .before .before .before .before .before .sizes-fit .ensures, c .before .before .before .before .before .before .before .before .if1 .left, le-ltb _ _ (c .before .before .before .before .before .before .before .if2 .left), read), simp (← c .before .before .before .before .before .before .before .before .before .sizes-fit .ensures, c .before .before .before .before .before .before .before .before .if1 .left, le-ltb _ _ (c .before .before .before .before .before .before .before .if2 .left), read) (ap (_++ drop (c .before .before .before .before .before .before .before .before .before .before .before .before .args .rows * (c .before .before .before .before .before .before .before .before .before .before .before .before .args .tracks * 6)) (c .before .before .before .before .before .before .before .before .before .before .before .before .args .out .now)) (c .before .before .unpack-rows .ensures)))
 
 pub unpack-spec : {M : Type 1} → statement M
 unpack-spec =
     tie.close
-    (tie.spec
-    sizes-fit-requires
-    refuse-requires
-    returns
-    mul-size
-    mul-size-2
-    refuse-requires-2
-    returns-2
-    check-stream-requires
-    enum-known-r
-    returns-3
-    enum-told
-    slice-relend-prefix-unpack-rows
-    slice-aggregate-unpack-rows
-    unpack-rows-requires
-    same-length
-    returns-4)
+    (tie.spec (λ c κs. search needs) (λ c κs. search needs) returns mul-size mul-size-2 (λ c κs. search needs) returns-2 (λ c κs. search needs) (λ c. search needs) returns-3 enum-told (λ c. search needs) slice-aggregate-unpack-rows unpack-rows-requires (λ c. search needs) returns-4)

@@ -6,9 +6,6 @@ use Rattle.pattern.specs.Steps.{RowsRead}
 use Rattle.pattern.proofs.SkippingRows.{SkippingRows, skips-first, skips-ahead, skips-turn, skips-last}
 use Rattle.pattern.proofs.reader.skip_rows.Statement.{statement}
 use Rattle.pattern.proofs.reader.skip_rows.Tie as tie
-use Rattle.pattern.proofs.reader.skip_rows.Reads as reads
-use Rattle.pattern.proofs.reader.skip_rows.Lts as lts
-use Rattle.pattern.proofs.reader.skip_row.Reads as skip-row-reads
 
 abbrev Inv-loop : tie.InvT-loop
 Inv-loop s n at₀ left₀ at left = (all : RowsRead s n) → SkippingRows s n all at left
@@ -16,31 +13,19 @@ Inv-loop s n at₀ left₀ at left = (all : RowsRead s n) → SkippingRows s n a
 abbrev μ-loop : tie.MeasureT-loop
 μ-loop s n at₀ left₀ at left = left
 
--- src/reader.rt:208:5
 loop-holds : tie.Need-loop-holds Inv-loop μ-loop
 loop-holds c = λ all. skips-first _ _ all
 
--- src/reader.rt:209:9
 skip-row-requires : tie.Need-skip-row-requires Inv-loop μ-loop
 skip-row-requires c κs = let some : c .before .loop .left ≡ suc (c .before .loop .left - 1) = omega arith in (c .before .before .before .pre .tracks * 6, skips-ahead (c .before .before .before .args .s .now) (c .before .before .before .args .n) (c .before .before .before .pre) (c .before .loop .at) (c .before .loop .left) (c .before .loop .inv (c .before .before .before .pre)) (c .before .loop .left - 1) some)
 
--- src/reader.rt:210:16
-sub-left : tie.Need-sub-left Inv-loop μ-loop
-sub-left c = search needs
-
--- src/reader.rt:208:5
-loop-less : tie.Need-loop-less Inv-loop μ-loop
-loop-less c = search needs
-
--- src/reader.rt:208:5
 loop-again : tie.Need-loop-again Inv-loop μ-loop
 loop-again c = λ all. let some : c .before .before .loop .left ≡ suc (c .before .before .loop .left - 1) = omega arith in skips-turn (c .before .before .before .before .args .s .now) (c .before .before .before .before .args .n) all (c .before .before .loop .at) (c .before .before .loop .left) (c .before .before .loop .inv all) (c .before .before .loop .left - 1) some (c .skip-row .result) (c .skip-row .ensures)
 
--- src/reader.rt:202:1
 returns : tie.Need-returns Inv-loop μ-loop
 returns c = λ all. skips-last (c .before .before .before .args .s .now) (c .before .before .before .args .n) all (c .before .loop .at) (c .before .loop .left) (c .before .loop .inv all) (omega arith)
 
 pub skip-rows-spec : {M : Type 1} → statement M
 skip-rows-spec =
     tie.close
-    (tie.spec Inv-loop μ-loop loop-holds skip-row-requires sub-left loop-less loop-again returns)
+    (tie.spec Inv-loop μ-loop loop-holds skip-row-requires (λ c. search needs) (λ c. search needs) loop-again returns)
