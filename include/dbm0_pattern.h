@@ -26,7 +26,7 @@
  *   written length stay as they were.
  * - No call keeps any state, allocates, or waits. They may run on any thread
  *   and at the same time, as long as no call's output is used by another.
- * - A call needs less than 256 bytes of stack.
+ * - A call needs less than 512 bytes of stack.
  * - A call with an output of length 0 tells the needed length: the answer is
  *   then DBM0_PATTERN_OUTPUT_TOO_SHORT with the length as its place (or, for
  *   a pattern of 0 rows, success with length 0).

@@ -14,6 +14,9 @@ pub record Sizes (rows tracks : ℕ) : Type 0 where
   pub few-tracks : tracks ≤ 254
   pub small : rows * (tracks * 6) ≤ 65535 * 1524
 
+wide : (tracks : ℕ) → tracks ≤ 254 → tracks * 6 ≤ 1524
+wide tracks h = omega arith
+
 pub sizes : (rows tracks : ℕ) → sizesFit rows tracks ≡ true → Sizes rows tracks
 sizes rows tracks h =
     let a = both-true _ _ h in
@@ -21,5 +24,4 @@ sizes rows tracks h =
     let d = both-true _ _ (b .1) in
     let few : rows ≤ 65535 = leb-true _ _ (a .0) in
     let high : tracks ≤ 254 = leb-true _ _ (d .0) in
-    let wide : tracks * 6 ≤ 1524 = omega arith in
-    record { few-rows = few; some-tracks = leb-true _ _ (b .0); few-tracks = high; small = mul-le-mul few wide }
+    record { few-rows = few; some-tracks = leb-true 4 tracks (b .0); few-tracks = high; small = mul-le-mul few (wide tracks high) }

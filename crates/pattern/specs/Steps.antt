@@ -33,6 +33,10 @@ frontLength (rowEnd s) = 1
 frontLength (entry e s) = length (entryBytes e)
 frontLength fault = 0
 
+-- A list with the named fields stored from a place on, as far as the names go.
+abbrev pub storedFrom : List Bool → List ℕ → List ℕ → ℕ → List ℕ
+storedFrom names values out to = take to out ++ (store names values (take (length names) (drop to out)) ++ drop (to + length names) out)
+
 -- The cell at a place of a row's bytes, with the fields stored that a mask names.
 abbrev pub storedAt : List ℕ → ℕ → ℕ → List ℕ → ℕ → List ℕ
 storedAt s from mask out to = take to out ++ (store (named mask) (drop from s) (take 6 (drop to out)) ++ drop (to + 6) out)

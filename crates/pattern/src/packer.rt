@@ -31,7 +31,7 @@ fn count_few(bytes: &[u8]) -> u8
 }
 
 // How many bytes are not 0, counted by blocks that a byte can count.
-pub fn non_zero_bytes(bytes: &[u8]) -> usize
+fn non_zero_bytes(bytes: &[u8]) -> usize
     ensures { λ r. ⌜ r ≡ length (nonZeros (now (bytes .entry))) ⌝ }
 {
     let mut count: usize = 0;
@@ -60,7 +60,7 @@ fn filled(cells: &[u8], at: usize) -> bool
 }
 
 // How many of the cells are not empty.
-pub fn filled_cells(cells: &[u8], n: usize) -> usize
+fn filled_cells(cells: &[u8], n: usize) -> usize
     requires { ⌜ length (now cells) ≡ n * 6 ⌝ }
     ensures { λ r. ⌜ (r ≡ nonEmptyCells (blocksOf n 6 (now (cells .entry)))) × (r ≤ n) ⌝ }
 {

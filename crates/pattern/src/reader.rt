@@ -7,11 +7,11 @@ ghost use Prim.Native.Nat.{ℕ, _+_, _*_, _<_, _≤_};
 ghost use mathlib.Core.Bool.{cond};
 ghost use lib.Dec.{eqb};
 ghost use lib.ListN.{length, drop, replicate};
-ghost use Rattle.pattern.specs.Entries.{fieldsNamed};
+ghost use Rattle.pattern.specs.Entries.{bits, count, fieldsNamed};
 ghost use Rattle.pattern.specs.Stream.{front, readStream, reading, whole, cellsRead};
 ghost use Rattle.pattern.specs.Answers.{verdictOf};
 ghost use Rattle.refusal.specs.declared.Verdict.the-variants.{Accepted};
-ghost use Rattle.pattern.specs.Steps.{entryLengths, entryLength, pieceLength, frontLength, storedAt, RowAhead, Carried, Loaded, Skipped, RowsRead, AfterRows};
+ghost use Rattle.pattern.specs.Steps.{entryLengths, entryLength, pieceLength, frontLength, storedFrom, storedAt, RowAhead, Carried, Loaded, Skipped, RowsRead, AfterRows};
 
 // How long an entry with each sound mask is, in bytes: the track, the mask and the named fields.
 const LENGTHS: [u8; 64] = [
@@ -163,7 +163,7 @@ pub fn check_stream(s: &[u8], rows: usize, tracks: usize) -> Verdict
 }
 
 // Fills a slice with zeros.
-pub fn clear(out: &mut [u8])
+fn clear(out: &mut [u8])
     ensures { λ r. ⌜ now (out .exit) ≡ replicate (length (now (out .entry))) 0 ⌝ }
 {
     let mut i: usize = 0;
@@ -180,27 +180,42 @@ fn pick(bit: u8, value: u8, old: u8) -> u8
     if bit == 1 { value } else { old }
 }
 
-// Stores the fields that a mask names, which stand at `from`, in the cell at `to`; the others stay.
-fn store_fields(s: &[u8], from: usize, mask: u8, out: &mut [u8], to: usize)
-    requires { ⌜ (from + fieldsNamed mask < length (now s)) × (to + 6 ≤ length (now out)) ⌝ }
-    ensures { λ r. ⌜ now (out .exit) ≡ storedAt (now (s .entry)) from mask (now (out .entry)) to ⌝ }
+// Stores those of the next `n` fields that a mask names, which stand at `from`, from `to` on; the others stay. Answers the place
+// behind the named ones.
+fn store_some(s: &[u8], from: usize, mask: u8, n: usize, out: &mut [u8], to: usize) -> usize
+    requires { ⌜ (from + count (bits n mask) < length (now s)) × (to + n ≤ length (now out)) ⌝ }
+    ensures { λ r. ⌜ (r ≡ from + count (bits n mask)) × (now (out .exit) ≡ storedFrom (bits n mask) (drop from (now (s .entry))) (now (out .entry)) to) ⌝ }
 {
     let mut next = from;
-    let mut bits = mask;
+    let mut rest = mask;
     let mut field: usize = 0;
-    while field < 6 {
-        let bit = bits % 2;
+    while field < n {
+        let bit = rest % 2;
         let value = s[next];
         let old = out[to + field];
         out[to + field] = pick(bit, value, old);
         next = next + wide(bit);
-        bits = bits / 2;
+        rest = rest / 2;
         field = field + 1;
+    }
+    next
+}
+
+// Stores the fields that a mask names, which stand at `from`, in the cell at `to`; the others stay. Most masks name none of
+// command 2 and parameter 2.
+fn store_fields(s: &[u8], from: usize, mask: u8, out: &mut [u8], to: usize)
+    requires { ⌜ (from + fieldsNamed mask < length (now s)) × (to + 6 ≤ length (now out)) ⌝ }
+    ensures { λ r. ⌜ now (out .exit) ≡ storedAt (now (s .entry)) from mask (now (out .entry)) to ⌝ }
+{
+    let next = store_some(s, from, mask, 4, out, to);
+    let high = mask / 2 / 2 / 2 / 2;
+    if high != 0 {
+        store_some(s, next, high, 2, out, to + 4);
     }
 }
 
 // Carries out the entries from `start` to the next row end on a row, and answers the place behind the row end.
-pub fn carry_row(s: &[u8], start: usize, row: &mut [u8]) -> usize
+fn carry_row(s: &[u8], start: usize, row: &mut [u8]) -> usize
     requires { ⌜ RowAhead (now s) start (length (now row)) ⌝ }
     ensures { λ r. ⌜ Carried (now (s .entry)) start (now (row .entry)) r (now (row .exit)) ⌝ }
 {
@@ -216,7 +231,7 @@ pub fn carry_row(s: &[u8], start: usize, row: &mut [u8]) -> usize
 }
 
 // Carries out all entries of an accepted stream on an output that holds zeros.
-pub fn carry_rows(s: &[u8], rows: usize, tracks: usize, out: &mut [u8])
+fn carry_rows(s: &[u8], rows: usize, tracks: usize, out: &mut [u8])
     requires { ⌜ (verdictOf (readStream rows tracks (now s)) ≡ Accepted) × (now out ≡ replicate (rows * (tracks * 6)) 0) × (tracks < 256) ⌝ }
     ensures { λ r. ⌜ now (out .exit) ≡ cellsRead rows tracks (now (s .entry)) ⌝ }
 {

@@ -1,28 +1,23 @@
-use Prim.Native.Nat.{ℕ, zero, suc, _+_, _*_, _<_, _≤_, _-_, _/_, _%_}
-use mathlib.Core.Path.{_≡_, _∙_, ap, sym, refl}
-use lib.ListN.{length}
 use borrow.Author.Needs.{needs}
+use mathlib.Core.Path.{_∙_}
 use native.Mathlib.Omega.{arith}
-use Rattle.pattern.proofs.Fields.{StoringTo, stores-first, stores-turn, stores-last}
+use Rattle.pattern.proofs.Fields.{first-inside, last-inside, cell-stored, cell-short}
 use Rattle.pattern.proofs.reader.store_fields.Statement.{statement}
 use Rattle.pattern.proofs.reader.store_fields.Tie as tie
 
-abbrev Inv-loop : tie.InvT-loop
-Inv-loop s from mask out₀ to next₀ bits₀ field₀ out next bits field = (field ≤ 6) × (length out ≡ length out₀) × StoringTo s from mask out₀ to out next bits field
+store-some-requires : tie.Need-store-some-requires
+store-some-requires c κs = (first-inside (c .before .before .before .args .mask) (c .before .before .before .args .from) _ (c .before .before .before .pre .0), omega (arith, c .before .before .before .pre .1))
 
-abbrev μ-loop : tie.MeasureT-loop
-μ-loop s from mask out₀ to next₀ bits₀ field₀ out next bits field = 6 - field
+store-some-requires-2 : tie.Need-store-some-requires-2
+store-some-requires-2 c κs = (last-inside (c .before .before .before .before .before .before .before .before .args .mask) (c .before .before .before .before .before .before .before .before .args .from) _ (c .before .before .before .before .before .before .before .before .pre .0) _ (c .before .before .before .before .store-some .ensures .0), omega (arith, c .before .before .before .before .before .before .before .before .pre .1))
 
-loop-holds : tie.Need-loop-holds Inv-loop μ-loop
-loop-holds c = (search needs, search needs, stores-first _ _ _ _ _ (c .before .before .pre .0))
+returns : tie.Need-returns
+returns c = c .before .before .store-some2 .ensures .1 ∙ cell-stored (c .before .before .before .before .before .before .before .before .before .before .before .args .s .now) (c .before .before .before .before .before .before .before .before .before .before .before .args .from) (c .before .before .before .before .before .before .before .before .before .before .before .args .mask) _ _ (c .before .before .before .before .before .before .before .before .before .before .before .pre .1) _ _ (c .before .before .before .before .before .before .before .store-some .ensures .0) (c .before .before .before .before .before .before .before .store-some .ensures .1)
 
-loop-again : tie.Need-loop-again Inv-loop μ-loop
-loop-again c = (search needs, search needs, stores-turn _ _ _ _ _ _ _ _ _ (c .before .before .before .before .before .loop .inv .2) (omega arith) (search needs) (c .before .before .before .before .before .loop .bits % 2) (c .before .pick .result) _ refl (c .before .pick .ensures) (ap (c .before .before .before .before .before .loop .next +_) (c .wide .ensures .0)))
-
-returns : tie.Need-returns Inv-loop μ-loop
-returns c = stores-last _ _ _ _ _ _ _ _ _ (c .before .loop .inv .2) (search needs)
+returns-2 : tie.Need-returns-2
+returns-2 c = cell-short (c .before .before .before .before .before .before .before .args .s .now) (c .before .before .before .before .before .before .before .args .from) (c .before .before .before .before .before .before .before .args .mask) _ _ (c .before .before .before .before .before .before .before .pre .1) _ _ (c .before .before .before .store-some .ensures .0) (c .before .before .before .store-some .ensures .1) (omega arith) (c .if1 .left)
 
 pub store-fields-spec : {M : Type 1} → statement M
 store-fields-spec =
     tie.close
-    (tie.spec Inv-loop μ-loop loop-holds (λ c. search needs) (λ c. search needs) (λ c. search needs) (λ c κs. search needs) (λ c. search needs) (λ c. search needs) (λ c κs. search needs) (λ c. search needs) (λ c. search needs) (λ c. search needs) loop-again (λ c. search needs) returns)
+    (tie.spec store-some-requires (λ c. search needs) store-some-requires-2 (λ c. search needs) returns (λ c. search needs) returns-2)
