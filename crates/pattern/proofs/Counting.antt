@@ -160,7 +160,7 @@ module _ (cells : List ℕ) (n : ℕ) where
         go zero e b p = (omega arith, omega arith)
         go (suc left) e b p = absurd (omega (arith, suc-mul left 6))
 
--- The same of the six bytes as one number.
+-- The same of the six bytes as one number, in which the two in the middle stand twice.
 or-none : (a b : Bool) → a || b ≡ false → (a ≡ false) × (b ≡ false)
 or-none true b e = absurd (let z : _≡_ {A = ℕ} 0 1 = cc in omega arith)
 or-none false b e = (refl, e)
@@ -168,11 +168,11 @@ or-none false b e = (refl, e)
 zero-of : (f : ℕ) → nonZero f ≡ false → f ≡ 0
 zero-of f e = eqb-true f 0 (not-false (eqb f 0) e)
 
-pub word-filled : (bytes : List ℕ) (at word : ℕ) → at + 6 ≤ length bytes → word ≡ getD bytes at 0 + 256 * getD bytes (at + 1) 0 + 65536 * (getD bytes (at + 2) 0 + 256 * getD bytes (at + 2 + 1) 0) + 4294967296 * (getD bytes (at + 4) 0 + 256 * getD bytes (at + 4 + 1) 0) → not (eqb word 0) ≡ nonEmpty (cellAt bytes at)
+pub word-filled : (bytes : List ℕ) (at word : ℕ) → at + 6 ≤ length bytes → word ≡ getD bytes at 0 + 256 * getD bytes (at + 1) 0 + 65536 * getD bytes (at + 2) 0 + 16777216 * getD bytes (at + 3) 0 + (getD bytes (at + 2) 0 + 256 * getD bytes (at + 2 + 1) 0 + 65536 * getD bytes (at + 2 + 2) 0 + 16777216 * getD bytes (at + 2 + 3) 0) → not (eqb word 0) ≡ nonEmpty (cellAt bytes at)
 word-filled bytes at word h e′ = go (eqb word 0) refl
   where
-    e : word ≡ getD bytes at 0 + 256 * getD bytes (at + 1) 0 + 65536 * (getD bytes (at + 2) 0 + 256 * getD bytes (at + 3) 0) + 4294967296 * (getD bytes (at + 4) 0 + 256 * getD bytes (at + 5) 0)
-    e = rw (add-assoc at 2 1, add-assoc at 4 1) at e′
+    e : word ≡ getD bytes at 0 + 256 * getD bytes (at + 1) 0 + 65536 * getD bytes (at + 2) 0 + 16777216 * getD bytes (at + 3) 0 + (getD bytes (at + 2) 0 + 256 * getD bytes (at + 3) 0 + 65536 * getD bytes (at + 4) 0 + 16777216 * getD bytes (at + 5) 0)
+    e = rw (add-assoc at 2 1, add-assoc at 2 2, add-assoc at 2 3) at e′
 
     go : (t : Bool) → eqb word 0 ≡ t → not t ≡ nonEmpty (cellAt bytes at)
     go true z =

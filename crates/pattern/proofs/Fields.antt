@@ -9,7 +9,7 @@ use borrow.Author.Tests.{eq-eqb, ne-eqb, eqb-true, eqb-false}
 use lib.Dec.{eqb}
 use native.Mathlib.Numerals.{add-one}
 use lib.ListN.{length, getD, take, drop, set, length-set, take-append-drop}
-use lib.Seq.{drop-cons, take-suc, take-suc-set, drop-set-lt, append-snoc, getD-drop, drop-drop, set-getD}
+use lib.Seq.{drop-cons, take-suc, take-suc-set, drop-set-lt, getD-drop, drop-drop, set-getD}
 use Rattle.pattern.specs.Entries.{store, bits, count}
 use Rattle.pattern.specs.Steps.{storedFrom, storedAt}
 

@@ -43,20 +43,23 @@ fn non_zero_bytes(bytes: &[u8]) -> usize
     count + wide(count_few(&bytes[at..]))
 }
 
-// Two bytes as one number.
-fn pair(bytes: &[u8], at: usize) -> usize
-    requires { ⌜ at + 2 ≤ length (now bytes) ⌝ }
-    ensures { λ r. ⌜ (r ≡ getD (now (bytes .entry)) at 0 + 256 * getD (now (bytes .entry)) (at + 1) 0) × (r < 65536) ⌝ }
+// Four bytes as one number.
+fn quad(bytes: &[u8], at: usize) -> usize
+    requires { ⌜ at + 4 ≤ length (now bytes) ⌝ }
+    ensures { λ r. ⌜ (r ≡ getD (now (bytes .entry)) at 0 + 256 * getD (now (bytes .entry)) (at + 1) 0 + 65536 * getD (now (bytes .entry)) (at + 2) 0 + 16777216 * getD (now (bytes .entry)) (at + 3) 0) × (r < 4294967296) ⌝ }
 {
-    wide(bytes[at]) + 256 * wide(bytes[at + 1])
+    wide(bytes[at])
+        + 256 * wide(bytes[at + 1])
+        + 65536 * wide(bytes[at + 2])
+        + 16777216 * wide(bytes[at + 3])
 }
 
-// Whether the cell at `at` is not empty.
+// Whether the cell at `at` is not empty: its first four fields and its last four, two of which are the same.
 fn filled(cells: &[u8], at: usize) -> bool
     requires { ⌜ at + 6 ≤ length (now cells) ⌝ }
     ensures { λ r. ⌜ r ≡ nonEmpty (cellAt (now (cells .entry)) at) ⌝ }
 {
-    pair(cells, at) + 65536 * pair(cells, at + 2) + 4294967296 * pair(cells, at + 4) != 0
+    quad(cells, at) + quad(cells, at + 2) != 0
 }
 
 // How many of the cells are not empty.
