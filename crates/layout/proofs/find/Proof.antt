@@ -1,0 +1,25 @@
+use borrow.Author.Needs.{needs}
+use mathlib.Core.Path.{_∙_, sym}
+use Rattle.layout.proofs.Outlining.{header-length, outline-header, outline-walk, outline-whole}
+use Rattle.layout.proofs.find.Statement.{statement}
+use Rattle.layout.proofs.find.Tie as tie
+
+returns : tie.Need-returns
+returns c = sym (outline-header (c .before .before .before .before .before .args .m .now) (c .before .r .given .0 .0) (sym (c .before .before .before .check-header .ensures) ∙ c .before .r .given .1))
+
+enum-told : tie.Need-enum-told
+enum-told c = search needs
+
+walk-chunks-requires : tie.Need-walk-chunks-requires
+walk-chunks-requires c κs = header-length (c .before .before .before .before .args .m .now) (sym (c .before .before .check-header .ensures) ∙ c .enum-told .given .1)
+
+returns-2 : tie.Need-returns-2
+returns-2 c = c .with-mandatory .ensures ∙ sym (outline-whole (c .before .before .before .before .before .before .before .before .before .args .m .now) (c .before .before .p .given .0 .0) (sym (c .before .before .before .before .before .before .before .check-header .ensures) ∙ c .before .before .before .before .before .enum-told .given .1) (sym (c .before .before .before .before .walk-chunks .ensures) ∙ c .before .before .p .given .1))
+
+returns-3 : tie.Need-returns-3
+returns-3 c = sym (outline-walk (c .before .before .before .before .before .before .before .before .args .m .now) (c .before .r2 .given .0 .0) (sym (c .before .before .before .before .before .before .check-header .ensures) ∙ c .before .before .before .before .enum-told .given .1) (sym (c .before .before .before .walk-chunks .ensures) ∙ c .before .r2 .given .1))
+
+pub find-spec : {M : Type 1} → statement M
+find-spec =
+    tie.close
+    (tie.spec (λ c κs. search needs) (λ c. search needs) returns enum-told walk-chunks-requires (λ c. search needs) (λ c κs. search needs) (λ c. search needs) returns-2 returns-3)

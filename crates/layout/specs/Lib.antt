@@ -1,0 +1,5 @@
+pub mod Numbers
+pub mod Header
+pub mod Chunks
+pub mod Outlines
+pub mod Steps

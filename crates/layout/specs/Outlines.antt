@@ -1,0 +1,66 @@
+-- FORMAT.md, F11 to F13: the outline of a module: its version, INFO's numbers, and where the covered chunks stand; or the refusal
+-- that comes first among 1 to 10.
+use Prim.Native.Nat.{ℕ, _+_}
+use mathlib.Core.List.{List, [], _∷_}
+use mathlib.Core.Bool.{Bool, true, false, cond, _&&_}
+use lib.ListN.{length}
+use lib.Dec.{eqb}
+use Rattle.refusal.specs.Numbers.{refusal}
+use Rattle.refusal.specs.Rules.{firstBroken}
+use Rattle.refusal.specs.declared.Cause.the-variants.{Missing}
+use Rattle.refusal.specs.declared.Verdict.{Verdict}
+use Rattle.refusal.specs.declared.Verdict.the-variants.{Accepted, Refused as VerdictRefused}
+use Rattle.layout.specs.Numbers.{byteAt, number16}
+use Rattle.layout.specs.Header.{headerRules}
+use Rattle.layout.specs.Chunks.{NAME, INFO, SONG, INST, PATT, SMPL, VENV, PENV, Chunk, occurs, Walk, whole, stopped, chunks}
+use Rattle.layout.specs.declared.Place.{Place}
+use Rattle.layout.specs.declared.Places.{Places}
+use Rattle.layout.specs.declared.Layout.{Layout}
+use Rattle.layout.specs.declared.Outline.{Outline}
+use Rattle.layout.specs.declared.Outline.the-variants.{Found, Refused}
+
+-- Where a chunk stands: not at all, or with its header here and so much data.
+abbrev pub absent : Place
+absent = record { present = false; at = 0; length = 0 }
+
+abbrev pub standing : Chunk → Place
+standing c = record { present = true; at = c .at; length = c .length }
+
+-- M6: the chunk with an identifier; for a covered one there is at most one.
+abbrev pub placeOf : ℕ → List Chunk → Place
+placeOf identifier [] = absent
+placeOf identifier (c ∷ cs) = cond (eqb (c .identifier) identifier) (standing c) (placeOf identifier cs)
+
+abbrev pub placesOf : List Chunk → Places
+placesOf cs = record { name = placeOf NAME cs; info = placeOf INFO cs; song = placeOf SONG cs; inst = placeOf INST cs; patt = placeOf PATT cs; smpl = placeOf SMPL cs; venv = placeOf VENV cs; penv = placeOf PENV cs }
+
+-- M3, M9: version and revision stand in the header, the five numbers in INFO's data.
+abbrev pub layoutWith : List ℕ → Places → Layout
+layoutWith m p = record {
+  version = byteAt m 4;
+  revision = byteAt m 5;
+  instruments = number16 m (p .info .at + 8);
+  samples = number16 m (p .info .at + 10);
+  songs = number16 m (p .info .at + 12);
+  patterns = number16 m (p .info .at + 14);
+  tracks = number16 m (p .info .at + 16);
+  places = p;
+}
+
+-- M7: INFO and the four are mandatory.
+abbrev pub mandatoryThere : List Chunk → Bool
+mandatoryThere cs = occurs INFO cs && (occurs SONG cs && (occurs INST cs && (occurs PATT cs && occurs SMPL cs)))
+
+-- F13: once the chunks are read, 8.
+abbrev pub outlineOf : List ℕ → Walk → Outline
+outlineOf m (stopped r) = Refused r
+outlineOf m (whole cs) = cond (mandatoryThere cs) (Found (layoutWith m (placesOf cs))) (Refused (refusal Missing (length m)))
+
+-- A verdict, and then the outline.
+abbrev pub outlineIf : Verdict → Outline → Outline
+outlineIf Accepted o = o
+outlineIf (VerdictRefused r) o = Refused r
+
+-- F11 to F13: 1, 2, 3; then chunk by chunk 4, 5, 4, 6, 7, 9, 10; then 8.
+abbrev pub outline : List ℕ → Outline
+outline m = outlineIf (firstBroken (headerRules m)) (outlineOf m (chunks m))

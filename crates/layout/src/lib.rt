@@ -1,0 +1,101 @@
+// The header of a module, its numbers, and the walk over its chunks: refusals 1 to 10.
+mod header;
+pub mod numbers;
+mod walk;
+
+use crate::header::check_header;
+use crate::numbers::byte;
+use crate::numbers::number16;
+use crate::walk::Walked;
+use crate::walk::walk_chunks;
+use refusal::Cause;
+use refusal::Refusal;
+use refusal::Verdict;
+use refusal::refuse;
+ghost use mathlib.Core.Path.{_≡_};
+ghost use Rattle.layout.specs.Outlines.{layoutWith, outline};
+ghost use Rattle.layout.specs.Steps.{allPresent, outlineWith};
+
+// Where a chunk stands: its header's place and the length of its data. All 0 where there is none.
+pub struct Place {
+    pub present: bool,
+    pub at: u32,
+    pub length: u32,
+}
+
+// Where the covered chunks stand.
+pub struct Places {
+    pub name: Place,
+    pub info: Place,
+    pub song: Place,
+    pub inst: Place,
+    pub patt: Place,
+    pub smpl: Place,
+    pub venv: Place,
+    pub penv: Place,
+}
+
+// What is known of a module once its chunks are read: header, INFO's numbers, and the chunks' places.
+pub struct Layout {
+    pub version: u8,
+    pub revision: u8,
+    pub instruments: u16,
+    pub samples: u16,
+    pub songs: u16,
+    pub patterns: u16,
+    pub tracks: u16,
+    pub places: Places,
+}
+
+// The layout of a module, or a refusal.
+pub enum Outline {
+    Found(Layout),
+    Refused(Refusal),
+}
+
+// Whether the mandatory chunks are there.
+fn all_present(p: Places) -> bool
+    ensures { λ r. ⌜ r ≡ allPresent p ⌝ }
+{
+    p.info.present & (p.song.present & (p.inst.present & (p.patt.present & p.smpl.present)))
+}
+
+// The layout, from the places of the chunks.
+fn layout_with(m: &[u8], p: Places) -> Layout
+    ensures { λ r. ⌜ r ≡ layoutWith (now (m .entry)) p ⌝ }
+{
+    let info = p.info.at as usize;
+    Layout {
+        version: byte(m, 4),
+        revision: byte(m, 5),
+        instruments: number16(m, info + 8),
+        samples: number16(m, info + 10),
+        songs: number16(m, info + 12),
+        patterns: number16(m, info + 14),
+        tracks: number16(m, info + 16),
+        places: p,
+    }
+}
+
+// Once the chunks are read: 8.
+fn with_mandatory(m: &[u8], p: Places) -> Outline
+    ensures { λ r. ⌜ r ≡ outlineWith (now (m .entry)) p ⌝ }
+{
+    if !all_present(p) {
+        return Outline::Refused(refuse(Cause::Missing, m.len()));
+    }
+    Outline::Found(layout_with(m, p))
+}
+
+// The layout of a module: 1, 2, 3; then chunk by chunk 4, 5, 4, 6, 7, 9, 10; then 8.
+pub fn find(m: &[u8]) -> Outline
+    ensures { λ r. ⌜ r ≡ outline (now (m .entry)) ⌝ }
+{
+    if let Verdict::Refused(r) = check_header(m) {
+        return Outline::Refused(r);
+    }
+    match walk_chunks(m) {
+        Walked::Whole(p) => with_mandatory(m, p),
+        Walked::Refused(r) => Outline::Refused(r),
+    }
+}

@@ -1,0 +1,231 @@
+// The walk over the chunks, from the front: refusals 4, 5, 4, 6, 7, 9, 10 for each.
+use crate::Place;
+use crate::Places;
+use crate::numbers::byte;
+use crate::numbers::number16;
+use crate::numbers::number32;
+use refusal::Cause;
+use refusal::Refusal;
+use refusal::Verdict;
+use refusal::refuse;
+ghost use mathlib.Core.Path.{_≡_};
+ghost use mathlib.Core.List.{[]};
+ghost use mathlib.Core.Bool.{true, cond};
+ghost use Prim.Native.Nat.{_+_, _<_, _≤_};
+ghost use lib.ListN.{length};
+ghost use Rattle.refusal.specs.Rules.{firstBroken};
+ghost use Rattle.layout.specs.Chunks.{isLetter, fourLetters, needsInfo, tracksFit, infoRules, chunks};
+ghost use Rattle.layout.specs.Outlines.{absent as absentPlace, placesOf};
+ghost use Rattle.layout.specs.Steps.{presentIn, putIn, lengthOf, metRules, placedRules, walked};
+
+const NAME: u32 = 0x4E414D45;
+
+const INFO: u32 = 0x494E464F;
+
+const SONG: u32 = 0x534F4E47;
+
+const INST: u32 = 0x494E5354;
+
+const PATT: u32 = 0x50415454;
+
+const SMPL: u32 = 0x534D504C;
+
+const VENV: u32 = 0x56454E56;
+
+const PENV: u32 = 0x50454E56;
+
+// What the walk gives: where the covered chunks stand, or a refusal.
+pub enum Walked {
+    Whole(Places),
+    Refused(Refusal),
+}
+
+fn is_letter(byte: u8) -> bool
+    ensures { λ r. ⌜ r ≡ isLetter byte ⌝ }
+{
+    (65 <= byte) & (byte <= 90)
+}
+
+// Whether the identifier at a place is four letters.
+fn four_letters(m: &[u8], at: usize) -> bool
+    requires { ⌜ at + 8 ≤ length (now m) ⌝ }
+    ensures { λ r. ⌜ r ≡ fourLetters (now (m .entry)) at ⌝ }
+{
+    is_letter(byte(m, at))
+        & (is_letter(byte(m, at + 1)) & (is_letter(byte(m, at + 2)) & is_letter(byte(m, at + 3))))
+}
+
+// Whether a chunk has to stand behind INFO.
+fn needs_info(identifier: u32) -> bool
+    ensures { λ r. ⌜ r ≡ needsInfo identifier ⌝ }
+{
+    (identifier == SONG) | ((identifier == INST) | ((identifier == PATT) | (identifier == SMPL)))
+}
+
+// Whether a covered chunk with this identifier has been met.
+fn is_present(p: Places, identifier: u32) -> bool
+    ensures { λ r. ⌜ r ≡ presentIn p identifier ⌝ }
+{
+    ((identifier == NAME) & p.name.present)
+        | (((identifier == INFO) & p.info.present)
+            | (((identifier == SONG) & p.song.present)
+                | (((identifier == INST) & p.inst.present)
+                    | (((identifier == PATT) & p.patt.present)
+                        | (((identifier == SMPL) & p.smpl.present)
+                            | (((identifier == VENV) & p.venv.present)
+                                | ((identifier == PENV) & p.penv.present)))))))
+}
+
+// Whether the chunk's length is the one that NAME or INFO has; others have any.
+fn length_fits(identifier: u32, length: u32) -> bool
+    ensures { λ r. ⌜ r ≡ lengthOf identifier length ⌝ }
+{
+    ((identifier != NAME) | (length == 44)) & ((identifier != INFO) | (length == 10))
+}
+
+fn choose(test: bool, new: Place, old: Place) -> Place
+    ensures { λ r. ⌜ r ≡ cond test new old ⌝ }
+{
+    if test {
+        return new;
+    }
+    old
+}
+
+// The places with that of one more chunk.
+fn put(p: Places, identifier: u32, place: Place) -> Places
+    ensures { λ r. ⌜ r ≡ putIn p identifier place ⌝ }
+{
+    Places {
+        name: choose(identifier == NAME, place, p.name),
+        info: choose(identifier == INFO, place, p.info),
+        song: choose(identifier == SONG, place, p.song),
+        inst: choose(identifier == INST, place, p.inst),
+        patt: choose(identifier == PATT, place, p.patt),
+        smpl: choose(identifier == SMPL, place, p.smpl),
+        venv: choose(identifier == VENV, place, p.venv),
+        penv: choose(identifier == PENV, place, p.penv),
+    }
+}
+
+fn tracks_fit(tracks: u16) -> bool
+    ensures { λ r. ⌜ r ≡ tracksFit tracks ⌝ }
+{
+    (4 <= tracks) & ((tracks <= 254) & (tracks % 2 == 0))
+}
+
+// Checks the five numbers of INFO, whose data begin at a place.
+fn check_info(m: &[u8], start: usize) -> Verdict
+    requires { ⌜ start < 0x100000000 ⌝ }
+    ensures { λ r. ⌜ r ≡ firstBroken (infoRules (now (m .entry)) start) ⌝ }
+{
+    if 255 < number16(m, start) {
+        return Verdict::Refused(refuse(Cause::InfoRange, start));
+    }
+    if 255 < number16(m, start + 2) {
+        return Verdict::Refused(refuse(Cause::InfoRange, start + 2));
+    }
+    if 32767 < number16(m, start + 4) {
+        return Verdict::Refused(refuse(Cause::InfoRange, start + 4));
+    }
+    if 1024 < number16(m, start + 6) {
+        return Verdict::Refused(refuse(Cause::InfoRange, start + 6));
+    }
+    if !tracks_fit(number16(m, start + 8)) {
+        return Verdict::Refused(refuse(Cause::InfoRange, start + 8));
+    }
+    Verdict::Accepted
+}
+
+// Checks a chunk whose header and data are whole: 6, 7, 9, 10.
+fn check_met(m: &[u8], at: usize, identifier: u32, length: u32, p: Places) -> Verdict
+    requires { ⌜ at < 0x80000000 ⌝ }
+    ensures { λ r. ⌜ r ≡ firstBroken (metRules (now (m .entry)) at identifier length p) ⌝ }
+{
+    if is_present(p, identifier) {
+        return Verdict::Refused(refuse(Cause::Repeated, at));
+    }
+    if needs_info(identifier) & !p.info.present {
+        return Verdict::Refused(refuse(Cause::BeforeInfo, at));
+    }
+    if !length_fits(identifier, length) {
+        return Verdict::Refused(refuse(Cause::FixedLength, at));
+    }
+    if identifier == INFO {
+        return check_info(m, at + 8);
+    }
+    Verdict::Accepted
+}
+
+// Checks the chunk at a place, by where the covered chunks before it stand: 4, 5, 4, and then the rest.
+fn check_chunk(m: &[u8], at: usize, p: Places) -> Verdict
+    requires { ⌜ (at < length (now m)) × (length (now m) ≤ 16777216) ⌝ }
+    ensures { λ r. ⌜ r ≡ firstBroken (placedRules (now (m .entry)) at p) ⌝ }
+{
+    if m.len() < at + 8 {
+        return Verdict::Refused(refuse(Cause::ChunkCut, at));
+    }
+    if !four_letters(m, at) {
+        return Verdict::Refused(refuse(Cause::Identifier, at));
+    }
+    let length = number32(m, at + 4);
+    if m.len() < at + 8 + length as usize {
+        return Verdict::Refused(refuse(Cause::ChunkCut, at));
+    }
+    check_met(m, at, number32(m, at), length, p)
+}
+
+// The place of the chunk whose header stands at a place.
+fn standing(at: usize, length: u32) -> Place
+    requires { ⌜ at < 0x100000000 ⌝ }
+    ensures { λ r. ⌜ r ≡ record { present = true; at = at; length = length } ⌝ }
+{
+    Place {
+        present: true,
+        at: at as u32,
+        length,
+    }
+}
+
+fn absent() -> Place
+    ensures { λ r. ⌜ r ≡ absentPlace ⌝ }
+{
+    Place {
+        present: false,
+        at: 0,
+        length: 0,
+    }
+}
+
+fn no_places() -> Places
+    ensures { λ r. ⌜ r ≡ placesOf [] ⌝ }
+{
+    Places {
+        name: absent(),
+        info: absent(),
+        song: absent(),
+        inst: absent(),
+        patt: absent(),
+        smpl: absent(),
+        venv: absent(),
+        penv: absent(),
+    }
+}
+
+// Walks over the chunks behind the header.
+pub fn walk_chunks(m: &[u8]) -> Walked
+    requires { ⌜ length (now m) ≤ 16777216 ⌝ }
+    ensures { λ r. ⌜ r ≡ walked (chunks (now (m .entry))) ⌝ }
+{
+    let mut p = no_places();
+    let mut at = 8;
+    while at < m.len() {
+        if let Verdict::Refused(r) = check_chunk(m, at, p) {
+            return Walked::Refused(r);
+        }
+        let length = number32(m, at + 4);
+        p = put(p, number32(m, at), standing(at, length));
+        at = at + 8 + length as usize;
+    }
+    Walked::Whole(p)
+}
