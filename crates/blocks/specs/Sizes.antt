@@ -1,0 +1,70 @@
+-- FORMAT.md, B1 to B6 (document 01, "Layout"): how long a block is, and where the blocks of a chunk stand.
+use Prim.Native.Nat.{ℕ, zero, suc, _+_, _*_, _%_}
+use mathlib.Core.List.{List, [], _∷_}
+use mathlib.Core.Bool.{Bool, true, false, cond}
+use lib.Dec.{eqb}
+use Rattle.layout.specs.Numbers.{number16, number32}
+use Rattle.layout.specs.declared.Place.{Place}
+use Rattle.layout.specs.declared.Layout.{Layout}
+use Rattle.blocks.specs.declared.Kind.{Kind}
+use Rattle.blocks.specs.declared.Kind.the-variants.{Song, Instrument, Pattern, Sample, Envelope}
+
+-- B5: a sample's flags are exactly 1, 2 or 4, for frames of 8, 16 or 32 bits: so many bytes to a frame. 0 for any other flags.
+abbrev pub widthOf : ℕ → ℕ
+widthOf flags = cond (eqb flags 1) 1 (cond (eqb flags 2) 2 (cond (eqb flags 4) 4 0))
+
+-- How many bytes the block at a place has.
+-- B2: a song: name 44, length 2, and so many numbers of 2 bytes. B3: an instrument, 50.
+-- B4: a pattern: rows 2, packed length 4, packed bytes, and a filler if their number is odd.
+-- B5: a sample: flags 4, frames 4, and the frames. B6: an envelope, 136.
+unfoldable pub sizeOf : Kind → List ℕ → ℕ → ℕ
+sizeOf Song m at = 46 + 2 * number16 m (at + 44)
+sizeOf Instrument m at = 50
+sizeOf Pattern m at = 6 + number32 m (at + 2) + number32 m (at + 2) % 2
+sizeOf Sample m at = 8 + number32 m (at + 4) * widthOf (number32 m at)
+sizeOf Envelope m at = 136
+
+-- B1: blocks stand one behind the other: the places of so many from a place on, and the place that so many lead to.
+abbrev pub placesFrom : (ℕ → ℕ) → ℕ → ℕ → List ℕ
+placesFrom size zero at = []
+placesFrom size (suc n) at = at ∷ placesFrom size n (at + size at)
+
+abbrev pub placeAfter : (ℕ → ℕ) → ℕ → ℕ → ℕ
+placeAfter size zero at = at
+placeAfter size (suc n) at = placeAfter size n (at + size at)
+
+-- B1: the first block stands at the beginning of the data, an envelope behind their count.
+abbrev pub firstBlock : Kind → Place → ℕ
+firstBlock Song chunk = chunk .at + 8
+firstBlock Instrument chunk = chunk .at + 8
+firstBlock Pattern chunk = chunk .at + 8
+firstBlock Sample chunk = chunk .at + 8
+firstBlock Envelope chunk = chunk .at + 10
+
+-- B1: the place of a block, counted from 0.
+abbrev pub blockAt : List ℕ → Kind → Place → ℕ → ℕ
+blockAt m kind chunk i = placeAfter (sizeOf kind m) i (firstBlock kind chunk)
+
+-- The places of the first so many blocks of a chunk.
+abbrev pub blocksOf : List ℕ → Kind → Place → ℕ → List ℕ
+blocksOf m kind chunk n = placesFrom (sizeOf kind m) n (firstBlock kind chunk)
+
+-- B6: how many envelopes a chunk has; none where there is no chunk.
+abbrev pub envelopeCount : List ℕ → Place → ℕ
+envelopeCount m chunk = cond (chunk .present) (number16 m (chunk .at + 8)) 0
+
+-- The blocks of each chunk.
+abbrev pub songBlocks : List ℕ → Layout → List ℕ
+songBlocks m l = blocksOf m Song (l .places .song) (l .songs)
+
+abbrev pub instrumentBlocks : List ℕ → Layout → List ℕ
+instrumentBlocks m l = blocksOf m Instrument (l .places .inst) (l .instruments)
+
+abbrev pub patternBlocks : List ℕ → Layout → List ℕ
+patternBlocks m l = blocksOf m Pattern (l .places .patt) (l .patterns)
+
+abbrev pub sampleBlocks : List ℕ → Layout → List ℕ
+sampleBlocks m l = blocksOf m Sample (l .places .smpl) (l .samples)
+
+abbrev pub envelopeBlocks : List ℕ → Place → List ℕ
+envelopeBlocks m chunk = blocksOf m Envelope chunk (envelopeCount m chunk)

@@ -1,0 +1,215 @@
+// The blocks of a chunk: how long each is, where it stands, and whether they fill their chunk: refusal 11.
+use layout::Layout;
+use layout::Place;
+use layout::numbers::number16;
+use layout::numbers::number32;
+use refusal::Cause;
+use refusal::Verdict;
+use refusal::refuse;
+ghost use mathlib.Core.Path.{_≡_};
+ghost use mathlib.Core.List.{[], _∷_};
+ghost use mathlib.Core.Bool.{not, _||_};
+ghost use Prim.Native.Nat.{_+_, _*_, _%_, _<_};
+ghost use Rattle.refusal.specs.Rules.{firstBroken, rulesOfEach};
+ghost use Rattle.blocks.specs.Sizes.{widthOf, sizeOf, firstBlock, blockAt, blocksOf, envelopeCount};
+ghost use Rattle.blocks.specs.Filling.{dataEnd, fills as fillsChunk, flagsRules, envelopesRule, blockRules};
+ghost use Rattle.blocks.specs.declared.Kind.the-variants.{Envelope, Sample as SampleKind};
+
+// What a block is.
+pub enum Kind {
+    Song,
+    Instrument,
+    Pattern,
+    Sample,
+    Envelope,
+}
+
+// How many bytes a frame has, by a sample's flags; 0 for flags that no sample has.
+fn width(flags: u32) -> usize
+    ensures { λ r. ⌜ (r ≡ widthOf flags) × (r < 5) ⌝ }
+{
+    if flags == 1 {
+        return 1;
+    }
+    if flags == 2 {
+        return 2;
+    }
+    if flags == 4 {
+        return 4;
+    }
+    0
+}
+
+// How many bytes a block has whose numbers are all 0.
+fn least(kind: Kind) -> usize
+    ensures { λ r. ⌜ (r ≡ sizeOf kind [] 0) × (r < 0x800000000) ⌝ }
+{
+    match kind {
+        Kind::Song => 46,
+        Kind::Instrument => 50,
+        Kind::Pattern => 6,
+        Kind::Sample => 8,
+        Kind::Envelope => 136,
+    }
+}
+
+// How many bytes a song has, with so many entries in its playlist.
+fn song_size(entries: u16) -> usize
+    ensures { λ r. ⌜ (r ≡ 46 + 2 * entries) × (r < 0x800000000) ⌝ }
+{
+    46 + 2 * (entries as usize)
+}
+
+// How many bytes a pattern has, with so many packed bytes.
+fn pattern_size(packed: u32) -> usize
+    ensures { λ r. ⌜ (r ≡ 6 + packed + packed % 2) × (r < 0x800000000) ⌝ }
+{
+    let packed = packed as usize;
+    6 + packed + packed % 2
+}
+
+// How many bytes a sample has, with these flags and so many frames.
+fn sample_size(flags: u32, frames: u32) -> usize
+    ensures { λ r. ⌜ (r ≡ 8 + frames * widthOf flags) × (r < 0x800000000) ⌝ }
+{
+    8 + (frames as usize) * width(flags)
+}
+
+// How many bytes the block at a place has. Past the module's end every number counts as 0.
+pub fn size(m: &[u8], kind: Kind, at: usize) -> usize
+    ensures { λ r. ⌜ (r ≡ sizeOf kind (now (m .entry)) at) × (r < 0x800000000) ⌝ }
+{
+    if m.len() <= at {
+        return least(kind);
+    }
+    match kind {
+        Kind::Song => song_size(number16(m, at + 44)),
+        Kind::Instrument => 50,
+        Kind::Pattern => pattern_size(number32(m, at + 2)),
+        Kind::Sample => sample_size(number32(m, at), number32(m, at + 4)),
+        Kind::Envelope => 136,
+    }
+}
+
+// The place of a chunk's first block.
+fn first_block(kind: Kind, chunk: Place) -> usize
+    ensures { λ r. ⌜ (r ≡ firstBlock kind chunk) × (r < 0x200000000) ⌝ }
+{
+    let at = chunk.at as usize;
+    match kind {
+        Kind::Song => at + 8,
+        Kind::Instrument => at + 8,
+        Kind::Pattern => at + 8,
+        Kind::Sample => at + 8,
+        Kind::Envelope => at + 10,
+    }
+}
+
+// The place behind a chunk's data.
+fn data_end(chunk: Place) -> usize
+    ensures { λ r. ⌜ r ≡ dataEnd chunk ⌝ }
+{
+    (chunk.at as usize) + 8 + (chunk.length as usize)
+}
+
+// The place of a block, counted from 0.
+pub fn block_at(m: &[u8], kind: Kind, chunk: Place, i: u16) -> usize
+    ensures { λ r. ⌜ (r ≡ blockAt (now (m .entry)) kind chunk i) × (r < 0x10000000000000) ⌝ }
+{
+    let mut at = first_block(kind, chunk);
+    let mut left = i;
+    while 0 < left {
+        at = at + size(m, kind, at);
+        left = left - 1;
+    }
+    at
+}
+
+// Whether so many blocks fill a chunk exactly.
+fn fills(m: &[u8], kind: Kind, chunk: Place, count: u16) -> bool
+    ensures { λ r. ⌜ r ≡ fillsChunk (now (m .entry)) kind chunk count ⌝ }
+{
+    let end = data_end(chunk);
+    let mut at = first_block(kind, chunk);
+    let mut left = count;
+    while 0 < left {
+        if end <= at {
+            return false;
+        }
+        at = at + size(m, kind, at);
+        left = left - 1;
+    }
+    at == end
+}
+
+// How many envelopes a chunk has; none where there is no chunk.
+pub fn envelope_count(m: &[u8], chunk: Place) -> u16
+    ensures { λ r. ⌜ r ≡ envelopeCount (now (m .entry)) chunk ⌝ }
+{
+    if !chunk.present {
+        return 0;
+    }
+    number16(m, (chunk.at as usize) + 8)
+}
+
+// Whether the envelopes fill their chunk, where there is one.
+fn envelopes_fill(m: &[u8], chunk: Place) -> bool
+    ensures { λ r. ⌜ r ≡ (not (chunk .present) || fillsChunk (now (m .entry)) Envelope chunk (envelopeCount (now (m .entry)) chunk)) ⌝ }
+{
+    if !chunk.present {
+        return true;
+    }
+    fills(m, Kind::Envelope, chunk, envelope_count(m, chunk))
+}
+
+// Checks the flags of the samples.
+fn check_flags(m: &[u8], chunk: Place, count: u16) -> Verdict
+    ensures { λ r. ⌜ r ≡ firstBroken (rulesOfEach (flagsRules (now (m .entry)) chunk) (blocksOf (now (m .entry)) SampleKind chunk count)) ⌝ }
+{
+    let mut at = block_at(m, Kind::Sample, chunk, 0);
+    let mut left = count;
+    while 0 < left {
+        if width(number32(m, at)) == 0 {
+            return Verdict::Refused(refuse(Cause::Blocks, chunk.at as usize));
+        }
+        at = at + size(m, Kind::Sample, at);
+        left = left - 1;
+    }
+    Verdict::Accepted
+}
+
+// Checks VENV and PENV.
+fn check_envelopes(m: &[u8], venv: Place, penv: Place) -> Verdict
+    ensures { λ r. ⌜ r ≡ firstBroken (envelopesRule (now (m .entry)) venv ∷ envelopesRule (now (m .entry)) penv ∷ []) ⌝ }
+{
+    if !envelopes_fill(m, venv) {
+        return Verdict::Refused(refuse(Cause::Blocks, venv.at as usize));
+    }
+    if !envelopes_fill(m, penv) {
+        return Verdict::Refused(refuse(Cause::Blocks, penv.at as usize));
+    }
+    Verdict::Accepted
+}
+
+// Checks that the blocks fill their chunks: 11 for SONG, INST, PATT, SMPL, VENV, PENV.
+pub fn check(m: &[u8], l: Layout) -> Verdict
+    ensures { λ r. ⌜ r ≡ firstBroken (blockRules (now (m .entry)) l) ⌝ }
+{
+    let p = l.places;
+    if !fills(m, Kind::Song, p.song, l.songs) {
+        return Verdict::Refused(refuse(Cause::Blocks, p.song.at as usize));
+    }
+    if !fills(m, Kind::Instrument, p.inst, l.instruments) {
+        return Verdict::Refused(refuse(Cause::Blocks, p.inst.at as usize));
+    }
+    if !fills(m, Kind::Pattern, p.patt, l.patterns) {
+        return Verdict::Refused(refuse(Cause::Blocks, p.patt.at as usize));
+    }
+    if !fills(m, Kind::Sample, p.smpl, l.samples) {
+        return Verdict::Refused(refuse(Cause::Blocks, p.smpl.at as usize));
+    }
+    if let Verdict::Refused(r) = check_flags(m, p.smpl, l.samples) {
+        return Verdict::Refused(r);
+    }
+    check_envelopes(m, p.venv, p.penv)
+}
