@@ -1,0 +1,93 @@
+-- FORMAT.md, V1 to V5 and F15 (document 01, "Layout"): the checked fields of the blocks: refusals 12 and 13.
+use Prim.Native.Nat.{ℕ, _+_, _-_, _/_, _%_}
+use mathlib.Core.List.{List, [], _∷_, _++_}
+use mathlib.Core.Bool.{Bool, true, false, cond, not, _&&_, _||_}
+use lib.Dec.{eqb, leb, ltb}
+use lib.IntN.{ℤ, pos, negsuc}
+use lib.Signed.{leZ}
+use Rattle.refusal.specs.Rules.{Rule, rule, rulesOfEach}
+use Rattle.refusal.specs.declared.Cause.the-variants.{Reference, FieldRange}
+use Rattle.layout.specs.Numbers.{byteAt, number16}
+use Rattle.layout.specs.declared.Layout.{Layout}
+use Rattle.blocks.specs.Sizes.{placesFrom, songBlocks, instrumentBlocks, envelopeBlocks}
+
+-- M1: a stored 2-byte number taken as signed: from 32,768 on it stands for itself less 65,536.
+abbrev pub signed16 : ℕ → ℤ
+signed16 v = cond (ltb v 32768) (pos v) (negsuc (65535 - v))
+
+-- −128 to 128.
+abbrev pub panningFits : ℕ → Bool
+panningFits v = leZ (negsuc 127) (signed16 v) && leZ (signed16 v) (pos 128)
+
+-- A flag's bits.
+abbrev pub bit0 : ℕ → Bool
+bit0 flags = eqb (flags % 2) 1
+
+abbrev pub bit1 : ℕ → Bool
+bit1 flags = eqb (flags / 2 % 2) 1
+
+abbrev pub bit2 : ℕ → Bool
+bit2 flags = eqb (flags / 2 / 2 % 2) 1
+
+abbrev pub bit3 : ℕ → Bool
+bit3 flags = eqb (flags / 2 / 2 / 2 % 2) 1
+
+-- V1: an entry of a playlist is the number of a pattern, from 0.
+abbrev pub entryRules : List ℕ → ℕ → ℕ → List Rule
+entryRules m patterns at = rule (ltb (number16 m at) patterns) Reference at ∷ []
+
+abbrev pub songRules : List ℕ → ℕ → ℕ → List Rule
+songRules m patterns at = rulesOfEach (entryRules m patterns) (placesFrom (λ entry. 2) (number16 m (at + 44)) (at + 46))
+
+-- V2: an instrument: its sample (from 1; 0 is none), volume 0 to 64, panning −128 to 128, and no flag but bits 0 and 1. Panning is
+-- taken as stored in version 2 too.
+abbrev pub instrumentRules : List ℕ → ℕ → ℕ → List Rule
+instrumentRules m samples at =
+    rule (leb (number16 m (at + 30)) samples) Reference (at + 30)
+    ∷ rule (leb (number16 m (at + 32)) 64) FieldRange (at + 32)
+    ∷ rule (panningFits (number16 m (at + 46))) FieldRange (at + 46)
+    ∷ rule (ltb (number16 m (at + 48)) 4) FieldRange (at + 48)
+    ∷ []
+
+-- V3: an envelope: its instrument, from 1; no flag but bits 0 to 3; sections 0 to 31.
+abbrev pub envelopeHeadRules : List ℕ → ℕ → ℕ → List Rule
+envelopeHeadRules m instruments at =
+    rule (leb 1 (number16 m at) && leb (number16 m at) instruments) Reference at
+    ∷ rule (ltb (byteAt m (at + 2)) 16) FieldRange (at + 2)
+    ∷ rule (leb (byteAt m (at + 3)) 31) FieldRange (at + 3)
+    ∷ []
+
+-- V4: S1 where bit 1 is set, L1 and L2 where bit 2 is, S2 where bit 3 is: each at most sections, and L1 at most L2.
+abbrev pub envelopePointRules : List ℕ → ℕ → ℕ → ℕ → List Rule
+envelopePointRules m flags sections at =
+    rule (not (bit1 flags) || leb (byteAt m (at + 4)) sections) FieldRange (at + 4)
+    ∷ rule (not (bit2 flags) || leb (byteAt m (at + 5)) sections) FieldRange (at + 5)
+    ∷ rule (not (bit2 flags) || (leb (byteAt m (at + 6)) sections && leb (byteAt m (at + 5)) (byteAt m (at + 6)))) FieldRange (at + 6)
+    ∷ rule (not (bit3 flags) || leb (byteAt m (at + 7)) sections) FieldRange (at + 7)
+    ∷ []
+
+-- V5: a value is 0 to 64; where it is signed, −128 to 128.
+abbrev pub valueFits : Bool → ℕ → Bool
+valueFits signed v = cond signed (panningFits v) (leb v 64)
+
+abbrev pub valueRules : List ℕ → Bool → ℕ → List Rule
+valueRules m signed point = rule (valueFits signed (number16 m (point + 2))) FieldRange (point + 2) ∷ []
+
+-- V5: the points in use are sections + 1, each of position 2 and value 2; positions are not examined.
+abbrev pub valuesRules : List ℕ → Bool → ℕ → ℕ → List Rule
+valuesRules m signed sections at = rulesOfEach (valueRules m signed) (placesFrom (λ point. 4) (sections + 1) (at + 8))
+
+abbrev pub envelopeRules : List ℕ → ℕ → Bool → ℕ → List Rule
+envelopeRules m instruments signed at =
+    envelopeHeadRules m instruments at
+    ++ (envelopePointRules m (byteAt m (at + 2)) (byteAt m (at + 3)) at
+    ++ valuesRules m signed (byteAt m (at + 3)) at)
+
+-- F15: 12 and 13 by field: SONG, INST, VENV, PENV, by ascending offset (PATT and SMPL have no such field). Panning values are signed
+-- in version 3.
+abbrev pub fieldRules : List ℕ → Layout → List Rule
+fieldRules m l =
+    rulesOfEach (songRules m (l .patterns)) (songBlocks m l)
+    ++ (rulesOfEach (instrumentRules m (l .samples)) (instrumentBlocks m l)
+    ++ (rulesOfEach (envelopeRules m (l .instruments) false) (envelopeBlocks m (l .places .venv))
+    ++ rulesOfEach (envelopeRules m (l .instruments) (eqb (l .version) 3)) (envelopeBlocks m (l .places .penv))))

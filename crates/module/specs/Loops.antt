@@ -1,0 +1,46 @@
+-- FORMAT.md, V6 and F16 (document 01, "Layout"): loops: refusal 14.
+use Prim.Native.Nat.{ℕ, _+_, _-_}
+use mathlib.Core.List.{List, [], _∷_}
+use mathlib.Core.Bool.{Bool, true, false, cond, not, _&&_, _||_}
+use lib.Dec.{eqb, leb}
+use Rattle.refusal.specs.Rules.{Rule, rule, rulesOfEach}
+use Rattle.refusal.specs.declared.Cause.the-variants.{Loop}
+use Rattle.layout.specs.Numbers.{number16, number32}
+use Rattle.layout.specs.declared.Place.{Place}
+use Rattle.layout.specs.declared.Layout.{Layout}
+use Rattle.blocks.specs.Sizes.{blockAt, instrumentBlocks}
+use Rattle.blocks.specs.declared.Kind.the-variants.{Sample}
+use Rattle.module.specs.Fields.{bit0, bit1}
+
+-- B3: the kind of a loop: bit 0 is forward, bit 1 ping-pong, and bit 0 wins.
+pub data LoopKind : Type 0 where
+  noLoop forward pingPong : LoopKind
+
+abbrev pub loopKind : ℕ → ℕ → LoopKind
+loopKind flags length = cond (eqb length 0) noLoop (cond (bit0 flags) forward (cond (bit1 flags) pingPong noLoop))
+
+-- V6: looped: the loop length is not 0, and bit 0 or 1 is set.
+abbrev pub isLoop : LoopKind → Bool
+isLoop noLoop = false
+isLoop forward = true
+isLoop pingPong = true
+
+abbrev pub looped : List ℕ → ℕ → Bool
+looped m at = isLoop (loopKind (number16 m (at + 48)) (number32 m (at + 42)))
+
+-- The frames of a sample, counted from 1.
+abbrev pub framesOf : List ℕ → Place → ℕ → ℕ
+framesOf m chunk sample = number32 m (blockAt m Sample chunk (sample - 1) + 4)
+
+-- V6: then the sample is not 0, and start + length, as whole numbers, is at most its frames.
+abbrev pub loopFits : List ℕ → Place → ℕ → Bool
+loopFits m chunk at =
+    not (looped m at)
+    || (leb 1 (number16 m (at + 30)) && leb (number32 m (at + 38) + number32 m (at + 42)) (framesOf m chunk (number16 m (at + 30))))
+
+-- F16: 14 by instrument.
+abbrev pub instrumentLoopRules : List ℕ → Place → ℕ → List Rule
+instrumentLoopRules m chunk at = rule (loopFits m chunk at) Loop at ∷ []
+
+abbrev pub loopRules : List ℕ → Layout → List Rule
+loopRules m l = rulesOfEach (instrumentLoopRules m (l .places .smpl)) (instrumentBlocks m l)

@@ -1,0 +1,34 @@
+-- FORMAT.md, F11 to F16 (document 01, "Refusal numbers and their order"): the verdict of a module.
+use Prim.Native.Nat.{ℕ}
+use mathlib.Core.List.{List, _++_}
+use Rattle.refusal.specs.Rules.{Rule, firstBroken}
+use Rattle.refusal.specs.declared.Verdict.{Verdict}
+use Rattle.refusal.specs.declared.Verdict.the-variants.{Accepted, Refused as VerdictRefused}
+use Rattle.layout.specs.Outlines.{outline, outlineIf}
+use Rattle.layout.specs.declared.Layout.{Layout}
+use Rattle.layout.specs.declared.Outline.{Outline}
+use Rattle.layout.specs.declared.Outline.the-variants.{Found, Refused}
+use Rattle.blocks.specs.Filling.{blockRules}
+use Rattle.module.specs.Fields.{fieldRules}
+use Rattle.module.specs.Loops.{loopRules}
+use Rattle.module.specs.Streams.{streamRules}
+
+-- F14 to F16: 11 by chunk; 12 and 13 by field; 14 by instrument; 15 by pattern.
+abbrev pub contentRules : List ℕ → Layout → List Rule
+contentRules m l = blockRules m l ++ (fieldRules m l ++ (loopRules m l ++ streamRules m l))
+
+abbrev pub contentIf : List ℕ → Outline → Outline
+contentIf m (Found l) = outlineIf (firstBroken (contentRules m l)) (Found l)
+contentIf m (Refused r) = Refused r
+
+-- The layout of a module that is accepted, or its refusal: 1 to 10 as its outline gives them, then 11 to 15.
+abbrev pub opened : List ℕ → Outline
+opened m = contentIf m (outline m)
+
+abbrev pub verdictOf : Outline → Verdict
+verdictOf (Found l) = Accepted
+verdictOf (Refused r) = VerdictRefused r
+
+-- The check of a module.
+abbrev pub moduleVerdict : List ℕ → Verdict
+moduleVerdict m = verdictOf (opened m)

@@ -1,0 +1,55 @@
+// The check of a whole module. What a module's numbers and chunks are, the crates below say; here its fields, loops and packed
+// streams are checked: refusals 12 to 15.
+mod envelopes;
+mod fields;
+mod loops;
+mod streams;
+
+use crate::fields::check_fields;
+use crate::loops::check_loops;
+use crate::streams::check_streams;
+use layout::Layout;
+use layout::Outline;
+use refusal::Verdict;
+ghost use mathlib.Core.Path.{_≡_};
+ghost use Rattle.refusal.specs.Rules.{firstBroken};
+ghost use Rattle.module.specs.Verdicts.{contentRules, opened, moduleVerdict};
+
+// Checks what stands in the chunks: 11, then 12 and 13, then 14, then 15.
+fn check_content(m: &[u8], l: Layout) -> Verdict
+    ensures { λ r. ⌜ r ≡ firstBroken (contentRules (now (m .entry)) l) ⌝ }
+{
+    if let Verdict::Refused(r) = blocks::check(m, l) {
+        return Verdict::Refused(r);
+    }
+    if let Verdict::Refused(r) = check_fields(m, l) {
+        return Verdict::Refused(r);
+    }
+    if let Verdict::Refused(r) = check_loops(m, l) {
+        return Verdict::Refused(r);
+    }
+    check_streams(m, l)
+}
+
+// The layout of a module that is accepted, or the module's own refusal.
+pub fn open(m: &[u8]) -> Outline
+    ensures { λ r. ⌜ r ≡ opened (now (m .entry)) ⌝ }
+{
+    match layout::find(m) {
+        Outline::Found(l) => match check_content(m, l) {
+            Verdict::Accepted => Outline::Found(l),
+            Verdict::Refused(r) => Outline::Refused(r),
+        },
+        Outline::Refused(r) => Outline::Refused(r),
+    }
+}
+
+// Checks a module.
+pub fn check(m: &[u8]) -> Verdict
+    ensures { λ r. ⌜ r ≡ moduleVerdict (now (m .entry)) ⌝ }
+{
+    match open(m) {
+        Outline::Found(_) => Verdict::Accepted,
+        Outline::Refused(r) => Verdict::Refused(r),
+    }
+}

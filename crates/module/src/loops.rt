@@ -1,0 +1,64 @@
+// Loops: refusal 14.
+use blocks::Kind;
+use blocks::block_at;
+use blocks::size;
+use layout::Layout;
+use layout::Place;
+use layout::numbers::number16;
+use layout::numbers::number32;
+use refusal::Cause;
+use refusal::Verdict;
+use refusal::refuse;
+ghost use mathlib.Core.Path.{_≡_};
+ghost use Prim.Native.Nat.{_<_};
+ghost use Rattle.refusal.specs.Rules.{firstBroken};
+ghost use Rattle.module.specs.Loops.{loopKind, isLoop, framesOf, loopFits, loopRules};
+
+// Whether an instrument with these flags and this loop length is looped.
+fn is_looped(flags: u16, length: u32) -> bool
+    ensures { λ r. ⌜ r ≡ isLoop (loopKind flags length) ⌝ }
+{
+    (length != 0) & ((flags % 2 == 1) | (flags / 2 % 2 == 1))
+}
+
+// The frames of a sample, counted from 1.
+fn frames(m: &[u8], chunk: Place, sample: u16) -> u32
+    requires { ⌜ 0 < sample ⌝ }
+    ensures { λ r. ⌜ r ≡ framesOf (now (m .entry)) chunk sample ⌝ }
+{
+    number32(m, block_at(m, Kind::Sample, chunk, sample - 1) + 4)
+}
+
+// Whether the loop of the instrument at a place, if it has one, is within its sample.
+fn loop_fits(m: &[u8], chunk: Place, at: usize) -> bool
+    requires { ⌜ at < 0x1000000000000000 ⌝ }
+    ensures { λ r. ⌜ r ≡ loopFits (now (m .entry)) chunk at ⌝ }
+{
+    let length = number32(m, at + 42);
+    if !is_looped(number16(m, at + 48), length) {
+        return true;
+    }
+    let sample = number16(m, at + 30);
+    if sample < 1 {
+        return false;
+    }
+    (number32(m, at + 38) as usize) + (length as usize) <= (frames(m, chunk, sample) as usize)
+}
+
+// Checks the loops of the instruments.
+pub fn check_loops(m: &[u8], l: Layout) -> Verdict
+    ensures { λ r. ⌜ r ≡ firstBroken (loopRules (now (m .entry)) l) ⌝ }
+{
+    let p = l.places;
+    let smpl = p.smpl;
+    let mut at = block_at(m, Kind::Instrument, p.inst, 0);
+    let mut left = l.instruments;
+    while 0 < left {
+        if !loop_fits(m, smpl, at) {
+            return Verdict::Refused(refuse(Cause::Loop, at));
+        }
+        at = at + size(m, Kind::Instrument, at);
+        left = left - 1;
+    }
+    Verdict::Accepted
+}
