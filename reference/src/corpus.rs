@@ -4,7 +4,10 @@
 //!
 //! - kind 1, a stream: rows (8), tracks (8), row (8), track (8), room (4), length (4), the stream;
 //! - kind 2, cells: rows (8), tracks (8), room (4), length (4), the cells;
-//! - kind 3, a cell to show: six bytes.
+//! - kind 3, a cell to show: six bytes;
+//! - kind 4, a module: room (4), length (4), the module.
+
+mod modules;
 
 use crate::generate::{bytes, cells, damaged, entry, likely_bytes, sound_stream, Random};
 use crate::pattern::{pack, repack, FIELDS};
@@ -27,6 +30,10 @@ pub enum Case {
         cells: Vec<u8>,
     },
     Shown([u8; FIELDS]),
+    Module {
+        room: u32,
+        module: Vec<u8>,
+    },
 }
 
 /// The bytes of the cases.
@@ -68,6 +75,12 @@ pub fn encoded(cases: &[Case]) -> Vec<u8> {
                 corpus.push(3);
                 corpus.extend(cell);
             }
+            Case::Module { room, module } => {
+                corpus.push(4);
+                corpus.extend(room.to_be_bytes());
+                corpus.extend((module.len() as u32).to_be_bytes());
+                corpus.extend(module);
+            }
         }
     }
     corpus
@@ -102,6 +115,11 @@ pub fn take(corpus: &[u8]) -> Option<(Case, &[u8])> {
             }
         }
         3 => Case::Shown(take_bytes(&mut left, FIELDS as u32)?.try_into().ok()?),
+        4 => {
+            let [room, length] = take_lengths(&mut left)?;
+            let module = take_bytes(&mut left, length)?.to_vec();
+            Case::Module { room, module }
+        }
         _ => return None,
     };
     Some((case, left))
@@ -129,8 +147,20 @@ fn take_lengths<const N: usize>(left: &mut &[u8]) -> Option<[u32; N]> {
     Some(numbers)
 }
 
-/// All cases.
+/// All cases: first those of packed rows, then those of modules.
 pub fn cases() -> Vec<Case> {
+    let mut cases = pattern_cases();
+    cases.extend(module_cases());
+    cases
+}
+
+/// The cases of kind 4.
+pub fn module_cases() -> Vec<Case> {
+    modules::cases()
+}
+
+/// The cases of kinds 1 to 3.
+pub fn pattern_cases() -> Vec<Case> {
     let mut made = Made {
         cases: Vec::new(),
         random: Random::new(1),

@@ -4,6 +4,7 @@ use std::fmt::Write;
 
 use crate::corpus::{take, Case};
 use crate::pattern::{cell, check, pack, repack, shown, unpack, Cell, Note, Refusal};
+use crate::{listing, module};
 
 /// An output is filled with this byte before the call.
 pub const FILL: u8 = 0xAA;
@@ -64,6 +65,11 @@ fn lines(case: &Case, text: &mut String) {
                 text,
                 format_args!("shown {}", spaced(values(shown(*bytes)))),
             );
+        }
+        Case::Module { room, module } => {
+            let (number, place) = numbers(module::check(module).err());
+            line(text, format_args!("module {number} {place}"));
+            written(text, "lines", *room, |out| listing::write(module, out));
         }
     }
 }

@@ -1,6 +1,8 @@
-//! Streams and cells made from a seed: the same seed, the same bytes.
+//! Streams, cells and modules made from a seed: the same seed, the same bytes.
 
-use crate::pattern::FIELDS;
+use crate::chunks::{Name, BEHIND_INFO, COVERED};
+use crate::draft::{Chunk, Draft, Envelope, Instrument, Pattern, Sample, Song, Tune};
+use crate::pattern::{repack, FIELDS};
 
 /// A xorshift generator.
 pub struct Random(u64);
@@ -113,4 +115,434 @@ pub fn cells(random: &mut Random, rows: u64, tracks: u64, filled: u64, named: u6
         }
     }
     cells
+}
+
+/// The most of each thing that a made module has. More than the format allows is taken as what it allows.
+#[derive(Clone, Copy, Debug, PartialEq, Eq)]
+pub struct Most {
+    pub songs: u64,
+    /// Entries of one playlist.
+    pub entries: u64,
+    pub instruments: u64,
+    pub patterns: u64,
+    pub rows: u64,
+    /// Packed entries of one row.
+    pub row_entries: u64,
+    pub tracks: u64,
+    pub samples: u64,
+    pub frames: u64,
+    /// Envelopes of each kind.
+    pub envelopes: u64,
+    /// Chunks with other identifiers.
+    pub others: u64,
+    pub other_bytes: u64,
+}
+
+impl Most {
+    /// Modules of some hundred bytes.
+    pub const SMALL: Most = Most {
+        songs: 2,
+        entries: 3,
+        instruments: 2,
+        patterns: 2,
+        rows: 3,
+        row_entries: 3,
+        tracks: 8,
+        samples: 2,
+        frames: 5,
+        envelopes: 1,
+        others: 2,
+        other_bytes: 4,
+    };
+
+    /// Modules of some thousand bytes.
+    pub const USUAL: Most = Most {
+        songs: 4,
+        entries: 20,
+        instruments: 12,
+        patterns: 10,
+        rows: 64,
+        row_entries: 5,
+        tracks: 32,
+        samples: 10,
+        frames: 300,
+        envelopes: 6,
+        others: 5,
+        other_bytes: 60,
+    };
+}
+
+/// An accepted module: records within `most`, other chunks, and any order of chunks that the rules allow.
+pub fn module(random: &mut Random, most: &Most) -> Draft {
+    let mut draft = tune(random, most).draft();
+    if random.chance(70) {
+        shuffle(random, &mut draft);
+    }
+    for _ in 0..random.below(most.others + 1) {
+        let place = random.below(draft.chunks.len() as u64 + 1) as usize;
+        let length = random.below(most.other_bytes + 1);
+        let chunk = Chunk::new(&other_name(random), bytes(random, length));
+        draft.chunks.insert(place, chunk);
+    }
+    draft
+}
+
+/// The records of an accepted module.
+pub fn tune(random: &mut Random, most: &Most) -> Tune {
+    let version = random.pick(&[2, 3, 3]);
+    let revision = (16 * random.below(10) + random.below(10)) as u8;
+    let reserved = random.pick(&[[0, 0], [0, 0], [0, 1], [0xFF, 0xFF]]);
+    let tracks = 4 + 2 * random.below(most.tracks.clamp(4, 254) / 2 - 1);
+    let name = random.chance(40).then(|| text(random, 44));
+    let patterns = many(random, most.patterns.min(1_024), |random| {
+        pattern(random, most, tracks)
+    });
+    let songs = many(random, most.songs.min(32_767), |random| {
+        song(random, most, patterns.len())
+    });
+    let samples = many(random, most.samples.min(255), |random| {
+        sample(random, most.frames)
+    });
+    let instruments = many(random, most.instruments.min(255), |random| {
+        instrument(random, &samples)
+    });
+    let count = instruments.len();
+    let panning = if version == 2 { (0, 64) } else { (-128, 128) };
+    Tune {
+        version,
+        revision,
+        reserved,
+        tracks: tracks as u16,
+        name,
+        songs,
+        patterns,
+        samples,
+        instruments,
+        volume_envelopes: envelopes(random, most, count, (0, 64)),
+        panning_envelopes: envelopes(random, most, count, panning),
+    }
+}
+
+/// 0 to `most` things.
+fn many<T>(random: &mut Random, most: u64, make: impl Fn(&mut Random) -> T) -> Vec<T> {
+    (0..random.below(most + 1)).map(|_| make(random)).collect()
+}
+
+/// Letters and spaces, up to so many bytes.
+fn text(random: &mut Random, most: u64) -> Vec<u8> {
+    many(random, most, |random| {
+        random.pick(b"abcdefghijklmnopqrstuvwxyz    ")
+    })
+}
+
+/// A number of a range, often one of its ends.
+fn edged(random: &mut Random, (low, high): (i64, i64)) -> i64 {
+    match random.below(8) {
+        0 => low,
+        1 => high,
+        _ => low + random.below((high - low) as u64 + 1) as i64,
+    }
+}
+
+/// Any number of 32 bits, mostly small, often near the ends.
+fn wild(random: &mut Random) -> u32 {
+    match random.below(4) {
+        0 => random.below(10) as u32,
+        1 => u32::MAX - random.below(10) as u32,
+        2 => (1 << random.below(32)) - random.below(2) as u32,
+        _ => random.number() as u32,
+    }
+}
+
+fn song(random: &mut Random, most: &Most, patterns: usize) -> Song {
+    let entries = if patterns == 0 { 0 } else { most.entries };
+    Song {
+        name: text(random, 44),
+        playlist: many(random, entries.min(65_535), |random| {
+            edged(random, (0, patterns as i64 - 1)) as u16
+        }),
+    }
+}
+
+fn pattern(random: &mut Random, most: &Most, tracks: u64) -> Pattern {
+    let rows = random.below(most.rows.min(65_535) + 1);
+    let mut stream = sound_stream(random, rows, tracks, most.row_entries);
+    if random.chance(50) {
+        let mut packed = stream.clone();
+        let length = repack(&stream, rows, tracks, &mut packed).expect("no longer than it was");
+        packed.truncate(length as usize);
+        stream = packed;
+    }
+    let filler = random.pick(&[0, 0, 1, 0x3F, 0xFF]);
+    Pattern {
+        rows: rows as u16,
+        stream,
+        filler,
+    }
+}
+
+fn sample(random: &mut Random, most: u64) -> Sample {
+    let frame_bytes = random.pick(&[1, 2, 4]);
+    let frames = random.below(most + 1);
+    Sample::new(frame_bytes, &bytes(random, frames * u64::from(frame_bytes)))
+}
+
+fn instrument(random: &mut Random, samples: &[Sample]) -> Instrument {
+    let number = random.below(samples.len() as u64 + 1) as usize;
+    let frames = number
+        .checked_sub(1)
+        .map_or(0, |index| u64::from(samples[index].frames));
+    let (loop_start, loop_length, flags) = if frames > 0 && random.chance(70) {
+        loop_within(random, frames)
+    } else {
+        no_loop(random)
+    };
+    Instrument {
+        name: text(random, 30),
+        sample: number as u16,
+        volume: edged(random, (0, 64)) as u16,
+        rate: wild(random),
+        loop_start,
+        loop_length,
+        panning: edged(random, (-128, 128)) as i16,
+        flags,
+    }
+}
+
+/// Start, length and flags of a loop inside so many frames; every second one ends with them.
+fn loop_within(random: &mut Random, frames: u64) -> (u32, u32, u16) {
+    let length = 1 + random.below(frames);
+    let start = if random.chance(50) {
+        frames - length
+    } else {
+        random.below(frames - length + 1)
+    };
+    (start as u32, length as u32, random.pick(&[1, 2, 3]))
+}
+
+/// Start, length and flags of an instrument that is not looped: no length, or no kind of loop.
+fn no_loop(random: &mut Random) -> (u32, u32, u16) {
+    if random.chance(50) {
+        (wild(random), 0, random.pick(&[0, 1, 2, 3]))
+    } else {
+        (wild(random), wild(random), 0)
+    }
+}
+
+/// The envelopes of one kind, or no such chunk.
+fn envelopes(
+    random: &mut Random,
+    most: &Most,
+    instruments: usize,
+    values: (i64, i64),
+) -> Option<Vec<Envelope>> {
+    if random.chance(50) {
+        return None;
+    }
+    let count = if instruments == 0 { 0 } else { most.envelopes };
+    Some(many(random, count.min(65_535), |random| {
+        envelope(random, instruments, values)
+    }))
+}
+
+/// An envelope whose unused points and numbers are anything.
+fn envelope(random: &mut Random, instruments: usize, values: (i64, i64)) -> Envelope {
+    let flags = random.byte() & 0x0F;
+    let sections = edged(random, (0, 31));
+    let mut point = |bit: u8| {
+        if flags & (1 << bit) == 0 {
+            random.byte()
+        } else {
+            edged(random, (0, sections)) as u8
+        }
+    };
+    let (first_sustain, second_sustain) = (point(1), point(3));
+    let (mut loop_first, mut loop_last) = (point(2), point(2));
+    if flags & 0b100 != 0 && loop_first > loop_last {
+        (loop_first, loop_last) = (loop_last, loop_first);
+    }
+    let points = (0..32)
+        .map(|index| {
+            let position = random.number() as u16;
+            if index <= sections {
+                (position, edged(random, values) as i16)
+            } else {
+                (position, random.number() as i16)
+            }
+        })
+        .collect();
+    Envelope {
+        instrument: edged(random, (1, instruments as i64)) as u16,
+        flags,
+        sections: sections as u8,
+        first_sustain,
+        loop_first,
+        loop_last,
+        second_sustain,
+        points,
+    }
+}
+
+/// An identifier that is not covered, some of them nearly one that is.
+fn other_name(random: &mut Random) -> Name {
+    const LIKELY: [&Name; 10] = [
+        b"DSPE", b"PNAM", b"MPEG", b"XYZW", b"AAAA", b"ZZZZ", b"NAMF", b"INFN", b"TONG", b"SMPM",
+    ];
+    *random.pick(&LIKELY)
+}
+
+/// Puts the chunks into another order, with INFO before the four that need it.
+fn shuffle(random: &mut Random, draft: &mut Draft) {
+    for last in (1..draft.chunks.len()).rev() {
+        let other = random.below(last as u64 + 1) as usize;
+        draft.chunks.swap(last, other);
+    }
+    let info = draft.index(b"INFO");
+    let info = draft.chunks.remove(info);
+    let first = draft
+        .chunks
+        .iter()
+        .position(|chunk| BEHIND_INFO.contains(&chunk.name))
+        .expect("the four are there");
+    let place = random.below(first as u64 + 1) as usize;
+    draft.chunks.insert(place, info);
+}
+
+/// Puts one fault into a module; sometimes it is none and the module stays accepted. A module without chunks stays as it is.
+pub fn damage(random: &mut Random, draft: &mut Draft) {
+    if draft.chunks.is_empty() {
+        return;
+    }
+    match random.below(16) {
+        0..=4 => damage_byte(random, draft),
+        5 => damage_pair(random, draft),
+        6 | 7 => damage_info(random, draft),
+        8 | 9 => damage_length(random, draft),
+        10 => damage_end(random, draft),
+        11 => damage_order(random, draft),
+        12 => damage_identifier(random, draft),
+        13 => drop(draft.chunks.remove(any(random, draft))),
+        14 => {
+            let again = draft.chunks[any(random, draft)].clone();
+            let place = random.below(draft.chunks.len() as u64 + 1) as usize;
+            draft.chunks.insert(place, again);
+        }
+        _ => damage_frame(random, draft),
+    }
+}
+
+/// The index of a chunk.
+fn any(random: &mut Random, draft: &Draft) -> usize {
+    random.below(draft.chunks.len() as u64) as usize
+}
+
+/// One byte of a chunk's data.
+fn damage_byte(random: &mut Random, draft: &mut Draft) {
+    let chunk = any(random, draft);
+    let data = &mut draft.chunks[chunk].data;
+    if data.is_empty() {
+        data.push(random.byte());
+        return;
+    }
+    let place = random.below(data.len() as u64) as usize;
+    data[place] = match random.below(5) {
+        0 => 0,
+        1 => data[place].wrapping_add(1),
+        2 => data[place].wrapping_sub(1),
+        3 => data[place] ^ (1 << random.below(8)),
+        _ => random.byte(),
+    };
+}
+
+/// Two bytes of a chunk's data that may be one number.
+fn damage_pair(random: &mut Random, draft: &mut Draft) {
+    let chunk = any(random, draft);
+    let data = &mut draft.chunks[chunk].data;
+    if data.len() < 2 {
+        return;
+    }
+    let place = 2 * random.below(data.len() as u64 / 2) as usize;
+    let number = random.pick(&[0, 1, 2, 64, 65, 128, 129, 0x8000, 0xFF80, 0xFF7F, 0xFFFF]);
+    data[place..place + 2].copy_from_slice(&u16::to_be_bytes(number));
+}
+
+/// One of the numbers of INFO, if it is there.
+fn damage_info(random: &mut Random, draft: &mut Draft) {
+    let info = draft.chunks.iter_mut().find(|chunk| chunk.name == *b"INFO");
+    if let Some(info) = info.filter(|info| info.data.len() >= 10) {
+        let place = 2 * random.below(5) as usize;
+        let number = u16::from_be_bytes([info.data[place], info.data[place + 1]]);
+        let number = match random.below(4) {
+            0 => number.wrapping_add(1),
+            1 => number.wrapping_sub(1),
+            2 => number.wrapping_add(2),
+            _ => random.pick(&[0, 255, 256, 1_024, 1_025, 32_767, 32_768, 65_535]),
+        };
+        info.data[place..place + 2].copy_from_slice(&number.to_be_bytes());
+    }
+}
+
+/// The length that a chunk's header tells.
+fn damage_length(random: &mut Random, draft: &mut Draft) {
+    let chunk = any(random, draft);
+    let length = draft.chunks[chunk].data.len() as u32;
+    let told = match random.below(6) {
+        0 => length.wrapping_add(1),
+        1 => length.wrapping_sub(1),
+        2 => length.wrapping_add(8),
+        3 => length.wrapping_sub(8),
+        4 => u32::MAX - random.below(64) as u32,
+        _ => wild(random),
+    };
+    draft.chunks[chunk].told = Some(told);
+}
+
+/// The end of a chunk's data; its header follows.
+fn damage_end(random: &mut Random, draft: &mut Draft) {
+    let chunk = any(random, draft);
+    let data = &mut draft.chunks[chunk].data;
+    if random.chance(50) {
+        data.truncate(random.below(data.len() as u64 + 1) as usize);
+    } else {
+        let length = 1 + random.below(4);
+        data.extend(bytes(random, length));
+    }
+}
+
+/// Two chunks change places.
+fn damage_order(random: &mut Random, draft: &mut Draft) {
+    let (one, other) = (any(random, draft), any(random, draft));
+    draft.chunks.swap(one, other);
+}
+
+/// A letter of an identifier, or the whole of it.
+fn damage_identifier(random: &mut Random, draft: &mut Draft) {
+    let chunk = any(random, draft);
+    let name = &mut draft.chunks[chunk].name;
+    if random.chance(40) {
+        *name = random.pick(&COVERED);
+    } else {
+        name[random.below(4) as usize] = random.pick(b"@[az0 \x00\xC1\xFFQ");
+    }
+}
+
+/// The header of the module, or what stands behind its last chunk.
+fn damage_frame(random: &mut Random, draft: &mut Draft) {
+    match random.below(3) {
+        0 => {
+            let place = random.below(draft.header.len() as u64) as usize;
+            draft.header[place] = random.byte();
+        }
+        1 => {
+            let length = 1 + random.below(9);
+            draft.tail = bytes(random, length);
+        }
+        _ => {
+            let last = draft.chunks.len() - 1;
+            let last = &mut draft.chunks[last];
+            last.told = Some(last.data.len() as u32);
+            let kept = random.below(last.data.len() as u64 + 1) as usize;
+            last.data.truncate(kept);
+        }
+    }
 }

@@ -151,7 +151,7 @@ fn pack_row(cells: &[u8], packed: &mut Vec<u8>) {
 }
 
 /// Puts the bytes at the front of the output, or refuses with 17 and touches nothing.
-fn put(bytes: &[u8], out: &mut [u8]) -> Result<u64, Refusal> {
+pub(crate) fn put(bytes: &[u8], out: &mut [u8]) -> Result<u64, Refusal> {
     let needed = bytes.len() as u64;
     out.get_mut(..bytes.len())
         .ok_or(too_short(needed))?

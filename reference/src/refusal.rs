@@ -7,12 +7,99 @@ pub struct Refusal {
     pub place: u64,
 }
 
+/// 1: the module has over 16,777,216 bytes.
+pub fn too_big() -> Refusal {
+    Refusal {
+        number: 1,
+        place: 0,
+    }
+}
+
+/// 2: the module has under 8 bytes, or does not begin with DBM0.
+pub fn no_module() -> Refusal {
+    Refusal {
+        number: 2,
+        place: 0,
+    }
+}
+
+/// 3: version or revision.
+pub fn unknown_version() -> Refusal {
+    Refusal {
+        number: 3,
+        place: 4,
+    }
+}
+
+/// 4: the header or the data of the chunk at this place are cut.
+pub fn cut_chunk(place: u64) -> Refusal {
+    Refusal { number: 4, place }
+}
+
+/// 5: the identifier of the chunk at this place is not four letters A to Z.
+pub fn no_letters(place: u64) -> Refusal {
+    Refusal { number: 5, place }
+}
+
+/// 6: the covered chunk at this place is not the first of its kind.
+pub fn repeated(place: u64) -> Refusal {
+    Refusal { number: 6, place }
+}
+
+/// 7: the chunk at this place needs INFO before it.
+pub fn before_info(place: u64) -> Refusal {
+    Refusal { number: 7, place }
+}
+
+/// 8: a mandatory chunk is missing in a module of this length.
+pub fn missing_chunk(length: u64) -> Refusal {
+    Refusal {
+        number: 8,
+        place: length,
+    }
+}
+
+/// 9: the NAME or INFO at this place has another length than it should.
+pub fn wrong_length(place: u64) -> Refusal {
+    Refusal { number: 9, place }
+}
+
+/// 10: the number of INFO at this place is out of range.
+pub fn wrong_info(place: u64) -> Refusal {
+    Refusal { number: 10, place }
+}
+
+/// 11: the blocks do not fill the chunk at this place, or a sample in it has other flags than 1, 2 or 4.
+pub fn wrong_blocks(place: u64) -> Refusal {
+    Refusal { number: 11, place }
+}
+
+/// 12: the field at this place names something that does not exist.
+pub fn dangling(place: u64) -> Refusal {
+    Refusal { number: 12, place }
+}
+
+/// 13: the field at this place is out of range.
+pub fn wrong_field(place: u64) -> Refusal {
+    Refusal { number: 13, place }
+}
+
+/// 14: the loop of the instrument whose block stands at this place lies outside its sample.
+pub fn loop_outside(place: u64) -> Refusal {
+    Refusal { number: 14, place }
+}
+
 /// 15: a packed stream is broken, at this offset.
 pub fn broken(place: usize) -> Refusal {
     Refusal {
         number: 15,
         place: place as u64,
     }
+}
+
+/// 15: the packed stream of the pattern whose block stands at this place of the module is broken.
+pub fn broken_pattern(place: u64) -> Refusal {
+    Refusal { number: 15, place }
 }
 
 /// 16: rows, tracks, or the length of the packer's input.

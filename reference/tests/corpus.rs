@@ -1,6 +1,8 @@
 //! The corpus, and the text of what is expected: typed by hand where it is text.
 
-use reference::corpus::{cases, encoded, take, Case};
+use std::collections::BTreeSet;
+
+use reference::corpus::{cases, encoded, module_cases, pattern_cases, take, Case};
 use reference::expect::expected;
 
 fn stream(rows: u64, tracks: u64, row: u64, track: u64, room: u32, stream: &[u8]) -> Case {
@@ -79,10 +81,55 @@ fn the_lines_of_shown_cells() {
 }
 
 #[test]
+fn the_lines_of_modules() {
+    let mut smallest = b"DBM0\x03\x00\x00\x00INFO\x00\x00\x00\x0A".to_vec();
+    smallest.extend([0, 0, 0, 0, 0, 0, 0, 0, 0, 4]);
+    for name in [b"SONG", b"INST", b"PATT", b"SMPL"] {
+        smallest.extend(name);
+        smallest.extend([0; 4]);
+    }
+    let module = |room, module: &[u8]| Case::Module {
+        room,
+        module: module.to_vec(),
+    };
+    let corpus = encoded(&[
+        module(78, &smallest),
+        module(77, &smallest),
+        module(76, &smallest),
+        module(0, &smallest),
+        module(16, &smallest[..42]),
+        module(15, &smallest[..8]),
+        module(3, &[]),
+    ]);
+    assert_eq!(corpus.len(), 7 * 9 + 4 * 58 + 42 + 8);
+    assert_eq!(&corpus[..13], b"\x04\x00\x00\x00\x4E\x00\x00\x00\x3ADBM0");
+    let text: String =
+        b"version 3.00\ninstruments 0\nsamples 0\nsongs 0\npatterns 0\ntracks 4\naccepted 58\n"
+            .iter()
+            .map(|byte| format!("{byte:02x}"))
+            .collect();
+    assert_eq!(
+        expected(&corpus),
+        format!(
+            "module 0 0\nlines 0 0 77 {text}aa\n\
+             module 0 0\nlines 0 0 77 {text}\n\
+             module 0 0\nlines 17 77 0 {}\n\
+             module 0 0\nlines 17 77 0 \n\
+             module 8 42\nlines 0 0 16 7265667573656420382061742034320a\n\
+             module 8 8\nlines 0 0 15 72656675736564203820617420380a\n\
+             module 2 0\nlines 17 15 0 aaaaaa\n\
+             cases 7\n",
+            "aa".repeat(76)
+        )
+    );
+}
+
+#[test]
 fn a_cut_case_or_an_unknown_kind_ends_the_run() {
     assert_eq!(expected(&[]), "cases 0\n");
     assert_eq!(expected(&[0]), "cases 0\n");
     assert_eq!(expected(&[4, 0, 0]), "cases 0\n");
+    assert_eq!(expected(&[5, 0, 0, 0, 0, 0, 0, 0, 0]), "cases 0\n");
     let shown = encoded(&[Case::Shown([0; 6])]);
     let line = "shown 0 0 0 0 0 0 0 0\n";
     assert_eq!(
@@ -98,6 +145,10 @@ fn a_cut_case_or_an_unknown_kind_ends_the_run() {
             cells: vec![0; 24],
         },
         Case::Shown([1; 6]),
+        Case::Module {
+            room: 20,
+            module: vec![b'D'; 9],
+        },
     ];
     for case in whole {
         let case = encoded(&[case]);
@@ -124,6 +175,17 @@ fn more_room_than_65536_is_taken_as_that() {
             expected(&corpus),
             format!("pack 0 0 0 {}\ncases 1\n", "aa".repeat(65_536))
         );
+        let corpus = encoded(&[Case::Module {
+            room,
+            module: vec![],
+        }]);
+        assert_eq!(
+            expected(&corpus),
+            format!(
+                "module 2 0\nlines 0 0 15 72656675736564203220617420300a{}\ncases 1\n",
+                "aa".repeat(65_536 - 15)
+            )
+        );
     }
 }
 
@@ -131,7 +193,7 @@ fn more_room_than_65536_is_taken_as_that() {
 fn the_corpus_is_read_back_and_within_its_bounds() {
     let made = cases();
     let corpus = encoded(&made);
-    assert!(corpus.len() <= 240_000, "{} bytes", corpus.len());
+    assert!(corpus.len() <= 524_288, "{} bytes", corpus.len());
     let mut left = &corpus[..];
     for case in &made {
         let (read, after) = take(left).expect("a whole case");
@@ -142,6 +204,37 @@ fn the_corpus_is_read_back_and_within_its_bounds() {
     let text = expected(&corpus);
     assert!(text.len() <= 1_500_000, "{} bytes", text.len());
     assert!(text.ends_with(&format!("\ncases {}\n", made.len())));
+}
+
+/// FNV-1a of 64 bits.
+fn hash(bytes: &[u8]) -> u64 {
+    bytes.iter().fold(0xCBF2_9CE4_8422_2325, |hash, &byte| {
+        (hash ^ u64::from(byte)).wrapping_mul(0x0100_0000_01B3)
+    })
+}
+
+#[test]
+fn the_cases_of_packed_rows_stay_as_they_are_and_stand_first() {
+    let patterns = encoded(&pattern_cases());
+    assert_eq!(patterns.len(), 230_736);
+    assert_eq!(hash(&patterns), 0x9BEA_592E_846C_7DC2);
+    let all = encoded(&cases());
+    assert_eq!(all[..230_736], patterns);
+    assert_eq!(all[230_736..], encoded(&module_cases()));
+}
+
+#[test]
+fn the_modules_are_small_and_many() {
+    let modules: Vec<Vec<u8>> = module_cases()
+        .into_iter()
+        .map(|case| match case {
+            Case::Module { module, .. } => module,
+            other => panic!("{other:?}"),
+        })
+        .collect();
+    assert!(modules.iter().all(|module| module.len() <= 1_200));
+    let different: BTreeSet<_> = modules.iter().collect();
+    assert!(different.len() >= 1_700, "{} modules", different.len());
 }
 
 #[test]
@@ -160,6 +253,17 @@ fn the_corpus_has_every_kind_of_answer() {
             let count = text.lines().filter(|line| line.starts_with(&start)).count();
             assert!(count >= 100, "{start}: {count}");
         }
+    }
+    // No module of the corpus has over 16,777,216 bytes.
+    for number in [0, 2, 3, 4, 5, 6, 7, 8, 9, 10, 11, 12, 13, 14, 15] {
+        let start = format!("module {number} ");
+        let count = text.lines().filter(|line| line.starts_with(&start)).count();
+        assert!(count >= 30, "{start}: {count}");
+    }
+    for number in [0, 17] {
+        let start = format!("lines {number} ");
+        let count = text.lines().filter(|line| line.starts_with(&start)).count();
+        assert!(count >= 200, "{start}: {count}");
     }
     for kind in 0..4 {
         let start = format!("cell 0 0 {kind} ");

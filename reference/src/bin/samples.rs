@@ -1,0 +1,23 @@
+//! Writes the sample modules into a folder, which is the only argument.
+
+#![forbid(unsafe_code)]
+
+use std::path::PathBuf;
+use std::process::ExitCode;
+
+fn main() -> ExitCode {
+    let mut arguments = std::env::args_os().skip(1);
+    let (Some(folder), None) = (arguments.next(), arguments.next()) else {
+        eprintln!("usage: samples FOLDER");
+        return ExitCode::from(2);
+    };
+    let folder = PathBuf::from(folder);
+    for (name, module) in reference::tunes::files() {
+        let path = folder.join(name);
+        if let Err(error) = std::fs::write(&path, module) {
+            eprintln!("{}: {error}", path.display());
+            return ExitCode::FAILURE;
+        }
+    }
+    ExitCode::SUCCESS
+}
