@@ -1,4 +1,4 @@
--- Rules one after the other, and a loop that passes over places and checks the rules of each.
+-- A loop that passes over places and checks the rules of each.
 use Prim.Native.Nat.{ℕ, suc, _+_, _-_, _*_, _<_, _≤_}
 use mathlib.Core.Path.{_≡_, refl, sym, ap, _∙_}
 use mathlib.Core.List.{List, [], _∷_, _++_}
@@ -10,37 +10,8 @@ use Rattle.refusal.specs.declared.Cause.{Cause}
 use Rattle.refusal.specs.declared.Refusal.{Refusal}
 use Rattle.refusal.specs.declared.Verdict.{Verdict}
 use Rattle.refusal.specs.declared.Verdict.the-variants.{Accepted, Refused}
+use Rattle.refusal.proofs.RuleLists.{broken-passed, broken-stopped}
 use Rattle.blocks.specs.Sizes.{placesFrom}
-
--- Rules behind rules that all hold, and behind one that does not.
-module _ (ys : List Rule) where
-  pub broken-passed : (xs : List Rule) → firstBroken xs ≡ Accepted → firstBroken (xs ++ ys) ≡ firstBroken ys
-  broken-passed [] e = refl
-  broken-passed (x ∷ xs) e = go (x .holds) refl (broken-passed xs)
-    where
-      go : (b : Bool) → x .holds ≡ b → (firstBroken xs ≡ Accepted → firstBroken (xs ++ ys) ≡ firstBroken ys) → firstBroken ((x ∷ xs) ++ ys) ≡ firstBroken ys
-      go true t later = rw t (later (rw t at e))
-      go false t later = let z : _≡_ {A = ℕ} 0 1 = cc (rw t at e) in absurd (omega arith)
-
-  pub broken-stopped : {r : Refusal} (xs : List Rule) → firstBroken xs ≡ Refused r → firstBroken (xs ++ ys) ≡ Refused r
-  broken-stopped [] e = let z : _≡_ {A = ℕ} 0 1 = cc in absurd (omega arith)
-  broken-stopped {r} (x ∷ xs) e = go (x .holds) refl (broken-stopped xs)
-    where
-      go : (b : Bool) → x .holds ≡ b → (firstBroken xs ≡ Refused r → firstBroken (xs ++ ys) ≡ Refused r) → firstBroken ((x ∷ xs) ++ ys) ≡ Refused r
-      go true t later = rw t (later (rw t at e))
-      go false t later = rw t (rw t at e)
-
--- A verdict, and then another.
-abbrev pub andThen : Verdict → Verdict → Verdict
-andThen Accepted v = v
-andThen (Refused r) v = Refused r
-
-pub broken-append : (xs ys : List Rule) → firstBroken (xs ++ ys) ≡ andThen (firstBroken xs) (firstBroken ys)
-broken-append xs ys = go (firstBroken xs) refl
-  where
-    go : (v : Verdict) → firstBroken xs ≡ v → firstBroken (xs ++ ys) ≡ andThen v (firstBroken ys)
-    go Accepted e = broken-passed ys xs e
-    go (Refused r) e = broken-stopped ys xs e
 
 -- A loop checks the rules of n places from a start on, where each place gives the way to the next. It stands at a place, with so
 -- many places left: the verdict is that of what is left, and there is room for the steps that are left.

@@ -5,6 +5,7 @@ use crate::text::fill;
 use crate::text::print_bytes;
 use crate::text::print_numbers;
 use crate::text::within;
+use listing_text::Listing;
 use pattern::CellAnswer;
 use pattern::Packing;
 use pattern::Unpacking;
@@ -63,6 +64,13 @@ fn of_packing(p: Packing) -> Answer {
     match p {
         Packing::Packed(n) => of_length(n),
         Packing::Refused(r) => of_refusal(r),
+    }
+}
+
+fn of_listing(l: Listing) -> Answer {
+    match l {
+        Listing::Written(n) => of_length(n),
+        Listing::Refused(r) => of_refusal(r),
     }
 }
 
@@ -196,6 +204,14 @@ fn print_shown(cell: [u8; 6], line: &mut [u8]) {
     print_numbers(b"shown", &numbers, line);
 }
 
+fn print_module(m: &[u8], out: &mut [u8], line: &mut [u8]) {
+    let verdict = of_verdict(module::check(m));
+    print_numbers(b"module", &[verdict.number, verdict.place], line);
+    fill(out);
+    let a = of_listing(listing_text::lines(m, out));
+    print_bytes(b"lines", &[a.number, a.place, a.length], out, line);
+}
+
 // Each function below takes the input from a case's first byte on, and answers how many bytes the
 // case has: 0 where no whole case stands there.
 
@@ -248,6 +264,22 @@ fn shown_case(s: &[u8], line: &mut [u8]) -> usize
     7
 }
 
+fn module_case(s: &[u8], out: &mut [u8], line: &mut [u8]) -> usize
+    ensures { λ r. ⌜ r ≤ length (now (s .entry)) ⌝ }
+{
+    if s.len() < 9 {
+        return 0;
+    }
+    let length = be32(s, 5);
+    if s.len() - 9 < length {
+        return 0;
+    }
+    let end = 9 + length;
+    let room = within(be32(s, 1), out);
+    print_module(&s[9..end], &mut out[..room], line);
+    end
+}
+
 fn case(s: &[u8], out: &mut [u8], line: &mut [u8]) -> usize
     ensures { λ r. ⌜ r ≤ length (now (s .entry)) ⌝ }
 {
@@ -263,6 +295,9 @@ fn case(s: &[u8], out: &mut [u8], line: &mut [u8]) -> usize
     }
     if kind == 3 {
         return shown_case(s, line);
+    }
+    if kind == 4 {
+        return module_case(s, out, line);
     }
     0
 }

@@ -1,10 +1,11 @@
-// Prints what the library `pattern` says of each case of standard input.
+// Prints what the libraries `pattern`, `module` and `listing_text` say of each case of standard input.
 //
-// The input has at most 262,144 bytes, and its numbers are big-endian. A case is one of
+// The input has at most 524,288 bytes, and its numbers are big-endian. A case is one of
 //   1, rows u64, tracks u64, row u64, track u64, room u32, length u32, a stream of that length:
 //      prints what checking, unpacking, repacking and the question for one cell answer;
 //   2, rows u64, tracks u64, room u32, length u32, cells of that length: prints what packing answers;
-//   3, the six bytes of a cell: prints the cell as it is shown.
+//   3, the six bytes of a cell: prints the cell as it is shown;
+//   4, room u32, length u32, a module of that length: prints what checking and listing it answer.
 // Room is the length of the output that is lent, at most 65,536; each of its bytes is 170 before the
 // call. Another first byte, or a case that is cut, ends the run. The last line counts the cases.
 mod cases;
@@ -17,10 +18,10 @@ ghost use mathlib.Core.Path.{_≡_};
 ghost use lib.ListN.{length};
 
 // Room for the input. The `ensures` gives the length, which lending the array as a slice needs.
-fn input_space() -> [u8; 262144]
-    ensures { λ r. ⌜ 262144 ≡ length r ⌝ }
+fn input_space() -> [u8; 524288]
+    ensures { λ r. ⌜ 524288 ≡ length r ⌝ }
 {
-    [0; 262144]
+    [0; 524288]
 }
 
 // Room for the longest line: a word, numbers, and 65,536 bytes at two digits each.

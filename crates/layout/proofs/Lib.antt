@@ -1,5 +1,5 @@
 pub mod Bytes
-pub mod RulesHeld
+pub mod Tests
 pub mod ChunksBefore
 pub mod Walking
 pub mod Outlining

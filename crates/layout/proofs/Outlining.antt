@@ -18,7 +18,7 @@ use Rattle.layout.specs.Steps.{walked, outlineWith}
 use Rattle.layout.specs.declared.Places.{Places}
 use Rattle.layout.specs.declared.Outline.the-variants.{Found, Refused}
 use Rattle.layout.specs.declared.walk.Walked.the-variants.{Whole, Refused as WalkRefused}
-use Rattle.layout.proofs.RulesHeld.{rules-held}
+use Rattle.refusal.proofs.RuleLists.{rules-held}
 use Rattle.layout.proofs.ChunksBefore.{present-all}
 
 module _ (m : List ℕ) where

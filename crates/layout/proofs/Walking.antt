@@ -16,7 +16,7 @@ use Rattle.layout.specs.Outlines.{standing, placesOf}
 use Rattle.layout.specs.Steps.{putIn, placedRules, walked}
 use Rattle.layout.specs.declared.Places.{Places}
 use Rattle.layout.specs.declared.walk.Walked.the-variants.{Whole, Refused as WalkRefused}
-use Rattle.layout.proofs.RulesHeld.{rules-held}
+use Rattle.refusal.proofs.RuleLists.{rules-held}
 use Rattle.layout.proofs.ChunksBefore.{rules-placed, put-more}
 
 -- An accepted chunk is no second one of a covered kind.

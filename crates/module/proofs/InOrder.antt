@@ -11,7 +11,7 @@ use Rattle.refusal.specs.declared.Verdict.the-variants.{Accepted, Refused}
 use Rattle.layout.specs.Numbers.{byteAt}
 use Rattle.layout.specs.declared.Layout.{Layout}
 use Rattle.blocks.specs.Sizes.{songBlocks, instrumentBlocks, envelopeBlocks}
-use Rattle.blocks.proofs.Passing.{broken-stopped, broken-passed}
+use Rattle.refusal.proofs.RuleLists.{broken-stopped, broken-passed}
 use Rattle.module.specs.Fields.{songRules, instrumentRules, envelopeHeadRules, envelopePointRules, valuesRules, envelopeRules}
 
 -- What was told of the first rules, on the way to the verdict of all.

@@ -1,6 +1,6 @@
 use borrow.Author.Needs.{needs}
 use borrow.Author.Tests.{not-true, not-false}
-use Rattle.blocks.proofs.Passing.{broken-append}
+use Rattle.refusal.proofs.RuleLists.{broken-append}
 use Rattle.blocks.proofs.check.Statement.{statement}
 use Rattle.blocks.proofs.check.Tie as tie
 

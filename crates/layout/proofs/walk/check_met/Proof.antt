@@ -1,6 +1,6 @@
 use borrow.Author.Needs.{needs}
 use borrow.Author.Tests.{eq-eqb, ne-eqb, not-true, not-false}
-use Rattle.layout.proofs.RulesHeld.{without-fails, without-holds}
+use Rattle.layout.proofs.Tests.{without-fails, without-holds}
 use Rattle.layout.proofs.walk.check_met.Statement.{statement}
 use Rattle.layout.proofs.walk.check_met.Tie as tie
 

@@ -1,0 +1,14 @@
+use borrow.Author.Needs.{needs}
+use native.Mathlib.Omega.{arith}
+use Rattle.listing_text.specs.Lines.{decimal, ascii}
+use Rattle.listing_text.proofs.Putting.{put-both}
+use Rattle.listing_text.proofs.text.put_version.Statement.{statement}
+use Rattle.listing_text.proofs.text.put_version.Tie as tie
+
+returns : tie.Need-returns
+returns c = (put-both (ascii "version ") _ (c .before .before .before .before .before .before .before .before .before .before .before .before .before .put-word .ensures) (put-both (decimal (c .before .before .before .before .before .before .before .before .before .before .before .before .before .before .before .before .before .args .version)) _ (c .before .before .before .before .before .before .before .before .before .put-decimal .ensures .0) (rw (c .before .before .before .before .before .before .digit .ensures, c .before .before .before .before .before .digit2 .ensures) at (c .before .before .put-word2 .ensures))), omega arith)
+
+pub put-version-spec : {M : Type 1} → statement M
+put-version-spec =
+    tie.close
+    (tie.spec (λ c. search needs) (λ c κs. search needs) (λ c κs. search needs) (λ c. search needs) (λ c κs. search needs) (λ c. search needs) (λ c κs. search needs) (λ c. search needs) (λ c κs. search needs) (λ c. search needs) returns)
