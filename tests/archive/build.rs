@@ -1,4 +1,4 @@
-//! Links libpattern.a from target/staticlib, or from the directory that DBM0_STATICLIB_DIR names.
+//! Links libpattern.a and libdbm0.a from target/staticlib, or from the directory that DBM0_STATICLIB_DIR names.
 
 use std::path::PathBuf;
 
@@ -10,11 +10,13 @@ fn main() {
         Some(directory) => PathBuf::from(directory),
         None => here.join("../../target/staticlib"),
     };
-    let archive = directory.join("libpattern.a");
-    println!("cargo:rerun-if-changed={}", archive.display());
-    if !archive.is_file() {
-        panic!("{} is missing: build the archives first", archive.display());
-    }
     println!("cargo:rustc-link-search=native={}", directory.display());
-    println!("cargo:rustc-link-lib=static=pattern");
+    for name in ["pattern", "dbm0"] {
+        let archive = directory.join(format!("lib{name}.a"));
+        println!("cargo:rerun-if-changed={}", archive.display());
+        if !archive.is_file() {
+            panic!("{} is missing: build the archives first", archive.display());
+        }
+        println!("cargo:rustc-link-lib=static={name}");
+    }
 }

@@ -1,7 +1,12 @@
-//! The comparison: a library, given as its three calls, against the reference.
+//! The comparison: a library, given as its calls, against the reference.
 
-use crate::interface::{self, Answer};
-use reference::pattern::{self, Refusal};
+use std::fmt::Debug;
+
+use crate::interface::{self, Answer, ModuleAnswer};
+use reference::corpus::Case;
+use reference::expect::MOST_ROOM;
+use reference::refusal::Refusal;
+use reference::{module, pattern};
 
 /// How many bytes stand before and after a lent output.
 const GUARD: usize = 64;
@@ -35,13 +40,15 @@ pub struct Library {
     pub check: fn(&[u8], u64, u64) -> Answer,
     pub unpack: fn(&[u8], u64, u64, &mut Lent) -> Answer,
     pub pack: fn(&[u8], u64, u64, &mut Lent) -> Answer,
+    pub check_module: fn(&[u8]) -> ModuleAnswer,
 }
 
-/// libpattern.a.
+/// libpattern.a and libdbm0.a.
 pub const ARCHIVE: Library = Library {
     check: interface::check,
     unpack: |stream, rows, tracks, lent| interface::unpack(stream, rows, tracks, lent.out()),
     pack: |cells, rows, tracks, lent| interface::pack(cells, rows, tracks, lent.out()),
+    check_module: interface::check_module,
 };
 
 /// The reference itself.
@@ -49,6 +56,7 @@ pub const REFERENCE: Library = Library {
     check: |stream, rows, tracks| answer(pattern::check(stream, rows, tracks).map(|()| 0)),
     unpack: |stream, rows, tracks, lent| answer(pattern::unpack(stream, rows, tracks, lent.out())),
     pack: |cells, rows, tracks, lent| answer(pattern::pack(cells, rows, tracks, lent.out())),
+    check_module: |module| module_answer(module::check(module)),
 };
 
 /// The answer of the C interface for an answer of the reference.
@@ -64,6 +72,39 @@ pub fn answer(result: Result<u64, Refusal>) -> Answer {
             place,
             length: 0,
         },
+    }
+}
+
+/// The answer of the C interface for an answer of the reference about a module.
+pub fn module_answer(result: Result<(), Refusal>) -> ModuleAnswer {
+    match result {
+        Ok(()) => ModuleAnswer {
+            number: 0,
+            place: 0,
+        },
+        Err(Refusal { number, place }) => ModuleAnswer { number, place },
+    }
+}
+
+/// A case of the corpus. A cell to show is no call of the archives.
+pub fn case(library: Library, case: &Case) -> Result<(), String> {
+    let lent = |room: u32| room.min(MOST_ROOM) as usize;
+    match case {
+        Case::Stream {
+            rows,
+            tracks,
+            room,
+            stream,
+            ..
+        } => self::stream(library, stream, *rows, *tracks, lent(*room)),
+        Case::Cells {
+            rows,
+            tracks,
+            room,
+            cells,
+        } => self::cells(library, cells, *rows, *tracks, lent(*room)),
+        Case::Shown(_) => Ok(()),
+        Case::Module { module, .. } => self::module(library, module),
     }
 }
 
@@ -141,7 +182,21 @@ pub fn round_trip(library: Library, cells: &[u8], rows: u64, tracks: u64) -> Res
     Ok(())
 }
 
-fn same_answer(call: &str, is: Answer, expected: Answer) -> Result<(), String> {
+/// Checks a module. The error says what differs, with the whole module where it is not too long to be read.
+pub fn module(library: Library, module: &[u8]) -> Result<(), String> {
+    let told = |what: String| match module.len() {
+        0..=4096 => format!("{what}\nmodule {module:02x?}"),
+        length => format!("{what}\nmodule of {length} bytes"),
+    };
+    let is = (library.check_module)(module);
+    if is.place > module.len() as u64 {
+        return Err(told(format!("check_module gives {is:?}, past the end")));
+    }
+    let expected = (REFERENCE.check_module)(module);
+    same_answer("check_module", is, expected).map_err(told)
+}
+
+fn same_answer<A: PartialEq + Debug>(call: &str, is: A, expected: A) -> Result<(), String> {
     if is == expected {
         return Ok(());
     }

@@ -1,14 +1,23 @@
-//! The C interface of libpattern.a (include/dbm0_pattern.h), made safe. All that is unsafe stands here.
+//! The C interface of libpattern.a (include/dbm0_pattern.h) and of libdbm0.a (include/dbm0.h), made safe. All that is unsafe stands
+//! here.
 
 #![allow(unsafe_code)]
 
-/// The answer of each call.
+/// The answer of each call on packed rows.
 #[repr(C)]
 #[derive(Clone, Copy, Debug, PartialEq, Eq)]
 pub struct Answer {
     pub number: u64,
     pub place: u64,
     pub length: u64,
+}
+
+/// The answer of the check of a module.
+#[repr(C)]
+#[derive(Clone, Copy, Debug, PartialEq, Eq)]
+pub struct ModuleAnswer {
+    pub number: u64,
+    pub place: u64,
 }
 
 extern "C" {
@@ -29,6 +38,7 @@ extern "C" {
         out: *mut u8,
         out_length: usize,
     ) -> Answer;
+    fn dbm0_check_module(module: *const u8, length: usize) -> ModuleAnswer;
 }
 
 pub fn check(stream: &[u8], rows: u64, tracks: u64) -> Answer {
@@ -62,4 +72,15 @@ pub fn pack(cells: &[u8], rows: u64, tracks: u64, out: &mut [u8]) -> Answer {
             out.len(),
         )
     }
+}
+
+pub fn check_module(module: &[u8]) -> ModuleAnswer {
+    // The pointer and length are those of a slice that lives through the call.
+    unsafe { dbm0_check_module(module.as_ptr(), module.len()) }
+}
+
+/// The check of a module of no bytes at NULL.
+pub fn check_module_at_null() -> ModuleAnswer {
+    // The header allows NULL where the length is 0.
+    unsafe { dbm0_check_module(std::ptr::null(), 0) }
 }

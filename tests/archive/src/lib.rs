@@ -1,6 +1,7 @@
-//! Compares libpattern.a with the independent second program.
+//! Compares libpattern.a and libdbm0.a with the independent second program.
 
 #![deny(unsafe_code)]
 
 pub mod compare;
 pub mod interface;
+pub mod seeds;

@@ -2,44 +2,14 @@
 
 use archive::compare::{self, Lent, Library, REFERENCE};
 use archive::interface::Answer;
-use reference::corpus::{cases, Case};
-use reference::expect::MOST_ROOM;
+use reference::corpus::{pattern_cases, Case};
 use reference::generate::{cells, Random};
 
 /// How many cases of the corpus differ.
 fn differences(library: Library) -> usize {
-    cases()
+    pattern_cases()
         .iter()
-        .filter(|case| match case {
-            Case::Stream {
-                rows,
-                tracks,
-                room,
-                stream,
-                ..
-            } => compare::stream(
-                library,
-                stream,
-                *rows,
-                *tracks,
-                (*room).min(MOST_ROOM) as usize,
-            )
-            .is_err(),
-            Case::Cells {
-                rows,
-                tracks,
-                room,
-                cells,
-            } => compare::cells(
-                library,
-                cells,
-                *rows,
-                *tracks,
-                (*room).min(MOST_ROOM) as usize,
-            )
-            .is_err(),
-            Case::Shown(_) => false,
-        })
+        .filter(|case| compare::case(library, case).is_err())
         .count()
 }
 
@@ -175,7 +145,7 @@ fn a_byte_before_or_past_the_output() {
                 answer
             }
         };
-        let streams = cases()
+        let streams = pattern_cases()
             .iter()
             .filter(|case| matches!(case, Case::Stream { .. }))
             .count();

@@ -1,33 +1,11 @@
-//! libpattern.a against the reference.
-//!
-//! Each random case is made from its own seed. DBM0_CASES says how many there are of each kind, DBM0_SEED where the seeds begin; a
-//! case that fails prints its seed, and DBM0_SEED with it and DBM0_CASES=1 repeats it.
+//! libpattern.a against the reference. DBM0_CASES and DBM0_SEED say how many random cases there are, and which.
 
 use archive::compare::{self, answer, Lent, ARCHIVE, REFERENCE};
 use archive::interface;
-use reference::corpus::{cases, Case};
-use reference::expect::MOST_ROOM;
+use archive::seeds::for_seeds;
+use reference::corpus::{pattern_cases, Case};
 use reference::generate::{bytes, cells, damaged, likely_bytes, sound_stream, Random};
 use reference::pattern::{check, pack, repack, unpack};
-
-fn from_environment(name: &str, default: u64) -> u64 {
-    match std::env::var(name) {
-        Ok(text) => text
-            .parse()
-            .unwrap_or_else(|_| panic!("{name} is not a number: {text}")),
-        Err(_) => default,
-    }
-}
-
-/// Runs a comparison for each seed.
-fn for_seeds(usual: u64, compare: impl Fn(&mut Random) -> Result<(), String>) {
-    let first = from_environment("DBM0_SEED", 1);
-    for seed in first..first.saturating_add(from_environment("DBM0_CASES", usual)) {
-        if let Err(what) = compare(&mut Random::new(seed)) {
-            panic!("seed {seed}: {what}");
-        }
-    }
-}
 
 /// Rows and tracks, mostly small ones.
 fn shape(random: &mut Random) -> (u64, u64) {
@@ -90,48 +68,27 @@ fn compare_stream(
     compare::stream(ARCHIVE, stream, rows, tracks, room)
 }
 
+/// Each case with its own room, and streams also with just enough.
 #[test]
 fn the_corpus() {
-    let mut count = 0;
-    for case in cases() {
-        let outcome = match &case {
-            Case::Stream {
-                rows,
-                tracks,
-                room,
-                stream,
-                ..
-            } => {
-                let exact = needed(*rows, *tracks) as usize;
-                compare::stream(
-                    ARCHIVE,
-                    stream,
-                    *rows,
-                    *tracks,
-                    (*room).min(MOST_ROOM) as usize,
-                )
-                .and_then(|()| compare::stream(ARCHIVE, stream, *rows, *tracks, exact))
-            }
-            Case::Cells {
-                rows,
-                tracks,
-                room,
-                cells,
-            } => compare::cells(
-                ARCHIVE,
-                cells,
-                *rows,
-                *tracks,
-                (*room).min(MOST_ROOM) as usize,
-            ),
-            Case::Shown(_) => continue,
-        };
-        if let Err(what) = outcome {
-            panic!("case {count} of the corpus: {what}");
+    let cases = pattern_cases();
+    for (index, case) in cases.iter().enumerate() {
+        let mut outcome = compare::case(ARCHIVE, case);
+        if let Case::Stream {
+            rows,
+            tracks,
+            stream,
+            ..
+        } = case
+        {
+            let room = needed(*rows, *tracks) as usize;
+            outcome = outcome.and_then(|()| compare::stream(ARCHIVE, stream, *rows, *tracks, room));
         }
-        count += 1;
+        if let Err(what) = outcome {
+            panic!("case {index} of the corpus: {what}");
+        }
     }
-    assert!(count > 3000, "only {count} cases");
+    assert!(cases.len() > 3000, "only {} cases", cases.len());
 }
 
 #[test]

@@ -1,0 +1,25 @@
+//! Random cases, each made from its own seed.
+//!
+//! DBM0_CASES says how many there are of each kind, DBM0_SEED where the seeds begin; a case that fails prints its seed, and
+//! DBM0_SEED with it and DBM0_CASES=1 repeats it.
+
+use reference::generate::Random;
+
+fn from_environment(name: &str, default: u64) -> u64 {
+    match std::env::var(name) {
+        Ok(text) => text
+            .parse()
+            .unwrap_or_else(|_| panic!("{name} is not a number: {text}")),
+        Err(_) => default,
+    }
+}
+
+/// Runs a comparison for each seed.
+pub fn for_seeds(usual: u64, compare: impl Fn(&mut Random) -> Result<(), String>) {
+    let first = from_environment("DBM0_SEED", 1);
+    for seed in first..first.saturating_add(from_environment("DBM0_CASES", usual)) {
+        if let Err(what) = compare(&mut Random::new(seed)) {
+            panic!("seed {seed}: {what}");
+        }
+    }
+}

@@ -1,0 +1,371 @@
+//! libdbm0.a against the reference. DBM0_CASES and DBM0_SEED say how many random cases there are, and which. The modules that are
+//! as large as they may be stand in large/mod.rs.
+
+mod large;
+
+use archive::compare::{self, ARCHIVE};
+use archive::interface::{self, ModuleAnswer};
+use archive::seeds::for_seeds;
+use reference::chunks::{Name, COVERED};
+use reference::corpus::module_cases;
+use reference::draft::{Chunk, Draft, Envelope, Instrument, Pattern, Sample, Song, Tune};
+use reference::generate::{bytes, damage, damaged, module, Most, Random};
+use reference::tunes::files;
+
+const ACCEPTED: ModuleAnswer = ModuleAnswer {
+    number: 0,
+    place: 0,
+};
+
+/// The archive agrees with the reference, and both accept the module.
+fn accepted(module: &[u8]) -> Result<(), String> {
+    compare::module(ARCHIVE, module)?;
+    match interface::check_module(module) {
+        ACCEPTED => Ok(()),
+        answer => Err(format!("{answer:?} for a module that was made sound")),
+    }
+}
+
+/// The small modules, and now and then a larger one.
+fn drawn(random: &mut Random) -> Draft {
+    let most = if random.chance(10) {
+        Most::USUAL
+    } else {
+        Most::SMALL
+    };
+    module(random, &most)
+}
+
+/// All eight covered chunks and two others, each list with two blocks or more.
+fn everything() -> Draft {
+    let song = |name: &[u8], playlist: &[u16]| Song {
+        name: name.to_vec(),
+        playlist: playlist.to_vec(),
+    };
+    let instrument = |sample, loop_start, loop_length, flags| Instrument {
+        name: b"reed".to_vec(),
+        sample,
+        volume: 64,
+        rate: 8_363,
+        loop_start,
+        loop_length,
+        panning: -128,
+        flags,
+    };
+    let envelope = |instrument, points: &[(u16, i16)]| Envelope {
+        instrument,
+        flags: 0b1111,
+        sections: points.len() as u8 - 1,
+        first_sustain: 1,
+        loop_first: 1,
+        loop_last: 2,
+        second_sustain: 2,
+        points: points.to_vec(),
+    };
+    let tune = Tune {
+        revision: 0x12,
+        name: Some(b"Everything".to_vec()),
+        songs: vec![song(b"one", &[0, 2, 1]), song(b"two", &[2])],
+        instruments: vec![
+            instrument(1, 1, 2, 1),
+            instrument(3, 0, 3, 2),
+            instrument(0, 9, 9, 0),
+        ],
+        patterns: vec![
+            Pattern::new(2, &[2, 3, 0x47, 1, 0, 0]),
+            Pattern::new(1, &[4, 0x3F, 1, 2, 3, 4, 5, 6, 0]),
+            Pattern::new(0, &[]),
+        ],
+        samples: vec![
+            Sample::new(1, &[1, 2, 3]),
+            Sample::new(2, &[1, 2, 3, 4]),
+            Sample::new(4, &[1, 2, 3, 4, 5, 6, 7, 8, 9, 10, 11, 12]),
+        ],
+        volume_envelopes: Some(vec![
+            envelope(1, &[(0, 64), (5, 0), (9, 32)]),
+            envelope(3, &[(0, 1), (1, 2), (2, 3), (3, 64)]),
+        ]),
+        panning_envelopes: Some(vec![envelope(2, &[(0, -128), (7, 128), (9, 0)])]),
+        ..Tune::default()
+    };
+    let mut draft = tune.draft();
+    draft
+        .chunks
+        .insert(1, Chunk::new(b"PNAM", b"\0\x01x".to_vec()));
+    draft.chunks.push(Chunk::new(b"DSPE", vec![0, 0, 0, 0]));
+    draft
+}
+
+/// Every list has one block, and the envelopes one section.
+fn small(version: u8, sample: Sample) -> Vec<u8> {
+    let envelope = |points: [(u16, i16); 2]| Envelope {
+        instrument: 1,
+        flags: 0b1111,
+        sections: 1,
+        loop_last: 1,
+        second_sustain: 1,
+        points: points.to_vec(),
+        ..Envelope::default()
+    };
+    let tune = Tune {
+        version,
+        name: Some(vec![]),
+        songs: vec![Song {
+            name: vec![],
+            playlist: vec![0],
+        }],
+        instruments: vec![Instrument {
+            sample: 1,
+            volume: 64,
+            loop_start: 1,
+            loop_length: 2,
+            panning: 128,
+            flags: 1,
+            ..Instrument::default()
+        }],
+        patterns: vec![Pattern::new(2, &[0, 2, 3, 0x47, 1, 0])],
+        samples: vec![sample],
+        volume_envelopes: Some(vec![envelope([(0, 64), (9, 0)])]),
+        panning_envelopes: Some(vec![envelope([(0, 64), (9, 0)])]),
+        ..Tune::default()
+    };
+    tune.bytes()
+}
+
+#[test]
+fn the_corpus() {
+    let cases = module_cases();
+    for (index, case) in cases.iter().enumerate() {
+        if let Err(what) = compare::case(ARCHIVE, case) {
+            panic!("case {index} of the modules of the corpus: {what}");
+        }
+    }
+    assert!(cases.len() > 500, "only {} cases", cases.len());
+}
+
+#[test]
+fn the_sample_files() {
+    for (name, module) in files() {
+        compare::module(ARCHIVE, &module).unwrap_or_else(|what| panic!("{name}: {what}"));
+    }
+}
+
+#[test]
+fn sound_modules() {
+    for_seeds(20_000, |random| accepted(&drawn(random).bytes()));
+}
+
+#[test]
+fn damaged_modules() {
+    for_seeds(100_000, |random| {
+        let mut draft = drawn(random);
+        for _ in 0..1 + random.below(3) {
+            damage(random, &mut draft);
+        }
+        compare::module(ARCHIVE, &draft.bytes())
+    });
+}
+
+/// Bytes taken out, put in and changed, wherever they stand.
+#[test]
+fn damaged_bytes() {
+    for_seeds(50_000, |random| {
+        let module = drawn(random).bytes();
+        compare::module(ARCHIVE, &damaged(random, &module))
+    });
+}
+
+/// Chunks in any order and number, most of them as they should be where all counts are 0.
+#[test]
+fn heaps_of_chunks() {
+    const OTHER: [Name; 4] = [*b"DSPE", *b"AAAA", *b"ZZZZ", *b"IN O"];
+    for_seeds(50_000, |random| {
+        let mut draft = Tune::default().draft();
+        draft.chunks.truncate(random.below(6) as usize);
+        for _ in 0..random.below(8) {
+            let name = if random.chance(75) {
+                random.pick(&COVERED)
+            } else {
+                random.pick(&OTHER)
+            };
+            let length = match &name {
+                _ if random.chance(10) => random.below(50),
+                b"NAME" => 44,
+                b"INFO" => 10,
+                b"VENV" | b"PENV" => 2,
+                _ => 0,
+            };
+            let mut data = vec![0; length as usize];
+            if name == *b"INFO" && length == 10 {
+                data[9] = random.pick(&[4, 4, 4, 3, 6]);
+            }
+            let place = random.below(draft.chunks.len() as u64 + 1) as usize;
+            draft.chunks.insert(place, Chunk::new(&name, data));
+        }
+        if random.chance(10) {
+            let length = random.below(12);
+            draft.tail = bytes(random, length);
+        }
+        compare::module(ARCHIVE, &draft.bytes())
+    });
+}
+
+#[test]
+fn any_bytes() {
+    for_seeds(20_000, |random| {
+        let length = random.below(100);
+        let mut module = bytes(random, length);
+        // Mostly with the beginning of a module.
+        for (byte, due) in module.iter_mut().zip(*b"DBM0\x03\x00\x00\x00") {
+            if random.chance(98) {
+                *byte = due;
+            }
+        }
+        compare::module(ARCHIVE, &module)
+    });
+}
+
+/// Every beginning of a module with all chunks, in two orders of the chunks; and the module without each byte, and with one more.
+#[test]
+fn every_cut() {
+    let reversed = everything().ordered(&[
+        *b"PENV", *b"VENV", *b"DSPE", *b"INFO", *b"SMPL", *b"PATT", *b"INST", *b"SONG", *b"NAME",
+    ]);
+    for draft in [everything(), reversed] {
+        let module = draft.bytes();
+        accepted(&module).unwrap();
+        for place in 0..module.len() {
+            compare::module(ARCHIVE, &module[..place]).unwrap();
+            let (before, after) = module.split_at(place);
+            compare::module(ARCHIVE, &[before, &after[1..]].concat()).unwrap();
+            for byte in [0, after[0], 0xFF] {
+                compare::module(ARCHIVE, &[before, &[byte], after].concat()).unwrap();
+            }
+        }
+    }
+}
+
+/// Every byte of a small module of each version, changed to every value.
+#[test]
+fn every_change_of_a_byte() {
+    for version in [2, 3] {
+        let mut module = small(version, Sample::new(1, &[0x40, 0x80, 0xC0]));
+        accepted(&module).unwrap();
+        for place in 0..module.len() {
+            let stored = module[place];
+            for byte in 0..=255 {
+                module[place] = byte;
+                compare::module(ARCHIVE, &module).unwrap();
+            }
+            module[place] = stored;
+        }
+    }
+}
+
+/// The four bytes from every place on, as a number that is moved by so much that a sum or product of 32 bits would wrap.
+#[test]
+fn wild_numbers() {
+    for width in [1, 2, 4] {
+        let mut module = small(3, Sample::new(width, &[0; 12]));
+        accepted(&module).unwrap();
+        for place in 0..module.len() - 3 {
+            let stored: [u8; 4] = module[place..place + 4].try_into().unwrap();
+            for eighth in 0..8u32 {
+                for rest in [0, 1, 2, 4, 8, 1 << 16, 1 << 24] {
+                    for moved in [(eighth << 29) + rest, (eighth << 29).wrapping_sub(rest)] {
+                        let number = u32::from_be_bytes(stored).wrapping_add(moved);
+                        module[place..place + 4].copy_from_slice(&number.to_be_bytes());
+                        compare::module(ARCHIVE, &module).unwrap();
+                    }
+                }
+            }
+            module[place..place + 4].copy_from_slice(&stored);
+        }
+    }
+}
+
+/// Every loop from a list of starts and lengths, on samples of few frames and on none.
+#[test]
+fn every_loop() {
+    const HALF: u32 = 1 << 31;
+    let near = |number: u32| (0..8).map(move |offset| number.wrapping_add(offset).wrapping_sub(3));
+    let numbers: Vec<u32> = near(0).chain(near(HALF)).collect();
+    for frames in 0..5 {
+        let mut tune = Tune {
+            samples: vec![Sample::new(2, &vec![0; 2 * frames])],
+            instruments: vec![Instrument::default()],
+            ..Tune::default()
+        };
+        for sample in [0, 1] {
+            for flags in 0..4 {
+                for &loop_start in &numbers {
+                    for &loop_length in &numbers {
+                        let instrument = &mut tune.instruments[0];
+                        instrument.sample = sample;
+                        instrument.flags = flags;
+                        instrument.loop_start = loop_start;
+                        instrument.loop_length = loop_length;
+                        let looped = flags > 0 && loop_length > 0;
+                        let end = u64::from(loop_start) + u64::from(loop_length);
+                        let fits = sample == 1 && end <= frames as u64;
+                        one_loop(&tune.bytes(), !looped || fits);
+                    }
+                }
+            }
+        }
+    }
+}
+
+/// INST stands behind INFO and an empty SONG: 8 + 18 + 8, and its first block 8 further.
+fn one_loop(module: &[u8], is_sound: bool) {
+    let expected = if is_sound {
+        ACCEPTED
+    } else {
+        ModuleAnswer {
+            number: 14,
+            place: 42,
+        }
+    };
+    assert_eq!(interface::check_module(module), expected, "{module:02x?}");
+    compare::module(ARCHIVE, module).unwrap();
+}
+
+/// Every number of two bytes that may stand in the fields of INFO, with all counts 0 and no blocks.
+#[test]
+fn every_number_of_info() {
+    let mut module = Tune::default().bytes();
+    for field in [16, 18, 20, 22, 24] {
+        let stored = [module[field], module[field + 1]];
+        for number in 0..=u16::MAX {
+            module[field..field + 2].copy_from_slice(&number.to_be_bytes());
+            compare::module(ARCHIVE, &module).unwrap();
+        }
+        module[field..field + 2].copy_from_slice(&stored);
+    }
+}
+
+#[test]
+fn no_bytes() {
+    let refused = ModuleAnswer {
+        number: 2,
+        place: 0,
+    };
+    assert_eq!(interface::check_module_at_null(), refused);
+    assert_eq!(interface::check_module(&[]), refused);
+}
+
+/// The module may stand anywhere, and what stands before and behind it does not count.
+#[test]
+fn modules_at_every_alignment() {
+    let module = everything().bytes();
+    for start in 0..64 {
+        for filler in [0, b'A', 0xFF] {
+            let mut memory = vec![filler; module.len() + 128];
+            memory[start..start + module.len()].copy_from_slice(&module);
+            let lent = &memory[start..start + module.len()];
+            assert_eq!(interface::check_module(lent), ACCEPTED);
+            let cut = &lent[..lent.len() - 1];
+            compare::module(ARCHIVE, cut).unwrap();
+        }
+    }
+}
