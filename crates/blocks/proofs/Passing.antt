@@ -8,7 +8,6 @@ use Rattle.refusal.specs.Numbers.{refusal}
 use Rattle.refusal.specs.Rules.{Rule, rule, firstBroken, rulesOfEach}
 use Rattle.refusal.specs.declared.Cause.{Cause}
 use Rattle.refusal.specs.declared.Refusal.{Refusal}
-use Rattle.refusal.specs.declared.Verdict.{Verdict}
 use Rattle.refusal.specs.declared.Verdict.the-variants.{Accepted, Refused}
 use Rattle.refusal.proofs.RuleLists.{broken-passed, broken-stopped}
 use Rattle.blocks.specs.Sizes.{placesFrom}

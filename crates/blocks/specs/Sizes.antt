@@ -1,7 +1,7 @@
 -- FORMAT.md, B1 to B6 (document 01, "Layout"): how long a block is, and where the blocks of a chunk stand.
 use Prim.Native.Nat.{ℕ, zero, suc, _+_, _*_, _%_}
 use mathlib.Core.List.{List, [], _∷_}
-use mathlib.Core.Bool.{Bool, true, false, cond}
+use mathlib.Core.Bool.{cond}
 use lib.Dec.{eqb}
 use Rattle.layout.specs.Numbers.{number16, number32}
 use Rattle.layout.specs.declared.Place.{Place}

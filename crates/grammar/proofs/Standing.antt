@@ -1,13 +1,13 @@
 -- How the layout that the check finds goes with the chunks of the rules: the link between the two halves of theorem 8.
 use Prim.Native.Nat.{ℕ, _+_}
 use mathlib.Core.Path.{_≡_}
-use mathlib.Core.List.{List, [], _∷_, _++_}
-use mathlib.Core.Bool.{Bool, true, false}
+use mathlib.Core.List.{List, _++_}
+use mathlib.Core.Bool.{true}
 use lib.ListN.{length}
 use Rattle.layout.specs.Numbers.{byteAt, number16}
 use Rattle.layout.specs.declared.Place.{Place}
 use Rattle.layout.specs.declared.Layout.{Layout}
-use Rattle.grammar.specs.Rules.{Among, nameLetters, infoLetters, songLetters, instLetters, pattLetters, smplLetters, venvLetters, penvLetters}
+use Rattle.grammar.specs.Rules.{Among, infoLetters, songLetters, instLetters, pattLetters, smplLetters, venvLetters, penvLetters}
 
 -- The chunk's bytes stand in the module where the place says.
 pub record Stands (m : List ℕ) (place : Place) (chunk : List ℕ) : Type 0 where

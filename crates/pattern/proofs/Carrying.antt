@@ -5,15 +5,15 @@ use mathlib.Core.List.{List, [], _∷_, _++_, append-assoc}
 use mathlib.Core.Bool.{Bool, true, false}
 use native.Mathlib.Omega.{arith}
 use borrow.Author.Tests.{lt-ltb}
-use native.Mathlib.Nat.{add-zero, zero-add, zero-mul, suc-mul, add-comm, add-assoc}
-use lib.ListN.{length, getD, take, drop, set, length-append, length-take, length-drop}
-use lib.Seq.{drop-append-seam, drop-drop, take-at, drop-at, take-add, drop-append-le, take-append-le, length-take-le}
-use Rattle.pattern.specs.Cells.{Cell, Row, blocksOf, rowOf, joined, emptyCell}
+use native.Mathlib.Nat.{zero-add, zero-mul, suc-mul, add-comm, add-assoc}
+use lib.ListN.{length, getD, take, drop, set, length-append, length-drop}
+use lib.Seq.{drop-drop, take-at, drop-at, take-add, length-take-le}
+use Rattle.pattern.specs.Cells.{Cell, blocksOf, rowOf, joined, emptyCell}
 use Rattle.pattern.specs.Entries.{Entry, entryBytes, fieldsNamed, named, count, store, carryOut, carryAll}
 use Rattle.pattern.specs.Stream.{Front, nothing, rowEnd, entry, fault, front, Reading, brokenAt, whole, newRow, addEntry, reading}
-use Rattle.pattern.specs.Steps.{RowAhead, Carried, storedAt, entryLength}
+use Rattle.pattern.specs.Steps.{RowAhead, storedAt, entryLength}
 use Rattle.pattern.proofs.Reading.{reading-nothing, reading-fault, reading-row-end, reading-entry}
-use Rattle.pattern.proofs.Checking.{RowEndAt, EntryAt, row-end-at, entry-at}
+use Rattle.pattern.proofs.Checking.{EntryAt, row-end-at, entry-at}
 use Rattle.pattern.proofs.Soundness.{Sound, sound-facts}
 use Rattle.pattern.proofs.Shapes.{length-store, joined-row}
 

@@ -1,24 +1,20 @@
 -- Carrying out all rows of an accepted stream, one after the other, on an output that holds zeros.
-use Prim.Native.Nat.{ℕ, zero, suc, _+_, _-_, _*_, _<_, _≤_}
+use Prim.Native.Nat.{ℕ, zero, suc, _+_, _*_}
 use mathlib.Core.Path.{_≡_, refl, sym, ap, _∙_}
-use mathlib.Core.List.{List, [], _∷_, _++_, append-assoc, append-nil}
+use mathlib.Core.List.{List, [], _∷_, _++_, append-assoc}
 use native.Mathlib.Omega.{arith}
-use native.Mathlib.Nat.{add-zero, zero-add, zero-mul, suc-mul, add-comm, add-assoc}
-use lib.ListN.{length, getD, take, drop, replicate, length-append, length-replicate, replicate-append-replicate}
+use native.Mathlib.Nat.{zero-mul, suc-mul, add-comm}
+use lib.ListN.{length, take, drop, replicate, length-append, length-replicate, replicate-append-replicate}
 use lib.Seq.{take-at, drop-at}
-use Rattle.refusal.specs.declared.Verdict.the-variants.{Accepted, Refused}
+use Rattle.refusal.specs.declared.Verdict.the-variants.{Accepted}
 use Rattle.pattern.specs.Cells.{Row, rowOf, joined, bytesOf, emptyCell, emptyRow}
 use Rattle.pattern.specs.Entries.{Entry, carryAll, rowFrom, rowsFrom}
-use Rattle.pattern.specs.Stream.{Reading, brokenAt, whole, reading, readStream, entriesRead, cellsRead}
+use Rattle.pattern.specs.Stream.{Reading, whole, reading, readStream, entriesRead, cellsRead}
 use Rattle.pattern.specs.Answers.{verdictOf}
 use Rattle.pattern.specs.Steps.{RowAhead, Carried, Loaded}
+use Rattle.pattern.proofs.ByVerdict.{accepted-reading}
 use Rattle.pattern.proofs.Grammar.{reads-from}
 use Rattle.pattern.proofs.Shapes.{length-joined, row-from-shaped}
-
--- An accepted stream was read whole.
-pub accepted-whole : (r : Reading) → verdictOf r ≡ Accepted → (rows : List (List Entry)) × (r ≡ whole rows)
-accepted-whole (brokenAt p) h = absurd (let z : _≡_ {A = ℕ} 0 1 = cc in omega arith)
-accepted-whole (whole rows) h = (rows, refl)
 
 -- Zeros are empty cells.
 pub zeros-row : (tracks : ℕ) → rowOf tracks (replicate (tracks * 6) 0) ≡ emptyRow tracks
@@ -41,7 +37,7 @@ pub record CarryingRows (s : List ℕ) (rows tracks : ℕ) (out : List ℕ) (at 
 module _ (s : List ℕ) (rows tracks : ℕ) where
   pub rows-first : (out : List ℕ) → verdictOf (readStream rows tracks s) ≡ Accepted → out ≡ replicate (rows * (tracks * 6)) 0 → CarryingRows s rows tracks out 0 0 rows
   rows-first out ok zeros =
-      let read = accepted-whole (readStream rows tracks s) ok in
+      let read = accepted-reading (readStream rows tracks s) .0 ok in
       record { later = read .0; done = []; reads = read .1; base-is = refl; holds = zeros; gives = ap (λ (r : Reading). bytesOf (rowsFrom tracks (entriesRead r))) (read .1) }
 
   module _ (out : List ℕ) (at base left : ℕ) (state : CarryingRows s rows tracks out at base left) where

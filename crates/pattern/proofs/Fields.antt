@@ -10,7 +10,7 @@ use lib.Dec.{eqb}
 use native.Mathlib.Numerals.{add-one}
 use lib.ListN.{length, getD, take, drop, set, length-set, take-append-drop}
 use lib.Seq.{drop-cons, take-suc, take-suc-set, drop-set-lt, getD-drop, drop-drop, set-getD}
-use Rattle.pattern.specs.Entries.{store, bits, count}
+use Rattle.pattern.specs.Entries.{bits, count}
 use Rattle.pattern.specs.Steps.{storedFrom, storedAt}
 
 module _ (ns : List Bool) (values out : List ℕ) (to : ℕ) (inside : to < length out) where

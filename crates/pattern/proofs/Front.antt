@@ -1,18 +1,18 @@
 -- How many bytes stand at the front of a stream, by its first two bytes.
 use Prim.Native.Nat.{ℕ, suc, _+_, _-_, _<_, _≤_}
-use mathlib.Core.Path.{_≡_, refl, sym, ap, _∙_}
+use mathlib.Core.Path.{_≡_, refl, _∙_}
 use mathlib.Core.List.{List, [], _∷_}
 use mathlib.Core.Bool.{Bool, true, false, cond}
 use native.Mathlib.Omega.{arith}
 use native.Mathlib.Numerals.{add-one}
 use lib.ListN.{length, getD, take, drop, length-drop, drop-of-length-le}
 use lib.Seq.{drop-cons, length-take-le}
-use lib.Dec.{eqb, leb, ltb}
+use lib.Dec.{eqb, leb}
 use borrow.Author.Tests.{leb-true, leb-false, lt-leb, le-leb, eqb-true}
 use Rattle.pattern.specs.Cells.{both}
 use Rattle.pattern.specs.Entries.{soundMask, fieldsNamed}
 use Rattle.pattern.specs.Stream.{front}
-use Rattle.pattern.specs.Steps.{entryLength, pieceLength, frontLength}
+use Rattle.pattern.specs.Steps.{pieceLength, frontLength}
 
 module _ (tracks track mask : ℕ) (rest : List ℕ) where
   pub front-pair : frontLength (front tracks (track ∷ mask ∷ rest)) ≡ cond (both (leb track tracks) (leb (pieceLength track mask) (2 + length rest))) (pieceLength track mask) 0

@@ -1,5 +1,6 @@
 pub mod Shapes
 pub mod Reading
+pub mod ByVerdict
 pub mod Grammar
 pub mod Fields
 pub mod Lengths

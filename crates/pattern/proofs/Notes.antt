@@ -1,12 +1,11 @@
 -- A shown note loses nothing: its byte is the note that is stored (N2 to N4).
-use Prim.Native.Nat.{ℕ, _+_, _*_, _/_, _%_}
+use Prim.Native.Nat.{ℕ, _/_, _%_}
 use mathlib.Core.Path.{_≡_, refl, sym}
 use mathlib.Core.Bool.{Bool, true, false, cond}
 use native.Mathlib.Nat.{div-add-mod'}
 use lib.Dec.{eqb}
 use borrow.Author.Tests.{eqb-true}
 use Rattle.pattern.specs.Shown.{isPitch, shownNote, noteByte}
-use Rattle.pattern.specs.declared.cells.Note.{Note}
 use Rattle.pattern.specs.declared.cells.Note.the-variants.{None, KeyOff, Pitch, Unknown}
 
 pub note-kept : (note : ℕ) → noteByte (shownNote note) ≡ note

@@ -1,9 +1,9 @@
 -- Repacking an accepted stream a row at a time: the packed length, and the packer's stream, of what it holds.
-use Prim.Native.Nat.{ℕ, suc, _+_, _-_, _*_, _<_, _≤_}
+use Prim.Native.Nat.{ℕ, suc, _+_, _*_, _<_, _≤_}
 use mathlib.Core.Path.{_≡_, refl, sym, ap, _∙_}
 use mathlib.Core.List.{List, [], _∷_, _++_}
 use native.Mathlib.Omega.{arith}
-use native.Mathlib.Nat.{mul-le-mul, add-zero}
+use native.Mathlib.Nat.{mul-le-mul}
 use lib.ListN.{length, take, drop}
 use lib.Seq.{take-all}
 use Rattle.refusal.specs.declared.Refusal.{Refusal}
@@ -16,9 +16,10 @@ use Rattle.pattern.specs.Packer.{packedEntries, packedStream, packedLeng
 use Rattle.pattern.specs.Answers.{verdictOf, packedIf, repackedIf}
 use Rattle.pattern.specs.Steps.{RowAhead, Loaded, rowsRead}
 use Rattle.pattern.proofs.Grammar.{reads-exactly, reads-from}
-use Rattle.pattern.proofs.Shapes.{row-joined, row-from-shaped, rows-from-shaped, length-joined}
+use Rattle.pattern.proofs.Shapes.{row-joined, row-from-shaped, rows-from-shaped}
 use Rattle.pattern.proofs.StreamLength.{packed-length-cons, packed-length, packed-length-most}
-use Rattle.pattern.proofs.CarryingRows.{accepted-whole, one-row}
+use Rattle.pattern.proofs.ByVerdict.{accepted-reading, refused-reading}
+use Rattle.pattern.proofs.CarryingRows.{one-row}
 use Rattle.pattern.proofs.Writing.{Writing, writing-first, writing-more, writing-room, writing-last}
 
 -- The next row of those left at a place of an accepted stream, on its bytes.
@@ -63,7 +64,7 @@ none-left s tracks at left (es ∷ rest) reads z = absurd (omega (arith, reads-f
 
 pub all-read : (s : List ℕ) (rows tracks : ℕ) → verdictOf (readStream rows tracks s) ≡ Accepted → (entries : List (List Entry)) × (readStream rows tracks s ≡ whole entries) × (rowsRead s rows tracks ≡ rowsFrom tracks entries)
 all-read s rows tracks ok =
-    let read = accepted-whole (readStream rows tracks s) ok in
+    let read = accepted-reading (readStream rows tracks s) .0 ok in
     (read .0, read .1, ap (λ (r : Reading). rowsFrom tracks (entriesRead r)) (read .1))
 
 -- The packed length of one row, and of the row before others.
@@ -159,11 +160,9 @@ module _ (s : List ℕ) (rows tracks : ℕ) (out₀ : List ℕ) where
 
 -- The answer of repacking, by the verdict of the stream.
 pub repack-refused : (r : Reading) (tracks room : ℕ) (why : Refusal) → verdictOf r ≡ Refused why → PackingRefused why ≡ repackedIf r tracks room
-repack-refused (brokenAt p) tracks room why e = ap PackingRefused (sym (same e))
-  where
-    same : {a b : Refusal} → Refused a ≡ Refused b → a ≡ b
-    same e = cc
-repack-refused (whole rows) tracks room why e = absurd (let z : _≡_ {A = ℕ} 0 1 = cc in omega arith)
+repack-refused r tracks room why e =
+    let broken = refused-reading r why e in
+    ap PackingRefused (broken .2) ∙ sym (ap (λ (q : Reading). repackedIf q tracks room) (broken .1))
 
 pub repack-found : (r : Reading) (tracks room : ℕ) → verdictOf r ≡ Accepted → packedIf (packedLength (rowsFrom tracks (entriesRead r))) room ≡ repackedIf r tracks room
 repack-found (brokenAt p) tracks room e = absurd (let z : _≡_ {A = ℕ} 0 1 = cc in omega arith)

@@ -1,11 +1,11 @@
 -- The sizes of a pattern, once they fit: bounds, so that no product wraps.
-use Prim.Native.Nat.{ℕ, _*_, _%_, _<_, _≤_}
-use mathlib.Core.Path.{_≡_, _∙_}
+use Prim.Native.Nat.{ℕ, _*_, _≤_}
+use mathlib.Core.Path.{_≡_}
 use mathlib.Core.Bool.{true}
 use native.Mathlib.Omega.{arith}
 use native.Mathlib.Nat.{mul-le-mul}
-use borrow.Author.Tests.{leb-true, eqb-true}
-use Rattle.pattern.specs.Cells.{sizesFit, cellBytes}
+use borrow.Author.Tests.{leb-true}
+use Rattle.pattern.specs.Cells.{sizesFit}
 use Rattle.pattern.proofs.Reading.{both-true}
 
 pub record Sizes (rows tracks : ℕ) : Type 0 where

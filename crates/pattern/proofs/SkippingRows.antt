@@ -9,8 +9,6 @@ use lib.Seq.{drop-cons}
 use mathlib.Core.Bool.{true}
 use lib.Dec.{leb, ltb}
 use borrow.Author.Tests.{leb-true, ltb-true}
-use Rattle.refusal.specs.Numbers.{refusal}
-use Rattle.refusal.specs.declared.Cause.the-variants.{Stream}
 use Rattle.refusal.specs.declared.Refusal.{Refusal}
 use Rattle.refusal.specs.declared.Verdict.the-variants.{Accepted, Refused}
 use Rattle.pattern.specs.declared.CellAnswer.the-variants.{Found, Refused as CellRefused}
@@ -24,7 +22,7 @@ use Rattle.pattern.proofs.Reading.{both-true}
 use Rattle.pattern.proofs.Grammar.{reads-exactly}
 use Rattle.pattern.proofs.Shapes.{row-joined, row-from-shaped}
 use Rattle.pattern.proofs.Carrying.{block-at}
-use Rattle.pattern.proofs.CarryingRows.{accepted-whole}
+use Rattle.pattern.proofs.ByVerdict.{accepted-reading, refused-reading}
 
 pub all-rows : (s : List ℕ) (n : ℕ) (all : RowsRead s n) → length (all .entries) ≡ all .rows
 all-rows s n all = reads-exactly (all .rows) (all .tracks) s (all .entries) .0 (all .reads) .count
@@ -74,7 +72,7 @@ getD-map-in f (x ∷ xs) (suc n) d d′ h = getD-map-in f xs n d d′ (omega ari
 -- One cell: the row behind the rows passed over, and six of its bytes.
 module _ (s : List ℕ) (rows tracks row track : ℕ) (ok : verdictOf (readStream rows tracks s) ≡ Accepted) (there : cellThere rows tracks row track ≡ true) where
   abbrev read : (entries : List (List Entry)) × (readStream rows tracks s ≡ whole entries)
-  read = accepted-whole (readStream rows tracks s) ok
+  read = accepted-reading (readStream rows tracks s) .0 ok
 
   pub row-there : row < rows
   row-there = ltb-true row rows (both-true (ltb row rows) _ there .0)
@@ -113,14 +111,9 @@ module _ (s : List ℕ) (rows tracks row track : ℕ) (ok : verdictOf (readStrea
 
 -- The answer for a cell, by the verdict of the stream.
 pub cell-refused : (r : Reading) (tracks row track : ℕ) (why : Refusal) → verdictOf r ≡ Refused why → CellRefused why ≡ cellIf r tracks row track
-cell-refused (brokenAt p) tracks row track why e = ap-refused
-  where
-    same : {a b : Refusal} → Refused a ≡ Refused b → a ≡ b
-    same e = cc
-
-    ap-refused : CellRefused why ≡ CellRefused (refusal Stream p)
-    ap-refused = ap CellRefused (sym (same e))
-cell-refused (whole rows) tracks row track why e = absurd (let z : _≡_ {A = ℕ} 0 1 = cc in omega arith)
+cell-refused r tracks row track why e =
+    let broken = refused-reading r why e in
+    ap CellRefused (broken .2) ∙ sym (ap (λ (q : Reading). cellIf q tracks row track) (broken .1))
 
 pub cell-found : (s : List ℕ) (rows tracks row track : ℕ) → verdictOf (readStream rows tracks s) ≡ Accepted → Found (shownCell (cellRead s rows tracks row track)) ≡ cellIf (readStream rows tracks s) tracks row track
 cell-found s rows tracks row track ok = go (readStream rows tracks s) ok

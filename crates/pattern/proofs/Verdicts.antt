@@ -1,32 +1,32 @@
 -- What the answers of the check and of packing say, by the reading and the packed length.
-use Prim.Native.Nat.{ℕ, _+_, _*_, _<_}
+use Prim.Native.Nat.{ℕ}
 use mathlib.Core.Logic.{_↔_}
-use mathlib.Core.Path.{_≡_, refl, sym, ap, _∙_}
-use mathlib.Core.List.{List, [], _∷_}
+use mathlib.Core.Path.{_≡_, sym, ap, _∙_}
+use mathlib.Core.List.{List}
 use mathlib.Core.Bool.{Bool, true, false, cond, not}
 use native.Mathlib.Omega.{arith}
 use lib.ListN.{length}
 use lib.Dec.{eqb, ltb}
-use Rattle.refusal.specs.Numbers.{refusal, verdictPlace}
+use Rattle.refusal.specs.Numbers.{refusal}
 use Rattle.refusal.specs.declared.Cause.the-variants.{Stream, Sizes, Room}
+use Rattle.refusal.specs.declared.Refusal.{Refusal}
 use Rattle.refusal.specs.declared.Verdict.the-variants.{Accepted, Refused}
 use Rattle.pattern.specs.Cells.{both, sizesFit, cellBytes, rowsOf}
 use Rattle.pattern.specs.Entries.{Entry}
-use Rattle.pattern.specs.Stream.{Reading, readStream, whole, brokenAt}
+use Rattle.pattern.specs.Stream.{Reading, readStream, brokenAt}
 use Rattle.pattern.specs.Packer.{packedLength}
-use Rattle.pattern.specs.Answers.{verdictOf, checkAnswer, packedIf, packAnswer}
+use Rattle.pattern.specs.Answers.{verdictOf, checkAnswer, packAnswer}
 use Rattle.pattern.specs.Theorems.{StreamOf, BrokenAt}
 use Rattle.pattern.specs.declared.Packing.{Packing}
 use Rattle.pattern.specs.declared.Packing.the-variants.{Packed, Refused as PackingRefused}
+use Rattle.pattern.proofs.ByVerdict.{accepted-reading, refused-reading}
 use Rattle.pattern.proofs.Grammar.{reads-exactly, refused-exactly}
 
-accepted-reading : (r : Reading) → (verdictOf r ≡ Accepted) ↔ ((entries : List (List Entry)) × (r ≡ whole entries))
-accepted-reading (brokenAt p) = (λ h. absurd (let z : _≡_ {A = ℕ} 0 1 = cc in omega arith), λ h. absurd (let e = h .1 in let z : _≡_ {A = ℕ} 0 1 = cc in omega arith))
-accepted-reading (whole entries) = (λ h. (entries, refl), λ h. refl)
-
-refused-reading : (r : Reading) (place : ℕ) → (verdictOf r ≡ Refused (refusal Stream place)) ↔ (r ≡ brokenAt place)
-refused-reading (brokenAt p) place = (λ h. ap brokenAt (ap verdictPlace h), λ h. ap (λ (q : Reading). verdictOf q) h)
-refused-reading (whole entries) place = (λ h. absurd (let z : _≡_ {A = ℕ} 0 1 = cc in omega arith), λ h. absurd (let z : _≡_ {A = ℕ} 0 1 = cc in omega arith))
+refused-at : (r : Reading) (place : ℕ) → (verdictOf r ≡ Refused (refusal Stream place)) ↔ (r ≡ brokenAt place)
+refused-at r place = (
+  λ h. (let broken = refused-reading r (refusal Stream place) h in broken .1 ∙ ap brokenAt (sym (ap (λ (why : Refusal). why .place) (broken .2)))),
+  λ h. ap (λ (q : Reading). verdictOf q) h,
+)
 
 numberIn : Packing → ℕ
 numberIn (Packed n) = 0
@@ -49,8 +49,8 @@ module _ (rows tracks : ℕ) where
 
     pub refuses-exactly : (place : ℕ) → sizesFit rows tracks ≡ true → (checkAnswer stream rows tracks ≡ Refused (refusal Stream place)) ↔ BrokenAt rows tracks stream place
     refuses-exactly place fits = (
-      λ h. refused-exactly rows tracks stream place .0 (refused-reading (readStream rows tracks stream) place .0 (sym (checked fits) ∙ h)),
-      λ h. checked fits ∙ refused-reading (readStream rows tracks stream) place .1 (refused-exactly rows tracks stream place .1 h),
+      λ h. refused-exactly rows tracks stream place .0 (refused-at (readStream rows tracks stream) place .0 (sym (checked fits) ∙ h)),
+      λ h. checked fits ∙ refused-at (readStream rows tracks stream) place .1 (refused-exactly rows tracks stream place .1 h),
     )
 
   -- By the two tests of packing.

@@ -1,16 +1,15 @@
 -- What each call answers, and what its lent output then holds: FORMAT.md, F1 to F9 (document 01, "Refusal numbers and their
 -- order"). In each answer the refusals stand in the order in which they are given.
-use Prim.Native.Nat.{ℕ, _+_, _-_, _*_}
+use Prim.Native.Nat.{ℕ, _+_, _-_}
 use mathlib.Core.List.{List, [], _∷_, _++_}
-use mathlib.Core.Bool.{Bool, true, false, cond, not}
+use mathlib.Core.Bool.{Bool, cond, not}
 use lib.ListN.{length, getD, drop}
 use lib.Dec.{eqb, leb, ltb}
-use Rattle.refusal.specs.Numbers.{refusal, verdictNumber, verdictPlace}
+use Rattle.refusal.specs.Numbers.{refusal}
 use Rattle.refusal.specs.declared.Cause.the-variants.{Stream, Sizes, Room, NotThere}
-use Rattle.refusal.specs.declared.Refusal.{Refusal}
 use Rattle.refusal.specs.declared.Verdict.{Verdict}
 use Rattle.refusal.specs.declared.Verdict.the-variants.{Accepted, Refused}
-use Rattle.pattern.specs.Cells.{Cell, both, sizesFit, cellBytes, rowsOf, emptyCell}
+use Rattle.pattern.specs.Cells.{both, sizesFit, cellBytes, rowsOf, emptyCell}
 use Rattle.pattern.specs.Entries.{rowsFrom}
 use Rattle.pattern.specs.Stream.{Reading, brokenAt, whole, readStream, entriesRead, cellsRead}
 use Rattle.pattern.specs.Packer.{packedStream, packedLength}

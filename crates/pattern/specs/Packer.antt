@@ -1,7 +1,7 @@
 -- FORMAT.md, W1 to W4 (document 01, "Packed rows"): what the packer writes, and how long it is.
-use Prim.Native.Nat.{ℕ, zero, suc, _+_, _*_}
+use Prim.Native.Nat.{ℕ, suc, _+_, _*_}
 use mathlib.Core.List.{List, [], _∷_, map}
-use mathlib.Core.Bool.{Bool, true, false, cond, not}
+use mathlib.Core.Bool.{Bool, cond, not}
 use lib.ListN.{length}
 use lib.Dec.{eqb}
 use Rattle.pattern.specs.Cells.{Cell, Row, joined, bytesOf, nonZeros, nonEmpty, nonEmptyCells}

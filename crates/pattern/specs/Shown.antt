@@ -2,7 +2,7 @@
 -- go to 8 as in document 01 (000 has 1 to 7, 001 has 1 to 8).
 use Prim.Native.Nat.{ℕ, _+_, _*_, _/_, _%_}
 use mathlib.Core.List.{List}
-use mathlib.Core.Bool.{Bool, true, false, cond}
+use mathlib.Core.Bool.{Bool, cond}
 use lib.ListN.{getD}
 use lib.Dec.{eqb, leb}
 use Rattle.pattern.specs.Cells.{both}

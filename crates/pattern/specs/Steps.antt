@@ -1,10 +1,10 @@
 -- Definitions that private functions cite: they follow a loop's steps. The public contracts do not use them, and the proofs
 -- lead each back to the readable definitions.
-use Prim.Native.Nat.{ℕ, zero, suc, _+_, _-_, _*_, _/_, _%_, _≤_, _<_}
+use Prim.Native.Nat.{ℕ, zero, suc, _+_, _-_, _*_, _≤_, _<_}
 use mathlib.Core.Path.{_≡_}
 use mathlib.Core.List.{List, [], _∷_, _++_}
-use mathlib.Core.Bool.{Bool, true, false, cond}
-use lib.ListN.{length, getD, take, drop, set}
+use mathlib.Core.Bool.{Bool, cond}
+use lib.ListN.{length, getD, take, drop}
 use lib.Dec.{eqb}
 use Rattle.pattern.specs.Cells.{Cell, Row, joined, rowOf, nonEmpty, emptyCell}
 use Rattle.pattern.specs.Entries.{Entry, soundMask, fieldsNamed, named, entryBytes, store, carryAll, rowFrom, rowsFrom}

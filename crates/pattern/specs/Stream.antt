@@ -2,10 +2,10 @@
 use Prim.Native.Nat.{ℕ, zero, suc, _+_}
 use mathlib.Core.Path.{_≡_}
 use mathlib.Core.List.{List, [], _∷_}
-use mathlib.Core.Bool.{Bool, true, false, cond}
+use mathlib.Core.Bool.{cond}
 use lib.ListN.{length, take, drop}
 use lib.Dec.{eqb, leb}
-use Rattle.pattern.specs.Cells.{Row, both, bytesOf}
+use Rattle.pattern.specs.Cells.{both, bytesOf}
 use Rattle.pattern.specs.Entries.{Entry, soundMask, fieldsNamed, entryBytes, rowsFrom}
 
 -- What stands at the front of the rest of a stream: no byte, a row end, a sound entry, or a fault; and what follows it.

@@ -1,5 +1,5 @@
 -- The terms that the theorems of proofs/Theorems.antt use beside those of the reader and the packer. None of them reads a stream.
-use Prim.Native.Nat.{ℕ, _+_, _*_, _-_, _<_}
+use Prim.Native.Nat.{ℕ, _+_, _<_}
 use mathlib.Core.Path.{_≡_}
 use mathlib.Core.Logic.{_⊎_}
 use mathlib.Core.List.{List, [], _∷_, _++_, map, List·Permᴰ}
