@@ -149,10 +149,16 @@ impl<'a> Envelope<'a> {
         self.flags.value >> bit & 1 == 1
     }
 
-    /// The values of the points in use, one more than there are sections.
-    pub fn values_in_use(&self) -> impl Iterator<Item = Field> + 'a {
+    /// Position and value of the points in use, one more than there are sections.
+    pub fn points_in_use(&self) -> impl Iterator<Item = (Field, Field)> + 'a {
         let in_use = self.sections.value as usize + 1;
-        self.points.numbers().skip(1).step_by(2).take(in_use)
+        let mut left = self.points;
+        std::iter::from_fn(move || left.number(2).zip(left.number(2))).take(in_use)
+    }
+
+    /// The values of the points in use.
+    pub fn values_in_use(&self) -> impl Iterator<Item = Field> + 'a {
+        self.points_in_use().map(|(_, value)| value)
     }
 }
 

@@ -16,6 +16,7 @@ pub mod listing;
 pub mod module;
 pub mod part;
 pub mod pattern;
+pub mod records;
 pub mod refusal;
 pub mod rules;
 pub mod tunes;

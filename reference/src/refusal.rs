@@ -118,7 +118,7 @@ pub fn too_short(needed: u64) -> Refusal {
     }
 }
 
-/// 18: there is no such row or track.
+/// 18: there is no such song, entry, instrument, envelope, pattern, sample, frame, row or track.
 pub fn no_such() -> Refusal {
     Refusal {
         number: 18,
