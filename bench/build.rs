@@ -1,4 +1,4 @@
-//! Compiles the two Cs for baseline x86-64 and links them and libpattern.a.
+//! Compiles the two Cs for baseline x86-64 and links them, libpattern.a and libdbm0.a.
 
 use std::env;
 use std::path::{Path, PathBuf};
@@ -15,7 +15,7 @@ fn main() {
     let sources = package.join("c");
     println!("cargo:rerun-if-changed={}", sources.display());
     let mut archive = vec![String::from("crs"), text(&made.join("libbaselines.a"))];
-    for name in ["plain", "expert"] {
+    for name in ["plain", "expert", "module"] {
         let object = text(&made.join(format!("{name}.o")));
         let source = text(&sources.join(format!("{name}.c")));
         let mut arguments: Vec<String> = C_FLAGS.iter().map(|flag| flag.to_string()).collect();
@@ -31,13 +31,15 @@ fn main() {
     let libraries = env::var_os("DBM0_STATICLIB_DIR")
         .map(PathBuf::from)
         .unwrap_or_else(|| package.join("../target/staticlib"));
-    let library = libraries.join("libpattern.a");
-    println!("cargo:rerun-if-changed={}", library.display());
-    if !library.is_file() {
-        panic!("{} is not there", library.display());
-    }
     println!("cargo:rustc-link-search=native={}", libraries.display());
-    println!("cargo:rustc-link-lib=static=pattern");
+    for name in ["pattern", "dbm0"] {
+        let library = libraries.join(format!("lib{name}.a"));
+        println!("cargo:rerun-if-changed={}", library.display());
+        if !library.is_file() {
+            panic!("{} is not there", library.display());
+        }
+        println!("cargo:rustc-link-lib=static={name}");
+    }
 
     println!("cargo:rustc-env=BENCH_GCC={}", first_line("gcc"));
     println!(

@@ -114,8 +114,9 @@ typedef struct {
  * field, in the same order of chunks; then 14 by instrument; then 15 by
  * pattern.
  * Time: grows with the number of chunks and blocks and with the packed bytes
- * of the patterns. The data of samples and of other chunks are not read. No
- * allocation.
+ * of the patterns, and for each looped instrument with the number of samples
+ * before its own (at most 254). The data of samples and of other chunks are
+ * not read. No allocation.
  */
 dbm0_module_answer dbm0_check_module(
     const uint8_t *module, size_t module_length);

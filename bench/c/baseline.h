@@ -1,5 +1,5 @@
 /*
- * What both baselines share: the answer and the refusals.
+ * What both baselines share: the answers and the refusals.
  */
 
 #ifndef BASELINE_H
@@ -13,6 +13,12 @@ typedef struct {
     uint64_t place;
     uint64_t length;
 } baseline_answer;
+
+/* Of the check of a module. Number 0: no refusal. */
+typedef struct {
+    uint64_t number;
+    uint64_t place;
+} baseline_verdict;
 
 static inline baseline_answer written(uint64_t length)
 {

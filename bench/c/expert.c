@@ -2,27 +2,18 @@
  * Packed rows in C tuned for speed on baseline x86-64 (SSE2, no later
  * instructions).
  *
- * check:  one table gives an entry's length and whether its mask is sound;
- *         while 8 bytes are left no entry can be cut, so nothing else is tested.
- * unpack: the same table moves the cursor; the fields are stored by a table
- *         of their places, without a branch on each bit.
+ * check:  in expert_check.h.
+ * unpack: the check's table of lengths moves the cursor; the fields are stored
+ *         by a table of their places, without a branch on each bit.
  * pack:   the needed length is counted with SSE2; each row first lists its
  *         non-empty cells without a branch, then writes these, two fields at
  *         a time.
  */
 
-#include "baseline.h"
+#include "expert_check.h"
 
 #include <emmintrin.h>
 #include <string.h>
-
-/* 2 + the number of fields for masks 0 to 63; 0 for the masks above. */
-#define LENGTHS_4(n) (n), (n) + 1, (n) + 1, (n) + 2
-#define LENGTHS_16(n) \
-    LENGTHS_4(n), LENGTHS_4((n) + 1), LENGTHS_4((n) + 1), LENGTHS_4((n) + 2)
-static const uint8_t entry_length[256] = {
-    LENGTHS_16(2), LENGTHS_16(3), LENGTHS_16(3), LENGTHS_16(4),
-};
 
 /*
  * For a mask: the field of the first, second, .. stored byte of an entry.
@@ -77,43 +68,6 @@ static void write_2(uint8_t *to, uint32_t value)
 {
     uint16_t word = (uint16_t)value;
     memcpy(to, &word, 2);
-}
-
-static baseline_answer check(
-    const uint8_t *stream, size_t length, uint64_t rows, uint64_t tracks)
-{
-    const uint8_t *at = stream;
-    const uint8_t *end = stream + length;
-    uint64_t left = rows;
-    while (left > 0 && end - at >= 8) {
-        uint8_t track = at[0];
-        if (track == 0) {
-            left--;
-            at++;
-            continue;
-        }
-        size_t bytes = entry_length[at[1]];
-        if (track > tracks || bytes == 0)
-            return broken(at - stream);
-        at += bytes;
-    }
-    while (left > 0) {
-        if (at == end)
-            return broken(length);
-        uint8_t track = at[0];
-        if (track == 0) {
-            left--;
-            at++;
-            continue;
-        }
-        if (track > tracks || end - at < 2)
-            return broken(at - stream);
-        ptrdiff_t bytes = entry_length[at[1]];
-        if (bytes == 0 || end - at < bytes)
-            return broken(at - stream);
-        at += bytes;
-    }
-    return at == end ? written(0) : broken(at - stream);
 }
 
 /* Stores an entry's fields one by one. */
@@ -305,7 +259,7 @@ baseline_answer expert_check_pattern(
 {
     if (!sizes_fit(rows, tracks))
         return out_of_range();
-    return check(stream, stream_length, rows, tracks);
+    return expert_check_stream(stream, stream_length, rows, tracks);
 }
 
 baseline_answer expert_unpack_pattern(
@@ -317,7 +271,7 @@ baseline_answer expert_unpack_pattern(
     size_t needed = rows * tracks * 6;
     if (out_length < needed)
         return too_short(needed);
-    baseline_answer answer = check(stream, stream_length, rows, tracks);
+    baseline_answer answer = expert_check_stream(stream, stream_length, rows, tracks);
     if (answer.number != 0)
         return answer;
     if (needed > 0)

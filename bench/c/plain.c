@@ -2,38 +2,9 @@
  * Packed rows in plain C: what one writes from the rules of the format.
  */
 
-#include "baseline.h"
+#include "plain_check.h"
 
 #include <string.h>
-
-static baseline_answer check(
-    const uint8_t *stream, size_t length, uint64_t rows, uint64_t tracks)
-{
-    size_t at = 0;
-    uint64_t row = 0;
-    while (row < rows) {
-        if (at >= length)
-            return broken(length);
-        uint8_t track = stream[at];
-        if (track == 0) {
-            row++;
-            at++;
-            continue;
-        }
-        if (track > tracks || length - at < 2)
-            return broken(at);
-        uint8_t mask = stream[at + 1];
-        if (mask & 0xC0)
-            return broken(at);
-        size_t fields = 0;
-        for (int field = 0; field < 6; field++)
-            fields += mask >> field & 1;
-        if (length - at - 2 < fields)
-            return broken(at);
-        at += 2 + fields;
-    }
-    return at == length ? written(0) : broken(at);
-}
 
 static void carry_out(
     const uint8_t *stream, size_t length, uint64_t tracks, uint8_t *cells)
@@ -91,7 +62,7 @@ baseline_answer plain_check_pattern(
 {
     if (!sizes_fit(rows, tracks))
         return out_of_range();
-    return check(stream, stream_length, rows, tracks);
+    return plain_check_stream(stream, stream_length, rows, tracks);
 }
 
 baseline_answer plain_unpack_pattern(
@@ -103,7 +74,7 @@ baseline_answer plain_unpack_pattern(
     size_t needed = rows * tracks * 6;
     if (out_length < needed)
         return too_short(needed);
-    baseline_answer answer = check(stream, stream_length, rows, tracks);
+    baseline_answer answer = plain_check_stream(stream, stream_length, rows, tracks);
     if (answer.number != 0)
         return answer;
     if (needed > 0)

@@ -1,7 +1,14 @@
 //! Before anything is timed: all implementations must agree, byte for byte, on the answers and on the outputs.
 
+use std::collections::BTreeSet;
+
+use reference::chunks::MOST_BYTES;
+use reference::draft::{Chunk, Draft, Tune};
+use reference::generate::{self, Most};
+
 use crate::corpus::{self, Corpus, Pattern, Random};
-use crate::implementations::{Answer, Implementation, IMPLEMENTATIONS};
+use crate::implementations::{Answer, Implementation, Verdict, IMPLEMENTATIONS};
+use crate::modules::Module;
 
 /// Bytes behind the needed length, which must stay.
 const SPARE: usize = 16;
@@ -9,6 +16,10 @@ const UNTOUCHED: u8 = 0xA5;
 /// For each pattern.
 const DAMAGED_STREAMS: usize = 20;
 const OTHER_SIZES: usize = 400;
+/// For each module, by its draft and by its bytes.
+const DAMAGED_MODULES: usize = 30;
+/// Of some hundred bytes, and as many of some thousand.
+const SMALL_MODULES: usize = 3_000;
 
 /// How many calls were compared, or the first difference.
 pub fn compare(corpora: &[Corpus]) -> Result<usize, String> {
@@ -149,4 +160,101 @@ fn same_as(
         }
     }
     Ok(2 * IMPLEMENTATIONS.len())
+}
+
+/// How many calls were compared on modules, or the first difference. Every refusal must be among the answers.
+pub fn compare_modules(modules: &[Module]) -> Result<usize, String> {
+    let mut compared = Compared::default();
+    let mut random = Random(7);
+    let mut faults = generate::Random::new(8);
+    for module in modules {
+        let name = module.name;
+        compared.same(name, &module.bytes)?;
+        for turn in 0..DAMAGED_MODULES {
+            let what = format!("{name}, damaged, turn {turn}");
+            compared.same(&what, &damaged_draft(&module.draft, &mut faults))?;
+            compared.same(&what, &damaged_bytes(&module.bytes, &mut random))?;
+        }
+    }
+    for most in [Most::SMALL, Most::USUAL] {
+        for turn in 0..SMALL_MODULES {
+            let what = format!("small module, turn {turn}");
+            let draft = generate::module(&mut faults, &most);
+            let bytes = draft.bytes();
+            compared.same(&what, &bytes)?;
+            compared.same(&what, &damaged_draft(&draft, &mut faults))?;
+            compared.same(&what, &damaged_bytes(&bytes, &mut random))?;
+        }
+    }
+    let whole = generate::module(&mut faults, &Most::USUAL).bytes();
+    for length in 0..whole.len() {
+        compared.same("beginning of a module", &whole[..length])?;
+    }
+    let mut longest = longest_module();
+    compared.same("longest module", &longest)?;
+    longest.push(0);
+    compared.same("one byte too long", &longest)?;
+
+    match (0..=15).find(|number| !compared.numbers.contains(number)) {
+        Some(number) => Err(format!("no module is answered with {number}")),
+        None => Ok(compared.calls),
+    }
+}
+
+/// The calls so far, and the numbers that they answered.
+#[derive(Default)]
+struct Compared {
+    calls: usize,
+    numbers: BTreeSet<u64>,
+}
+
+impl Compared {
+    fn same(&mut self, what: &str, module: &[u8]) -> Result<(), String> {
+        let verdicts: Vec<Verdict> = IMPLEMENTATIONS
+            .iter()
+            .map(|one| (one.check_module)(module))
+            .collect();
+        let first = verdicts[0];
+        for (other, second) in IMPLEMENTATIONS.iter().zip(&verdicts) {
+            if *second != first {
+                return Err(format!(
+                    "{what}: {} answers {first:?}, {} answers {second:?}",
+                    IMPLEMENTATIONS[0].name, other.name
+                ));
+            }
+        }
+        self.calls += verdicts.len();
+        self.numbers.insert(first.number);
+        Ok(())
+    }
+}
+
+/// One or two faults of those that a module can have.
+fn damaged_draft(draft: &Draft, random: &mut generate::Random) -> Vec<u8> {
+    let mut damaged = draft.clone();
+    for _ in 0..1 + random.below(2) {
+        generate::damage(random, &mut damaged);
+    }
+    damaged.bytes()
+}
+
+/// A few bytes changed, and sometimes the end cut off.
+fn damaged_bytes(module: &[u8], random: &mut Random) -> Vec<u8> {
+    let mut damaged = module.to_vec();
+    for _ in 0..1 + random.below(3) {
+        let place = random.below(damaged.len() as u64) as usize;
+        damaged[place] = random.number() as u8;
+    }
+    if random.below(4) == 0 {
+        damaged.truncate(random.below(damaged.len() as u64) as usize);
+    }
+    damaged
+}
+
+/// An accepted module of as many bytes as a module may have.
+fn longest_module() -> Vec<u8> {
+    let mut draft = Tune::default().draft();
+    let left = MOST_BYTES as usize - draft.bytes().len() - 8;
+    draft.chunks.push(Chunk::new(b"ZZZZ", vec![0; left]));
+    draft.bytes()
 }

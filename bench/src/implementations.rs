@@ -1,8 +1,8 @@
 //! The four implementations under one interface.
 
-use reference::pattern;
+use reference::{module, pattern};
 
-/// `number` 0: no refusal.
+/// Of a pattern's call. `number` 0: no refusal.
 #[repr(C)]
 #[derive(Clone, Copy, Debug, PartialEq, Eq)]
 pub struct Answer {
@@ -11,14 +11,24 @@ pub struct Answer {
     pub length: u64,
 }
 
+/// Of the check of a module. `number` 0: no refusal.
+#[repr(C)]
+#[derive(Clone, Copy, Debug, PartialEq, Eq)]
+pub struct Verdict {
+    pub number: u64,
+    pub place: u64,
+}
+
 pub type Check = fn(&[u8], u64, u64) -> Answer;
 pub type Fill = fn(&[u8], u64, u64, &mut [u8]) -> Answer;
+pub type CheckModule = fn(&[u8]) -> Verdict;
 
 pub struct Implementation {
     pub name: &'static str,
     pub check: Check,
     pub unpack: Fill,
     pub pack: Fill,
+    pub check_module: CheckModule,
 }
 
 pub const OURS: usize = 0;
@@ -32,32 +42,36 @@ pub const IMPLEMENTATIONS: [Implementation; COUNT] = [
         check: ours::check,
         unpack: ours::unpack,
         pack: ours::pack,
+        check_module: ours::check_module,
     },
     Implementation {
         name: "plain C",
         check: plain::check,
         unpack: plain::unpack,
         pack: plain::pack,
+        check_module: plain::check_module,
     },
     Implementation {
         name: "expert C",
         check: expert::check,
         unpack: expert::unpack,
         pack: expert::pack,
+        check_module: expert::check_module,
     },
     Implementation {
         name: "Rust",
         check: rust_check,
         unpack: rust_unpack,
         pack: rust_pack,
+        check_module: rust_check_module,
     },
 ];
 
-/// Safe functions over three C functions. A slice passes as a pointer and a length; the C functions read and write only there.
+/// Safe functions over four C functions. A slice passes as a pointer and a length; the C functions read and write only there.
 macro_rules! over_c {
-    ($module:ident, $check:ident, $unpack:ident, $pack:ident) => {
-        mod $module {
-            use super::Answer;
+    ($name:ident, $check:ident, $unpack:ident, $pack:ident, $check_module:ident) => {
+        mod $name {
+            use super::{Answer, Verdict};
 
             unsafe extern "C" {
                 fn $check(stream: *const u8, length: usize, rows: u64, tracks: u64) -> Answer;
@@ -77,6 +91,7 @@ macro_rules! over_c {
                     out: *mut u8,
                     out_length: usize,
                 ) -> Answer;
+                fn $check_module(module: *const u8, length: usize) -> Verdict;
             }
 
             pub fn check(stream: &[u8], rows: u64, tracks: u64) -> Answer {
@@ -111,6 +126,11 @@ macro_rules! over_c {
                     )
                 }
             }
+
+            pub fn check_module(module: &[u8]) -> Verdict {
+                // SAFETY: the pointer and the length are those of one slice.
+                unsafe { $check_module(module.as_ptr(), module.len()) }
+            }
         }
     };
 }
@@ -119,19 +139,22 @@ over_c!(
     ours,
     dbm0_check_pattern,
     dbm0_unpack_pattern,
-    dbm0_pack_pattern
+    dbm0_pack_pattern,
+    dbm0_check_module
 );
 over_c!(
     plain,
     plain_check_pattern,
     plain_unpack_pattern,
-    plain_pack_pattern
+    plain_pack_pattern,
+    plain_check_module
 );
 over_c!(
     expert,
     expert_check_pattern,
     expert_unpack_pattern,
-    expert_pack_pattern
+    expert_pack_pattern,
+    expert_check_module
 );
 
 fn answer(result: Result<u64, pattern::Refusal>) -> Answer {
@@ -159,4 +182,17 @@ fn rust_unpack(stream: &[u8], rows: u64, tracks: u64, out: &mut [u8]) -> Answer 
 
 fn rust_pack(cells: &[u8], rows: u64, tracks: u64, out: &mut [u8]) -> Answer {
     answer(pattern::pack(cells, rows, tracks, out))
+}
+
+fn rust_check_module(module: &[u8]) -> Verdict {
+    match module::check(module) {
+        Ok(()) => Verdict {
+            number: 0,
+            place: 0,
+        },
+        Err(refusal) => Verdict {
+            number: refusal.number,
+            place: refusal.place,
+        },
+    }
 }

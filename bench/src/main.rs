@@ -1,15 +1,18 @@
-//! Measures check, unpack and pack of packed rows: the proved library through its C interface, two Cs and plain Rust.
+//! Measures check, unpack and pack of packed rows and the check of whole modules: the proved libraries through their C interface,
+//! two Cs and plain Rust.
 
 mod agreement;
 mod corpus;
 mod implementations;
 mod measure;
+mod modules;
 
 use std::process::ExitCode;
 
 use corpus::{Corpus, PATTERNS, ROWS, TRACKS};
 use implementations::{EXPERT, IMPLEMENTATIONS, OURS, PLAIN};
 use measure::{Line, Times};
+use modules::Module;
 
 const DEFAULT_ROUNDS: usize = 200;
 const USAGE: &str = "usage: bench/run [--rounds N]";
@@ -20,18 +23,25 @@ fn main() -> ExitCode {
         return ExitCode::from(2);
     };
     let corpora = corpus::corpora();
-    match agreement::compare(&corpora) {
-        Ok(calls) => println!(
-            "Agreement: {calls} calls, other sizes, damaged streams and short outputs among them: all four give the same answers and bytes.\n"
-        ),
-        Err(difference) => {
-            eprintln!("the implementations differ: {difference}");
-            return ExitCode::FAILURE;
-        }
+    let modules = modules::modules(&corpora);
+    if let Err(difference) = agree(&corpora, &modules) {
+        eprintln!("the implementations differ: {difference}");
+        return ExitCode::FAILURE;
     }
-    describe(&corpora, rounds);
-    print_table(&measure::measure(&corpora, rounds));
+    describe(&corpora, &modules, rounds);
+    let measured = measure::measure(&corpora, &modules, rounds);
+    print_table("ns per cell", &measured.patterns);
+    println!();
+    print_table("Whole modules, µs per module", &measured.modules);
     ExitCode::SUCCESS
+}
+
+fn agree(corpora: &[Corpus], modules: &[Module]) -> Result<(), String> {
+    let calls = agreement::compare(corpora)?;
+    println!("Agreement: {calls} calls, other sizes, damaged streams and short outputs among them: all four give the same answers and bytes.");
+    let calls = agreement::compare_modules(modules)?;
+    println!("Agreement: {calls} calls on modules, small and damaged ones among them: all four give the same number and place, and each of the numbers 0 to 15 was given.\n");
+    Ok(())
 }
 
 fn rounds(mut arguments: impl Iterator<Item = String>) -> Option<usize> {
@@ -43,7 +53,7 @@ fn rounds(mut arguments: impl Iterator<Item = String>) -> Option<usize> {
     fits.then_some(count)
 }
 
-fn describe(corpora: &[Corpus], rounds: usize) {
+fn describe(corpora: &[Corpus], modules: &[Module], rounds: usize) {
     println!("Corpora, each {PATTERNS} patterns of {ROWS} rows and {TRACKS} tracks:");
     for corpus in corpora {
         println!(
@@ -54,15 +64,25 @@ fn describe(corpora: &[Corpus], rounds: usize) {
             corpus.packed_bytes()
         );
     }
+    println!("Modules:");
+    for module in modules {
+        println!(
+            "  {}: {} bytes; {}",
+            module.name,
+            module.bytes.len(),
+            module.holds
+        );
+    }
     println!(
         "
-ours      libpattern.a through its C interface
-plain C   c/plain.c, gcc -O3 for baseline x86-64 ({})
-expert C  c/expert.c, the same compiler and flags
+ours      libpattern.a and libdbm0.a through their C interface
+plain C   c/plain.c and c/module.c, gcc -O3 for baseline x86-64 ({})
+expert C  c/expert.c and c/module.c, the same compiler and flags
 Rust      the crate `reference`, release build ({})
 
 One process, {rounds} rounds. A round takes each corpus and function in turn, and there each implementation over the whole
-corpus, in a random order. Times are CPU time of the process (CLOCK_PROCESS_CPUTIME_ID).
+corpus, in a random order; then each module in turn, and there each implementation, in a random order. Times are CPU time of
+the process (CLOCK_PROCESS_CPUTIME_ID).
 Same inputs for all. Outputs are shared, one buffer of just the needed length for each pattern, warmed by one round that does
 not count and not cleared between calls: an unpacker clears the cells itself, as a part of its work.
 ",
@@ -71,8 +91,8 @@ not count and not cleared between calls: an unpacker clears the cells itself, as
     );
 }
 
-fn print_table(lines: &[Line]) {
-    println!("ns per cell: median over the rounds, and the minimum in brackets.");
+fn print_table(unit: &str, lines: &[Line]) {
+    println!("{unit}: median over the rounds, and the minimum in brackets.");
     println!("C/ours: time of the better C / time of ours, by the medians, and by the minima in brackets. Over 1, ours is faster.\n");
     print!("{:<28} {:<7}", "corpus", "");
     for implementation in &IMPLEMENTATIONS {
@@ -82,7 +102,7 @@ fn print_table(lines: &[Line]) {
     for line in lines {
         print!("{:<28} {:<7}", line.corpus, line.function.name());
         for times in &line.times {
-            let figures = format!("{:.2} ({:.2})", times.median(), times.minimum());
+            let figures = format!("{} ({})", figure(times.median()), figure(times.minimum()));
             print!(" {figures:>15}");
         }
         let ratios = format!(
@@ -91,6 +111,15 @@ fn print_table(lines: &[Line]) {
             better_c_to_ours(line, Times::minimum)
         );
         println!(" {ratios:>13}");
+    }
+}
+
+/// With at least three digits where there are that many.
+fn figure(time: f64) -> String {
+    if time < 100.0 {
+        format!("{time:.2}")
+    } else {
+        format!("{time:.0}")
     }
 }
 

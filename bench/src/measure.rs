@@ -4,6 +4,7 @@ use std::hint::black_box;
 
 use crate::corpus::{Corpus, Pattern, Random};
 use crate::implementations::{Answer, Implementation, COUNT, IMPLEMENTATIONS};
+use crate::modules::Module;
 
 #[derive(Clone, Copy)]
 pub enum Function {
@@ -24,7 +25,7 @@ impl Function {
     }
 }
 
-/// Nanoseconds per cell of one implementation, one value a round.
+/// The times of one implementation, one value a round.
 pub struct Times(Vec<f64>);
 
 impl Times {
@@ -42,11 +43,27 @@ impl Times {
     }
 }
 
-/// The times of one function on one corpus, for each implementation.
+/// The times of one function on one corpus or module, for each implementation.
 pub struct Line {
     pub corpus: &'static str,
     pub function: Function,
     pub times: [Times; COUNT],
+}
+
+impl Line {
+    fn new(corpus: &'static str, function: Function, rounds: usize) -> Line {
+        Line {
+            corpus,
+            function,
+            times: std::array::from_fn(|_| Times(Vec::with_capacity(rounds))),
+        }
+    }
+}
+
+/// Nanoseconds per cell for the patterns, microseconds per module for the modules.
+pub struct Measured {
+    pub patterns: Vec<Line>,
+    pub modules: Vec<Line>,
 }
 
 /// The outputs of a corpus: one buffer of just the needed length for each pattern, used by every implementation.
@@ -55,7 +72,7 @@ struct Outputs {
     streams: Vec<Vec<u8>>,
 }
 
-pub fn measure(corpora: &[Corpus], rounds: usize) -> Vec<Line> {
+pub fn measure(corpora: &[Corpus], modules: &[Module], rounds: usize) -> Measured {
     let mut outputs: Vec<Outputs> = corpora
         .iter()
         .map(|corpus| Outputs {
@@ -65,13 +82,11 @@ pub fn measure(corpora: &[Corpus], rounds: usize) -> Vec<Line> {
         .collect();
     let mut lines: Vec<Line> = corpora
         .iter()
-        .flat_map(|corpus| {
-            FUNCTIONS.map(|function| Line {
-                corpus: corpus.name,
-                function,
-                times: std::array::from_fn(|_| Times(Vec::with_capacity(rounds))),
-            })
-        })
+        .flat_map(|corpus| FUNCTIONS.map(|function| Line::new(corpus.name, function, rounds)))
+        .collect();
+    let mut module_lines: Vec<Line> = modules
+        .iter()
+        .map(|module| Line::new(module.name, Function::Check, rounds))
         .collect();
 
     let mut random = Random(6);
@@ -88,13 +103,24 @@ pub fn measure(corpora: &[Corpus], rounds: usize) -> Vec<Line> {
                 }
             }
         }
+        for (module, line) in modules.iter().zip(&mut module_lines) {
+            for which in shuffled(&mut random) {
+                let time = module_pass(module, &IMPLEMENTATIONS[which]);
+                if round > 0 {
+                    line.times[which].0.push(time / 1e3 / module.repeats as f64);
+                }
+            }
+        }
     }
-    for line in &mut lines {
+    for line in lines.iter_mut().chain(&mut module_lines) {
         for times in &mut line.times {
             times.0.sort_by(f64::total_cmp);
         }
     }
-    lines
+    Measured {
+        patterns: lines,
+        modules: module_lines,
+    }
 }
 
 /// The implementations in a random order, so that none always follows the same one.
@@ -153,6 +179,16 @@ fn pass(
                 ));
             }
         }
+    }
+    cpu_time() - start
+}
+
+/// The nanoseconds that one implementation takes for a module, as often as it is checked.
+fn module_pass(module: &Module, implementation: &Implementation) -> f64 {
+    let start = cpu_time();
+    for _ in 0..module.repeats {
+        let verdict = (implementation.check_module)(black_box(&module.bytes));
+        assert_eq!(verdict.number, 0, "a module is refused");
     }
     cpu_time() - start
 }
