@@ -16,7 +16,7 @@ use Rattle.module.specs.Verdicts.{contentRules, contentIf, verdictOf, moduleVer
 use Rattle.grammar.specs.Rules.{Bytes, infoLetters, Rules}
 use Rattle.grammar.proofs.Recorded.{There}
 use Rattle.grammar.proofs.ChunkHalf.{Outlined, outline-chunks, chunks-outline}
-use Rattle.grammar.proofs.ContentHalf.{Content, content-exactly}
+use Rattle.grammar.proofs.ContentHalf.{content-exactly}
 
 -- The verdict behind a layout that was found.
 pub verdict-found : (l : Layout) (v : Verdict) → verdictOf (outlineIf v (Found l)) ≡ v
@@ -39,27 +39,11 @@ module _ (m : List ℕ) (bytes : Bytes m) where
     instThere = o .mandatory .inst .1;
     pattThere = o .mandatory .patt .1;
     smplThere = o .mandatory .smpl .1;
-    songs = c .songs;
-    instruments = c .instruments;
-    patterns = c .patterns;
-    samples = c .samples;
-    songsFill = c .songsFill;
-    instrumentsFill = c .instrumentsFill;
-    patternsFill = c .patternsFill;
-    samplesFill = c .samplesFill;
-    songRules = c .songRules;
-    instrumentRules = c .instrumentRules;
-    patternRules = c .patternRules;
-    sampleRules = c .sampleRules;
-    volumeEnvelopes = c .volumeEnvelopes;
-    panningEnvelopes = c .panningEnvelopes;
+    content = content-exactly (o .layout) (o .rules .version) (info .1) (o .mandatory .song .1) (o .mandatory .inst .1) (o .mandatory .patt .1) (o .mandatory .smpl .1) (o .rules .info (info .0) (info .1) .tracks) bytes .0 e;
   }
     where
       info : There (o .chunks) infoLetters
       info = o .mandatory .info
-
-      c : Content (o .header) (o .chunks) (info .0) (o .mandatory .song .0) (o .mandatory .inst .0) (o .mandatory .patt .0) (o .mandatory .smpl .0)
-      c = content-exactly (o .layout) (o .rules .version) (info .1) (o .mandatory .song .1) (o .mandatory .inst .1) (o .mandatory .patt .1) (o .mandatory .smpl .1) (o .rules .info (info .0) (info .1) .tracks) bytes .0 e
 
   accepted-follows : moduleVerdict m ≡ Accepted → Rules m
   accepted-follows = go (outline m) refl
@@ -71,8 +55,7 @@ module _ (m : List ℕ) (bytes : Bytes m) where
   rules-accepted : Rules m → moduleVerdict m ≡ Accepted
   rules-accepted r =
       let found = chunks-outline m (r .header) (r .chunks) (r .chunkRules) (record { info = (r .info, r .infoThere); song = (r .song, r .songThere); inst = (r .inst, r .instThere); patt = (r .patt, r .pattThere); smpl = (r .smpl, r .smplThere) }) in
-      let content : Content (r .header) (r .chunks) (r .info) (r .song) (r .inst) (r .patt) (r .smpl) = record { songs = r .songs; instruments = r .instruments; patterns = r .patterns; samples = r .samples; songsFill = r .songsFill; instrumentsFill = r .instrumentsFill; patternsFill = r .patternsFill; samplesFill = r .samplesFill; songRules = r .songRules; instrumentRules = r .instrumentRules; patternRules = r .patternRules; sampleRules = r .sampleRules; volumeEnvelopes = r .volumeEnvelopes; panningEnvelopes = r .panningEnvelopes } in
-      let accepted = content-exactly (found .2) (r .chunkRules .version) (r .infoThere) (r .songThere) (r .instThere) (r .pattThere) (r .smplThere) (r .chunkRules .info (r .info) (r .infoThere) .tracks) bytes .1 content in
+      let accepted = content-exactly (found .2) (r .chunkRules .version) (r .infoThere) (r .songThere) (r .instThere) (r .pattThere) (r .smplThere) (r .chunkRules .info (r .info) (r .infoThere) .tracks) bytes .1 (r .content) in
       rw (found .1, accepted)
 
   pub accepted-exactly : (moduleVerdict m ≡ Accepted) ↔ Rules m

@@ -21,7 +21,7 @@ use Rattle.module.specs.Fields.{valueFits, songRules, instrumentRules, envelope
 use Rattle.module.specs.Loops.{framesOf, instrumentLoopRules}
 use Rattle.module.specs.Streams.{patternStreamRules}
 use Rattle.module.specs.Verdicts.{contentRules}
-use Rattle.grammar.specs.Rules.{Bytes, Every, none, Among, infoLetters, songLetters, instLetters, pattLetters, smplLetters, venvLetters, penvLetters, Filled, SongRules, InstrumentRules, PatternRules, SampleRules, EnvelopeRules, EnvelopesRules, VolumeFits, PanningValueFits}
+use Rattle.grammar.specs.Rules.{Bytes, Every, none, Among, infoLetters, songLetters, instLetters, pattLetters, smplLetters, venvLetters, penvLetters, Filled, SongRules, InstrumentRules, PatternRules, SampleRules, EnvelopeRules, EnvelopesRules, VolumeFits, PanningValueFits, Content}
 use Rattle.grammar.proofs.Standing.{Stands, Found, LayoutOf}
 use Rattle.grammar.proofs.Locating.{number16-at, number32-at}
 use Rattle.grammar.proofs.Holding.{leb-says, every-of, every-both, every-at, AllHold, accepted-hold}
@@ -31,23 +31,6 @@ use Rattle.grammar.proofs.FillingChunks.{BlocksIn, fill-blocks, filled-
 use Rattle.grammar.proofs.BlockFields.{panning-says, song-sized, song-holds, instrument-sized, instrument-holds, sample-sized, sample-holds, envelope-sized, envelope-holds}
 use Rattle.grammar.proofs.BlockStreams.{TracksFit, pattern-sized, pattern-holds, pattern-rules-hold}
 use Rattle.grammar.proofs.ContentRules.{ContentHolds, content-hold}
-
--- The part of the rules that speaks of the content.
-pub record Content (header : List ℕ) (chunks : List (List ℕ)) (info song inst patt smpl : List ℕ) : Type 0 where
-  pub songs : List (List ℕ)
-  pub instruments : List (List ℕ)
-  pub patterns : List (List ℕ)
-  pub samples : List (List ℕ)
-  pub songsFill : Filled 8 song (number16 info 12) songs
-  pub instrumentsFill : Filled 8 inst (number16 info 8) instruments
-  pub patternsFill : Filled 8 patt (number16 info 14) patterns
-  pub samplesFill : Filled 8 smpl (number16 info 10) samples
-  pub songRules : Every (SongRules (length patterns)) songs
-  pub instrumentRules : Every (InstrumentRules samples) instruments
-  pub patternRules : Every (PatternRules (number16 info 16)) patterns
-  pub sampleRules : Every SampleRules samples
-  pub volumeEnvelopes : (chunk : List ℕ) → Among chunks venvLetters chunk → EnvelopesRules (length instruments) VolumeFits chunk
-  pub panningEnvelopes : (chunk : List ℕ) → Among chunks penvLetters chunk → EnvelopesRules (length instruments) (PanningValueFits (byteAt header 4)) chunk
 
 counted : {front count other : ℕ} {chunk : List ℕ} {blocks : List (List ℕ)} → count ≡ other → Filled front chunk count blocks → Filled front chunk other blocks
 counted same f = record { fronts = f .fronts; bytes = f .bytes; number = f .number ∙ same }

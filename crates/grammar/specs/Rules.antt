@@ -179,6 +179,23 @@ VolumeFits v = v ≤ 64
 abbrev pub PanningValueFits : ℕ → ℕ → Type 0
 PanningValueFits version v = (version ≡ 3 → PanningFits v) × (version ≡ 2 → v ≤ 64)
 
+-- B1 to B6, V1 to V7: what stands in these chunks: the blocks of SONG, INST, PATT and SMPL, as many as INFO says, and the envelopes.
+pub record Content (header : List ℕ) (chunks : List (List ℕ)) (info song inst patt smpl : List ℕ) : Type 0 where
+  pub songs : List (List ℕ)
+  pub instruments : List (List ℕ)
+  pub patterns : List (List ℕ)
+  pub samples : List (List ℕ)
+  pub songsFill : Filled 8 song (number16 info 12) songs
+  pub instrumentsFill : Filled 8 inst (number16 info 8) instruments
+  pub patternsFill : Filled 8 patt (number16 info 14) patterns
+  pub samplesFill : Filled 8 smpl (number16 info 10) samples
+  pub songRules : Every (SongRules (length patterns)) songs
+  pub instrumentRules : Every (InstrumentRules samples) instruments
+  pub patternRules : Every (PatternRules (number16 info 16)) patterns
+  pub sampleRules : Every SampleRules samples
+  pub volumeEnvelopes : (chunk : List ℕ) → Among chunks venvLetters chunk → EnvelopesRules (length instruments) VolumeFits chunk
+  pub panningEnvelopes : (chunk : List ℕ) → Among chunks penvLetters chunk → EnvelopesRules (length instruments) (PanningValueFits (byteAt header 4)) chunk
+
 -- The rules of a whole module.
 pub record Rules (m : List ℕ) : Type 0 where
   pub header : List ℕ
@@ -194,17 +211,4 @@ pub record Rules (m : List ℕ) : Type 0 where
   pub instThere : Among chunks instLetters inst
   pub pattThere : Among chunks pattLetters patt
   pub smplThere : Among chunks smplLetters smpl
-  pub songs : List (List ℕ)
-  pub instruments : List (List ℕ)
-  pub patterns : List (List ℕ)
-  pub samples : List (List ℕ)
-  pub songsFill : Filled 8 song (number16 info 12) songs
-  pub instrumentsFill : Filled 8 inst (number16 info 8) instruments
-  pub patternsFill : Filled 8 patt (number16 info 14) patterns
-  pub samplesFill : Filled 8 smpl (number16 info 10) samples
-  pub songRules : Every (SongRules (length patterns)) songs
-  pub instrumentRules : Every (InstrumentRules samples) instruments
-  pub patternRules : Every (PatternRules (number16 info 16)) patterns
-  pub sampleRules : Every SampleRules samples
-  pub volumeEnvelopes : (chunk : List ℕ) → Among chunks venvLetters chunk → EnvelopesRules (length instruments) VolumeFits chunk
-  pub panningEnvelopes : (chunk : List ℕ) → Among chunks penvLetters chunk → EnvelopesRules (length instruments) (PanningValueFits (byteAt header 4)) chunk
+  pub content : Content header chunks info song inst patt smpl
