@@ -5,8 +5,8 @@ use mathlib.Core.List.{List, []}
 use native.Mathlib.Omega.{arith}
 use native.Mathlib.Nat.{mul-le-mul}
 use lib.ListN.{length}
-use Rattle.layout.specs.Numbers.{byteAt, number16, number32}
-use Rattle.layout.proofs.Bytes.{number16-past, number32-past}
+use Rattle.numbers.specs.Numbers.{byteAt, number16, number32}
+use Rattle.numbers.proofs.Bytes.{number16-past, number32-past}
 use Rattle.blocks.specs.Sizes.{sizeOf}
 use Rattle.blocks.specs.declared.Kind.{Kind}
 use Rattle.blocks.specs.declared.Kind.the-variants.{Song, Instrument, Pattern, Sample, Envelope}

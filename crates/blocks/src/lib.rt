@@ -1,8 +1,8 @@
 // The blocks of a chunk: how long each is, where it stands, and whether they fill their chunk: refusal 11.
 use layout::Layout;
 use layout::Place;
-use layout::numbers::number16;
-use layout::numbers::number32;
+use numbers::number16;
+use numbers::number32;
 use refusal::Cause;
 use refusal::Verdict;
 use refusal::refuse;
@@ -25,7 +25,7 @@ pub enum Kind {
 }
 
 // How many bytes a frame has, by a sample's flags; 0 for flags that no sample has.
-fn width(flags: u32) -> usize
+pub fn width(flags: u32) -> usize
     ensures { λ r. ⌜ (r ≡ widthOf flags) × (r < 5) ⌝ }
 {
     if flags == 1 {

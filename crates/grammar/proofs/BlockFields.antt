@@ -12,7 +12,7 @@ use lib.Dec.{T, eqb}
 use lib.IntN.{ℤ}
 use lib.Signed.{leZ, _≤ℤ_}
 use borrow.Author.Tests.{eqb-true, eqb-false}
-use Rattle.layout.specs.Numbers.{byteAt, number16, number32}
+use Rattle.numbers.specs.Numbers.{byteAt, number16, number32}
 use Rattle.layout.specs.declared.Place.{Place}
 use Rattle.blocks.specs.Sizes.{widthOf, sizeOf}
 use Rattle.blocks.specs.Filling.{flagsRules}

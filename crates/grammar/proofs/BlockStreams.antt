@@ -21,7 +21,7 @@ use Rattle.pattern.specs.Stream.{readStream}
 use Rattle.pattern.specs.Answers.{checkAnswer, verdictOf}
 use Rattle.pattern.specs.Theorems.{StreamOf}
 use Rattle.pattern.proofs.Theorems.{accepts-exactly}
-use Rattle.layout.specs.Numbers.{number16, number32, partOf}
+use Rattle.numbers.specs.Numbers.{number16, number32, partOf}
 use Rattle.blocks.specs.Sizes.{sizeOf}
 use Rattle.blocks.specs.declared.Kind.the-variants.{Pattern}
 use Rattle.module.specs.Streams.{packedBytes, patternStreamRules}

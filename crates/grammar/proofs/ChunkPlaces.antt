@@ -11,7 +11,7 @@ use Rattle.pattern.specs.Cells.{joined}
 use Rattle.refusal.specs.Numbers.{refusal}
 use Rattle.refusal.specs.declared.Cause.the-variants.{InfoRange}
 use Rattle.refusal.specs.declared.Refusal.{Refusal}
-use Rattle.layout.specs.Numbers.{number32}
+use Rattle.numbers.specs.Numbers.{number32}
 use Rattle.layout.specs.Header.{headerFits, headerRules}
 use Rattle.layout.specs.Chunks.{NAME, INFO, SONG, INST, PATT, SMPL, VENV, PENV, Chunk, occurs, chunkAt, needsInfo, covered, lengthFits, infoRules, chunkRules}
 use Rattle.layout.specs.Outlines.{standing, placeOf, placesOf, layoutWith, mandatoryThere, outline}

@@ -14,7 +14,7 @@ use Rattle.refusal.specs.Rules.{firstBroken}
 use Rattle.refusal.specs.declared.Refusal.{Refusal}
 use Rattle.refusal.specs.declared.Verdict.{Verdict}
 use Rattle.refusal.specs.declared.Verdict.the-variants.{Accepted, Refused}
-use Rattle.layout.specs.Numbers.{number32, partOf}
+use Rattle.numbers.specs.Numbers.{number32, partOf}
 use Rattle.layout.specs.Chunks.{Chunk, chunkAt, chunkEnd, chunkRules, Walk, whole, stopped, goOn, chunksFrom, chunks}
 use Rattle.grammar.specs.Rules.{Every, none, also, ChunkBytes}
 use Rattle.grammar.proofs.Locating.{PartAt, number32-at, part-length, part-there, part-inside}

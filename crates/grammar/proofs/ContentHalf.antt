@@ -11,7 +11,7 @@ use lib.Dec.{eqb}
 use borrow.Author.Tests.{leb-true, le-leb}
 use Rattle.refusal.specs.Rules.{firstBroken}
 use Rattle.refusal.specs.declared.Verdict.the-variants.{Accepted}
-use Rattle.layout.specs.Numbers.{byteAt, number16, number32}
+use Rattle.numbers.specs.Numbers.{byteAt, number16, number32}
 use Rattle.layout.specs.declared.Place.{Place}
 use Rattle.layout.specs.declared.Layout.{Layout}
 use Rattle.blocks.specs.Sizes.{blockAt, envelopeCount, songBlocks, instrumentBlocks, patternBlocks, sampleBlocks, envelopeBlocks}

@@ -13,7 +13,7 @@ use Rattle.refusal.specs.Rules.{Rule, firstBroken, rulesOfEach}
 use Rattle.refusal.specs.declared.Cause.the-variants.{Blocks, Reference, FieldRange}
 use Rattle.refusal.specs.declared.Refusal.{Refusal}
 use Rattle.refusal.specs.declared.Verdict.the-variants.{Refused}
-use Rattle.layout.specs.Numbers.{byteAt, number16}
+use Rattle.numbers.specs.Numbers.{byteAt, number16}
 use Rattle.layout.specs.Chunks.{SONG, INST, PATT, SMPL, VENV, PENV}
 use Rattle.layout.specs.Outlines.{outline}
 use Rattle.layout.specs.declared.Place.{Place}

@@ -10,7 +10,7 @@ use native.Mathlib.Nat.{add-assoc, add-zero}
 use lib.ListN.{length, take}
 use lib.Dec.{eqb}
 use Rattle.refusal.specs.Rules.{Rule}
-use Rattle.layout.specs.Numbers.{byteAt, number16, number32}
+use Rattle.numbers.specs.Numbers.{byteAt, number16, number32}
 use Rattle.layout.specs.Chunks.{INFO, chunkAt, fourLetters, needsInfo, covered, occurs, lengthFits, infoRules, chunkRules}
 use Rattle.grammar.specs.Rules.{Every, none, also, ChunkBytes, nameLetters, infoLetters, Covered, NeedsInfo, InfoRules}
 use Rattle.grammar.proofs.Locating.{PartAt, byteAt-at, number16-at, number32-at, number32-start, part-inside}

@@ -10,7 +10,7 @@ use lib.ListN.{length, take}
 use lib.Seq.{length-take-le, getD-take, ext-getD}
 use lib.Dec.{eqb, ltb}
 use borrow.Author.Tests.{eqb-true}
-use Rattle.layout.specs.Numbers.{byteAt, number16, number32}
+use Rattle.numbers.specs.Numbers.{byteAt, number16, number32}
 use Rattle.layout.specs.Chunks.{NAME, INFO, SONG, INST, PATT, SMPL, VENV, PENV, needsInfo, covered}
 use Rattle.grammar.specs.Rules.{ChunkBytes, nameLetters, infoLetters, songLetters, instLetters, pattLetters, smplLetters, venvLetters, penvLetters, Covered, NeedsInfo}
 use Rattle.grammar.proofs.Locating.{number32-take}

@@ -7,7 +7,7 @@ use native.Mathlib.Omega.{arith}
 use native.Mathlib.Nat.{add-assoc, add-zero, zero-add}
 use lib.ListN.{length, take, drop, length-append, length-drop, take-append-drop, List·getD-append}
 use lib.Seq.{length-take-le, take-at, drop-at, getD-append-add, getD-take, getD-drop}
-use Rattle.layout.specs.Numbers.{byteAt, number16, number32, partOf}
+use Rattle.numbers.specs.Numbers.{byteAt, number16, number32, partOf}
 
 -- Numbers agree where their bytes do, so many bytes from two places on.
 module _ (xs ys : List ℕ) (at to size : ℕ) (same : (i : ℕ) → i < size → byteAt xs (at + i) ≡ byteAt ys (to + i)) where

@@ -11,7 +11,7 @@ use lib.ListN.{length, take, length-append}
 use lib.Dec.{eqb}
 use borrow.Author.Tests.{eqb-true, eq-eqb, ne-eqb}
 use Rattle.pattern.specs.Cells.{joined}
-use Rattle.layout.specs.Numbers.{number32}
+use Rattle.numbers.specs.Numbers.{number32}
 use Rattle.layout.specs.Chunks.{Chunk, occurs}
 use Rattle.layout.specs.Outlines.{standing, placeOf}
 use Rattle.grammar.specs.Rules.{Every, none, also, ChunkBytes, Among, Covered}

@@ -4,7 +4,7 @@ use mathlib.Core.Path.{_≡_}
 use mathlib.Core.List.{List, _++_}
 use mathlib.Core.Bool.{true}
 use lib.ListN.{length}
-use Rattle.layout.specs.Numbers.{byteAt, number16}
+use Rattle.numbers.specs.Numbers.{byteAt, number16}
 use Rattle.layout.specs.declared.Place.{Place}
 use Rattle.layout.specs.declared.Layout.{Layout}
 use Rattle.grammar.specs.Rules.{Among, infoLetters, songLetters, instLetters, pattLetters, smplLetters, venvLetters, penvLetters}

@@ -12,8 +12,7 @@ use lib.Signed.{_≤ℤ_}
 use Rattle.pattern.specs.Cells.{joined}
 use Rattle.pattern.specs.Entries.{Entry}
 use Rattle.pattern.specs.Theorems.{StreamOf}
-use Rattle.layout.specs.Numbers.{byteAt, number16, number32}
-use Rattle.module.specs.Fields.{signed16}
+use Rattle.numbers.specs.Numbers.{byteAt, number16, number32, signed16}
 
 -- A list of bytes: each number is below 256. A slice of bytes is such a list; the rules themselves speak of any list of numbers.
 abbrev pub Bytes : List ℕ → Type 0

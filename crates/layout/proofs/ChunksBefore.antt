@@ -7,7 +7,7 @@ use mathlib.Core.Bool.{Bool, true, false, cond, _&&_, _||_, true≢false, or-ass
 use lib.Dec.{eqb}
 use borrow.Author.Tests.{eqb-true}
 use Rattle.refusal.specs.Rules.{firstBroken}
-use Rattle.layout.specs.Numbers.{number32}
+use Rattle.numbers.specs.Numbers.{number32}
 use Rattle.layout.specs.Chunks.{NAME, INFO, SONG, INST, PATT, SMPL, VENV, PENV, Chunk, covered, occurs, chunkRules}
 use Rattle.layout.specs.Outlines.{standing, placeOf, placesOf, mandatoryThere}
 use Rattle.layout.specs.declared.Place.{Place}

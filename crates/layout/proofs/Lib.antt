@@ -1,4 +1,3 @@
-pub mod Bytes
 pub mod Tests
 pub mod ChunksBefore
 pub mod Walking

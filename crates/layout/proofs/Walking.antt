@@ -10,7 +10,7 @@ use Rattle.refusal.specs.Rules.{firstBroken}
 use Rattle.refusal.specs.declared.Refusal.{Refusal}
 use Rattle.refusal.specs.declared.Verdict.{Verdict}
 use Rattle.refusal.specs.declared.Verdict.the-variants.{Accepted, Refused}
-use Rattle.layout.specs.Numbers.{number32}
+use Rattle.numbers.specs.Numbers.{number32}
 use Rattle.layout.specs.Chunks.{Chunk, chunkAt, chunkEnd, covered, occurs, chunkRules, whole, goOn, chunksFrom, chunks}
 use Rattle.layout.specs.Outlines.{standing, placesOf}
 use Rattle.layout.specs.Steps.{putIn, placedRules, walked}

@@ -9,7 +9,7 @@ use Rattle.refusal.specs.declared.Cause.the-variants.{ChunkCut, Identifier, Rep
 use Rattle.refusal.specs.declared.Refusal.{Refusal}
 use Rattle.refusal.specs.declared.Verdict.{Verdict}
 use Rattle.refusal.specs.declared.Verdict.the-variants.{Accepted, Refused}
-use Rattle.layout.specs.Numbers.{byteAt, number16, number32}
+use Rattle.numbers.specs.Numbers.{byteAt, number16, number32}
 
 -- M6: the identifiers of the covered chunks. An identifier is its four letters, as one number.
 abbrev pub NAME : ℕ

@@ -6,7 +6,7 @@ use lib.ListN.{length}
 use lib.Dec.{eqb, leb}
 use Rattle.refusal.specs.Rules.{Rule, rule}
 use Rattle.refusal.specs.declared.Cause.the-variants.{TooLong, NotAModule, Version}
-use Rattle.layout.specs.Numbers.{byteAt, number32}
+use Rattle.numbers.specs.Numbers.{byteAt, number32}
 
 -- M3: at least 8 bytes, which begin with DBM0.
 abbrev pub headerFits : List ℕ → Bool

@@ -1,4 +1,3 @@
-pub mod Numbers
 pub mod Header
 pub mod Chunks
 pub mod Outlines

@@ -10,7 +10,7 @@ use Rattle.refusal.specs.Rules.{firstBroken}
 use Rattle.refusal.specs.declared.Cause.the-variants.{Missing}
 use Rattle.refusal.specs.declared.Verdict.{Verdict}
 use Rattle.refusal.specs.declared.Verdict.the-variants.{Accepted, Refused as VerdictRefused}
-use Rattle.layout.specs.Numbers.{byteAt, number16}
+use Rattle.numbers.specs.Numbers.{byteAt, number16}
 use Rattle.layout.specs.Header.{headerRules}
 use Rattle.layout.specs.Chunks.{NAME, INFO, SONG, INST, PATT, SMPL, VENV, PENV, Chunk, occurs, Walk, whole, stopped, chunks}
 use Rattle.layout.specs.declared.Place.{Place}

@@ -7,7 +7,7 @@ use lib.Dec.{eqb, leb}
 use Rattle.refusal.specs.Numbers.{refusal}
 use Rattle.refusal.specs.Rules.{Rule, rule}
 use Rattle.refusal.specs.declared.Cause.the-variants.{ChunkCut, Identifier, Repeated, BeforeInfo, Missing, FixedLength}
-use Rattle.layout.specs.Numbers.{number32}
+use Rattle.numbers.specs.Numbers.{number32}
 use Rattle.layout.specs.Chunks.{NAME, INFO, SONG, INST, PATT, SMPL, VENV, PENV, needsInfo, fourLetters, infoRules, Walk, whole, stopped}
 use Rattle.layout.specs.Outlines.{placesOf, layoutWith}
 use Rattle.layout.specs.declared.Outline.{Outline}

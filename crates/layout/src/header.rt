@@ -1,6 +1,6 @@
 // The size of a module and its header: refusals 1, 2, 3.
-use crate::numbers::byte;
-use crate::numbers::number32;
+use numbers::byte;
+use numbers::number32;
 use refusal::Cause;
 use refusal::Verdict;
 use refusal::refuse;

@@ -1,13 +1,12 @@
-// The header of a module, its numbers, and the walk over its chunks: refusals 1 to 10.
+// The header of a module, and the walk over its chunks: refusals 1 to 10.
 mod header;
-pub mod numbers;
 mod walk;
 
 use crate::header::check_header;
-use crate::numbers::byte;
-use crate::numbers::number16;
 use crate::walk::Walked;
 use crate::walk::walk_chunks;
+use numbers::byte;
+use numbers::number16;
 use refusal::Cause;
 use refusal::Refusal;
 use refusal::Verdict;

@@ -1,9 +1,9 @@
 // The walk over the chunks, from the front: refusals 4, 5, 4, 6, 7, 9, 10 for each.
 use crate::Place;
 use crate::Places;
-use crate::numbers::byte;
-use crate::numbers::number16;
-use crate::numbers::number32;
+use numbers::byte;
+use numbers::number16;
+use numbers::number32;
 use refusal::Cause;
 use refusal::Refusal;
 use refusal::Verdict;

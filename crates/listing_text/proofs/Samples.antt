@@ -3,7 +3,7 @@ use Prim.Native.Nat.{ℕ}
 use mathlib.Core.Path.{_≡_, refl}
 use mathlib.Core.List.{List, [], _∷_, _++_}
 use lib.ListN.{length}
-use Rattle.layout.specs.Numbers.{byteAt, number16, number32}
+use Rattle.numbers.specs.Numbers.{byteAt, number16, number32}
 use Rattle.layout.specs.Chunks.{chunks, chunksFrom}
 use Rattle.listing_text.specs.Lines.{ascii, decimal, digitsWithin, listing}
 

@@ -8,7 +8,7 @@ use Rattle.refusal.specs.Rules.{Rule, firstBroken, rulesOfEach}
 use Rattle.refusal.specs.declared.Refusal.{Refusal}
 use Rattle.refusal.specs.declared.Verdict.{Verdict}
 use Rattle.refusal.specs.declared.Verdict.the-variants.{Accepted, Refused}
-use Rattle.layout.specs.Numbers.{byteAt}
+use Rattle.numbers.specs.Numbers.{byteAt}
 use Rattle.layout.specs.declared.Layout.{Layout}
 use Rattle.blocks.specs.Sizes.{songBlocks, instrumentBlocks, envelopeBlocks}
 use Rattle.refusal.proofs.RuleLists.{broken-stopped, broken-passed}

@@ -1,19 +1,15 @@
 -- FORMAT.md, V1 to V5 and F15 (document 01, "Layout"): the checked fields of the blocks: refusals 12 and 13.
-use Prim.Native.Nat.{ℕ, _+_, _-_, _/_, _%_}
+use Prim.Native.Nat.{ℕ, _+_, _/_, _%_}
 use mathlib.Core.List.{List, [], _∷_, _++_}
 use mathlib.Core.Bool.{Bool, false, cond, not, _&&_, _||_}
 use lib.Dec.{eqb, leb, ltb}
-use lib.IntN.{ℤ, pos, negsuc}
+use lib.IntN.{pos, negsuc}
 use lib.Signed.{leZ}
 use Rattle.refusal.specs.Rules.{Rule, rule, rulesOfEach}
 use Rattle.refusal.specs.declared.Cause.the-variants.{Reference, FieldRange}
-use Rattle.layout.specs.Numbers.{byteAt, number16}
+use Rattle.numbers.specs.Numbers.{byteAt, number16, signed16}
 use Rattle.layout.specs.declared.Layout.{Layout}
 use Rattle.blocks.specs.Sizes.{placesFrom, songBlocks, instrumentBlocks, envelopeBlocks}
-
--- M1: a stored 2-byte number taken as signed: from 32,768 on it stands for itself less 65,536.
-abbrev pub signed16 : ℕ → ℤ
-signed16 v = cond (ltb v 32768) (pos v) (negsuc (65535 - v))
 
 -- −128 to 128.
 abbrev pub panningFits : ℕ → Bool

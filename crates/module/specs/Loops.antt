@@ -5,7 +5,7 @@ use mathlib.Core.Bool.{Bool, true, false, cond, not, _&&_, _||_}
 use lib.Dec.{eqb, leb}
 use Rattle.refusal.specs.Rules.{Rule, rule, rulesOfEach}
 use Rattle.refusal.specs.declared.Cause.the-variants.{Loop}
-use Rattle.layout.specs.Numbers.{number16, number32}
+use Rattle.numbers.specs.Numbers.{number16, number32}
 use Rattle.layout.specs.declared.Place.{Place}
 use Rattle.layout.specs.declared.Layout.{Layout}
 use Rattle.blocks.specs.Sizes.{blockAt, instrumentBlocks}

@@ -5,7 +5,7 @@ use Rattle.refusal.specs.Rules.{Rule, rule, rulesOfEach, accepted}
 use Rattle.refusal.specs.declared.Cause.the-variants.{Stream}
 use Rattle.refusal.specs.declared.Verdict.{Verdict}
 use Rattle.pattern.specs.Answers.{checkAnswer}
-use Rattle.layout.specs.Numbers.{number16, number32, partOf}
+use Rattle.numbers.specs.Numbers.{number16, number32, partOf}
 use Rattle.layout.specs.declared.Layout.{Layout}
 use Rattle.blocks.specs.Sizes.{patternBlocks}
 

@@ -5,7 +5,7 @@ use blocks::block_at;
 use blocks::size;
 use layout::Layout;
 use layout::Place;
-use layout::numbers::number16;
+use numbers::number16;
 use refusal::Cause;
 use refusal::Verdict;
 use refusal::refuse;

@@ -1,5 +1,5 @@
 use borrow.Author.Needs.{needs}
-use Rattle.layout.specs.Numbers.{byteAt, number16, number32}
+use Rattle.numbers.specs.Numbers.{byteAt, number16, number32}
 use Rattle.blocks.specs.Sizes.{sizeOf}
 use Rattle.blocks.proofs.least.Statement.{statement}
 use Rattle.blocks.proofs.least.Tie as tie

@@ -1,0 +1,96 @@
+-- FORMAT.md, B6, Q3 and Q9 (document 01, "Layout"): envelopes as they are shown. Each answer begins with the refusal's number and
+-- place, 0 and 0 where there is none; on a refusal all else is 0.
+use Prim.Native.Nat.{ℕ, _+_, _*_}
+use mathlib.Core.List.{List}
+use mathlib.Core.Bool.{cond}
+use lib.ListN.{replicate}
+use lib.Dec.{eqb, leb}
+use lib.IntN.{ℤ, pos, _-ℤ_}
+use Rattle.refusal.specs.declared.Refusal.{Refusal}
+use Rattle.numbers.specs.Numbers.{byteAt, number16, signed16, eachFrom}
+use Rattle.layout.specs.declared.Layout.{Layout}
+use Rattle.layout.specs.declared.Outline.{Outline}
+use Rattle.layout.specs.declared.Outline.the-variants.{Found as Opened, Refused as OpeningRefused}
+use Rattle.layout.specs.declared.Place.{Place}
+use Rattle.blocks.specs.Sizes.{envelopeCount}
+use Rattle.module.specs.Verdicts.{opened}
+use Rattle.queries.specs.Finding.{found}
+use Rattle.queries.specs.declared.Found.{Found}
+use Rattle.queries.specs.declared.Found.the-variants.{At, Refused}
+use Rattle.queries.specs.declared.Thing.{Thing}
+use Rattle.queries.specs.declared.Thing.the-variants.{VolumeEnvelope, PanningEnvelope}
+use Rattle.envelopes.specs.declared.Shape.{Shape}
+use Rattle.envelopes.specs.declared.Shape.the-variants.{Volume, Panning}
+use Rattle.envelopes.specs.declared.CountAnswer.{CountAnswer}
+use Rattle.envelopes.specs.declared.EnvelopeAnswer.{EnvelopeAnswer}
+
+-- The envelopes of VENV are of volume, those of PENV of panning.
+abbrev pub thingOf : Shape → Thing
+thingOf Volume = VolumeEnvelope
+thingOf Panning = PanningEnvelope
+
+abbrev pub chunkOf : Layout → Shape → Place
+chunkOf l Volume = l .places .venv
+chunkOf l Panning = l .places .penv
+
+abbrev pub noCount : Refusal → CountAnswer
+noCount r = record { number = r .number; place = r .place; count = 0 }
+
+abbrev pub countIf : List ℕ → Shape → Outline → CountAnswer
+countIf m shape (Opened l) = record { number = 0; place = 0; count = envelopeCount m (chunkOf l shape) }
+countIf m shape (OpeningRefused r) = noCount r
+
+-- Q9: how many envelopes there are: the count of their chunk, and none where it is missing.
+abbrev pub countAnswer : List ℕ → Shape → CountAnswer
+countAnswer m shape = countIf m shape (opened m)
+
+-- Q9: the points in use are sections + 1, so the last of them has the number of the sections; the others are shown as zeros.
+abbrev pub positionShown : List ℕ → ℕ → ℕ → ℕ → ℕ
+positionShown m at sections point = cond (leb point sections) (number16 m (at + 8 + 4 * point)) 0
+
+-- Q9: a value of volume as stored; a value of panning is signed, and in version 2 a stored v is shown as 4v − 128.
+abbrev pub valueOf : Shape → ℕ → ℕ → ℤ
+valueOf Volume version v = pos v
+valueOf Panning version v = cond (eqb version 2) (pos (4 * v) -ℤ pos 128) (signed16 v)
+
+abbrev pub valueShown : List ℕ → Shape → ℕ → ℕ → ℕ → ℕ → ℤ
+valueShown m shape version at sections point = cond (leb point sections) (valueOf shape version (number16 m (at + 10 + 4 * point))) (pos 0)
+
+abbrev pub noEnvelope : Refusal → EnvelopeAnswer
+noEnvelope r = record {
+  number = r .number;
+  place = r .place;
+  instrument = 0;
+  flags = 0;
+  sections = 0;
+  «first_sustain» = 0;
+  «loop_first» = 0;
+  «loop_last» = 0;
+  «second_sustain» = 0;
+  positions = replicate 32 0;
+  values = replicate 32 (pos 0);
+}
+
+-- B6: instrument 2, flags 1, sections 1, S1, L1, L2, S2, then 32 points of position 2 and value 2.
+abbrev pub shownEnvelope : List ℕ → Shape → ℕ → ℕ → EnvelopeAnswer
+shownEnvelope m shape version at = record {
+  number = 0;
+  place = 0;
+  instrument = number16 m at;
+  flags = byteAt m (at + 2);
+  sections = byteAt m (at + 3);
+  «first_sustain» = byteAt m (at + 4);
+  «loop_first» = byteAt m (at + 5);
+  «loop_last» = byteAt m (at + 6);
+  «second_sustain» = byteAt m (at + 7);
+  positions = eachFrom (positionShown m at (byteAt m (at + 3))) 0 32;
+  values = eachFrom (valueShown m shape version at (byteAt m (at + 3))) 0 32;
+}
+
+abbrev pub envelopeIf : List ℕ → Shape → Found → EnvelopeAnswer
+envelopeIf m shape (At b) = shownEnvelope m shape (b .version) (b .at)
+envelopeIf m shape (Refused r) = noEnvelope r
+
+-- Q1: the module's own refusal, then 18, else the envelope.
+abbrev pub envelopeAnswer : List ℕ → Shape → ℕ → EnvelopeAnswer
+envelopeAnswer m shape envelope = envelopeIf m shape (found m (thingOf shape) envelope)

@@ -1,0 +1,220 @@
+// Envelopes: how many there are, and one of them. Each query gives the module's own refusal, then 18.
+use blocks::envelope_count;
+use layout::Layout;
+use layout::Outline;
+use layout::Place;
+use numbers::byte;
+use numbers::number16;
+use numbers::signed;
+use queries::Found;
+use queries::Thing;
+use queries::find;
+use refusal::Refusal;
+ghost use mathlib.Core.Path.{_≡_};
+ghost use mathlib.Core.Bool.{Bool};
+ghost use Prim.Native.Nat.{_<_};
+ghost use lib.ListN.{length};
+ghost use Rattle.numbers.specs.Numbers.{eachFrom};
+ghost use Rattle.envelopes.specs.Shown.{thingOf, chunkOf, noCount, countAnswer, positionShown, valueOf, valueShown, noEnvelope, shownEnvelope, envelopeAnswer};
+
+// The two kinds of envelopes.
+pub enum Shape {
+    Volume,
+    Panning,
+}
+
+// How many envelopes of a kind there are.
+#[repr(C)]
+pub struct CountAnswer {
+    pub number: u64,
+    pub place: usize,
+    pub count: u16,
+}
+
+// An envelope. The values of panning are −128 to 128 in both versions; points not in use are zeros.
+#[repr(C)]
+pub struct EnvelopeAnswer {
+    pub number: u64,
+    pub place: usize,
+    pub instrument: u16,
+    pub flags: u8,
+    pub sections: u8,
+    pub first_sustain: u8,
+    pub loop_first: u8,
+    pub loop_last: u8,
+    pub second_sustain: u8,
+    pub positions: [u16; 32],
+    pub values: [i32; 32],
+}
+
+fn thing_of(shape: Shape) -> Thing
+    ensures { λ r. ⌜ r ≡ thingOf shape ⌝ }
+{
+    match shape {
+        Shape::Volume => Thing::VolumeEnvelope,
+        Shape::Panning => Thing::PanningEnvelope,
+    }
+}
+
+fn chunk_of(l: Layout, shape: Shape) -> Place
+    ensures { λ r. ⌜ r ≡ chunkOf l shape ⌝ }
+{
+    let p = l.places;
+    match shape {
+        Shape::Volume => p.venv,
+        Shape::Panning => p.penv,
+    }
+}
+
+fn no_count(r: Refusal) -> CountAnswer
+    ensures { λ a. ⌜ a ≡ noCount r ⌝ }
+{
+    CountAnswer {
+        number: r.number as u64,
+        place: r.place,
+        count: 0,
+    }
+}
+
+// How many envelopes of a kind there are.
+pub fn count(m: &[u8], shape: Shape) -> CountAnswer
+    ensures { λ r. ⌜ r ≡ countAnswer (now (m .entry)) shape ⌝ }
+{
+    match module::open(m) {
+        Outline::Found(l) => CountAnswer {
+            number: 0,
+            place: 0,
+            count: envelope_count(m, chunk_of(l, shape)),
+        },
+        Outline::Refused(r) => no_count(r),
+    }
+}
+
+// The position of a point of the envelope at a place.
+fn position(m: &[u8], at: usize, sections: u8, point: usize) -> u16
+    requires { ⌜ (at < 0x10000000000000) × (point < 32) ⌝ }
+    ensures { λ r. ⌜ r ≡ positionShown (now (m .entry)) at sections point ⌝ }
+{
+    if (sections as usize) < point {
+        return 0;
+    }
+    number16(m, at + 8 + 4 * point)
+}
+
+// A value as it is shown.
+fn value_of(shape: Shape, version: u8, v: u16) -> i32
+    ensures { λ r. ⌜ r ≡ valueOf shape version v ⌝ }
+{
+    match shape {
+        Shape::Volume => v as i32,
+        Shape::Panning => {
+            if version == 2 {
+                return 4 * (v as i32) - 128;
+            }
+            signed(v) as i32
+        }
+    }
+}
+
+// The value of a point of the envelope at a place.
+fn value(m: &[u8], shape: Shape, version: u8, at: usize, sections: u8, point: usize) -> i32
+    requires { ⌜ (at < 0x10000000000000) × (point < 32) ⌝ }
+    ensures { λ r. ⌜ r ≡ valueShown (now (m .entry)) shape version at sections point ⌝ }
+{
+    if (sections as usize) < point {
+        return 0;
+    }
+    value_of(shape, version, number16(m, at + 10 + 4 * point))
+}
+
+// Fills in the positions of all points.
+fn fill_positions(m: &[u8], at: usize, sections: u8, out: &mut [u16])
+    requires { ⌜ (at < 0x10000000000000) × (length (now out) ≡ 32) ⌝ }
+    ensures { λ r. ⌜ now (out .exit) ≡ eachFrom (positionShown (now (m .entry)) at sections) 0 32 ⌝ }
+{
+    let mut i = 0;
+    while i < out.len() {
+        out[i] = position(m, at, sections, i);
+        i = i + 1;
+    }
+}
+
+// Fills in the values of all points.
+fn fill_values(m: &[u8], shape: Shape, version: u8, at: usize, sections: u8, out: &mut [i32])
+    requires { ⌜ (at < 0x10000000000000) × (length (now out) ≡ 32) ⌝ }
+    ensures { λ r. ⌜ now (out .exit) ≡ eachFrom (valueShown (now (m .entry)) shape version at sections) 0 32 ⌝ }
+{
+    let mut i = 0;
+    while i < out.len() {
+        let v = value(m, shape, version, at, sections, i);
+        out[i] = v;
+        i = i + 1;
+    }
+}
+
+fn positions(m: &[u8], at: usize, sections: u8) -> [u16; 32]
+    requires { ⌜ at < 0x10000000000000 ⌝ }
+    ensures { λ r. ⌜ r ≡ eachFrom (positionShown (now (m .entry)) at sections) 0 32 ⌝ }
+{
+    let mut all = [0u16; 32];
+    fill_positions(m, at, sections, &mut all);
+    all
+}
+
+fn values(m: &[u8], shape: Shape, version: u8, at: usize, sections: u8) -> [i32; 32]
+    requires { ⌜ at < 0x10000000000000 ⌝ }
+    ensures { λ r. ⌜ r ≡ eachFrom (valueShown (now (m .entry)) shape version at sections) 0 32 ⌝ }
+{
+    let mut all = [0i32; 32];
+    fill_values(m, shape, version, at, sections, &mut all);
+    all
+}
+
+fn no_envelope(r: Refusal) -> EnvelopeAnswer
+    ensures { λ a. ⌜ a ≡ noEnvelope r ⌝ }
+{
+    EnvelopeAnswer {
+        number: r.number as u64,
+        place: r.place,
+        instrument: 0,
+        flags: 0,
+        sections: 0,
+        first_sustain: 0,
+        loop_first: 0,
+        loop_last: 0,
+        second_sustain: 0,
+        positions: [0; 32],
+        values: [0; 32],
+    }
+}
+
+// The envelope whose block stands at a place.
+fn envelope_at(m: &[u8], shape: Shape, version: u8, at: usize) -> EnvelopeAnswer
+    requires { ⌜ at < 0x10000000000000 ⌝ }
+    ensures { λ r. ⌜ r ≡ shownEnvelope (now (m .entry)) shape version at ⌝ }
+{
+    let sections = byte(m, at + 3);
+    EnvelopeAnswer {
+        number: 0,
+        place: 0,
+        instrument: number16(m, at),
+        flags: byte(m, at + 2),
+        sections,
+        first_sustain: byte(m, at + 4),
+        loop_first: byte(m, at + 5),
+        loop_last: byte(m, at + 6),
+        second_sustain: byte(m, at + 7),
+        positions: positions(m, at, sections),
+        values: values(m, shape, version, at, sections),
+    }
+}
+
+// An envelope, counted from 0 by its place in its chunk.
+pub fn envelope(m: &[u8], shape: Shape, envelope: usize) -> EnvelopeAnswer
+    ensures { λ r. ⌜ r ≡ envelopeAnswer (now (m .entry)) shape envelope ⌝ }
+{
+    match find(m, thing_of(shape), envelope) {
+        Found::At(b) => envelope_at(m, shape, b.version, b.at),
+        Found::Refused(r) => no_envelope(r),
+    }
+}

@@ -1,0 +1,51 @@
+-- FORMAT.md, B3, Q3 and Q8 (document 01, "Layout"): an instrument as it is shown. The answer begins with the refusal's number and
+-- place, 0 and 0 where there is none; on a refusal all else is 0.
+use Prim.Native.Nat.{ℕ, _+_}
+use mathlib.Core.List.{List}
+use lib.ListN.{replicate}
+use lib.IntN.{pos}
+use Rattle.refusal.specs.declared.Refusal.{Refusal}
+use Rattle.numbers.specs.Numbers.{number16, number32, signed16, bytesFrom}
+use Rattle.queries.specs.Finding.{found}
+use Rattle.queries.specs.declared.Found.{Found}
+use Rattle.queries.specs.declared.Found.the-variants.{At, Refused}
+use Rattle.queries.specs.declared.Thing.the-variants.{Instrument}
+use Rattle.instruments.specs.declared.InstrumentAnswer.{InstrumentAnswer}
+
+abbrev pub noInstrument : Refusal → InstrumentAnswer
+noInstrument r = record {
+  number = r .number;
+  place = r .place;
+  name = replicate 30 0;
+  sample = 0;
+  volume = 0;
+  panning = pos 0;
+  flags = 0;
+  rate = 0;
+  «loop_start» = 0;
+  «loop_length» = 0;
+}
+
+-- B3, Q8: name 30, sample 2, volume 2, rate 4, loop start 4, loop length 4, panning 2 (signed, and as stored in both versions),
+-- flags 2.
+abbrev pub shownInstrument : List ℕ → ℕ → InstrumentAnswer
+shownInstrument m at = record {
+  number = 0;
+  place = 0;
+  name = bytesFrom m at 30;
+  sample = number16 m (at + 30);
+  volume = number16 m (at + 32);
+  panning = signed16 (number16 m (at + 46));
+  flags = number16 m (at + 48);
+  rate = number32 m (at + 34);
+  «loop_start» = number32 m (at + 38);
+  «loop_length» = number32 m (at + 42);
+}
+
+abbrev pub instrumentIf : List ℕ → Found → InstrumentAnswer
+instrumentIf m (At b) = shownInstrument m (b .at)
+instrumentIf m (Refused r) = noInstrument r
+
+-- Q1: the module's own refusal, then 18, else the instrument.
+abbrev pub instrumentAnswer : List ℕ → ℕ → InstrumentAnswer
+instrumentAnswer m instrument = instrumentIf m (found m Instrument instrument)

@@ -1,0 +1,71 @@
+-- FORMAT.md, B4 and Q10 (document 01, "Layout"): a pattern as it is shown, by its rows and cells. What a stream holds, the
+-- definitions of `pattern` say.
+use Prim.Native.Nat.{ℕ}
+use mathlib.Core.List.{List}
+use lib.ListN.{length}
+use Rattle.refusal.specs.declared.Refusal.{Refusal}
+use Rattle.numbers.specs.Numbers.{number16}
+use Rattle.pattern.specs.Answers.{cellOf, unpackAnswer as streamAnswer, unpackOutput as streamOutput}
+use Rattle.pattern.specs.declared.CellAnswer.{CellAnswer}
+use Rattle.pattern.specs.declared.CellAnswer.the-variants.{Refused as CellRefused}
+use Rattle.pattern.specs.declared.Unpacking.{Unpacking}
+use Rattle.pattern.specs.declared.Unpacking.the-variants.{Unpacked, Refused as UnpackingRefused}
+use Rattle.module.specs.Streams.{packedBytes}
+use Rattle.queries.specs.Finding.{found}
+use Rattle.queries.specs.Lengths.{refusedLength, writtenLength}
+use Rattle.queries.specs.declared.Block.{Block}
+use Rattle.queries.specs.declared.Found.{Found}
+use Rattle.queries.specs.declared.Found.the-variants.{At, Refused}
+use Rattle.queries.specs.declared.LengthAnswer.{LengthAnswer}
+use Rattle.queries.specs.declared.Thing.the-variants.{Pattern}
+use Rattle.patterns.specs.declared.RowsAnswer.{RowsAnswer}
+
+abbrev pub noRows : Refusal → RowsAnswer
+noRows r = record { number = r .number; place = r .place; rows = 0 }
+
+-- B4: the rows stand first.
+abbrev pub rowsIf : List ℕ → Found → RowsAnswer
+rowsIf m (At b) = record { number = 0; place = 0; rows = number16 m (b .at) }
+rowsIf m (Refused r) = noRows r
+
+-- Q1: the module's own refusal, then 18, else the rows.
+abbrev pub rowsAnswer : List ℕ → ℕ → RowsAnswer
+rowsAnswer m pattern = rowsIf m (found m Pattern pattern)
+
+-- Q10: a cell of the pattern's packed bytes, by its rows and the module's tracks.
+abbrev pub cellIn : List ℕ → Block → ℕ → ℕ → CellAnswer
+cellIn m b row track = cellOf (packedBytes m (b .at)) (number16 m (b .at)) (b .tracks) row track
+
+abbrev pub cellIf : List ℕ → ℕ → ℕ → Found → CellAnswer
+cellIf m row track (At b) = cellIn m b row track
+cellIf m row track (Refused r) = CellRefused r
+
+abbrev pub cellAnswer : List ℕ → ℕ → ℕ → ℕ → CellAnswer
+cellAnswer m pattern row track = cellIf m row track (found m Pattern pattern)
+
+-- The answer of unpacking, as a length answer.
+abbrev pub lengthOf : Unpacking → LengthAnswer
+lengthOf (Unpacked n) = writtenLength n
+lengthOf (UnpackingRefused r) = refusedLength r
+
+-- Q10: the pattern's packed bytes, unpacked by its rows and the module's tracks.
+abbrev pub unpackIn : List ℕ → Block → ℕ → LengthAnswer
+unpackIn m b room = lengthOf (streamAnswer (packedBytes m (b .at)) (number16 m (b .at)) (b .tracks) room)
+
+abbrev pub unpackOutputIn : List ℕ → Block → List ℕ → List ℕ
+unpackOutputIn m b out = streamOutput (packedBytes m (b .at)) (number16 m (b .at)) (b .tracks) out
+
+abbrev pub unpackIf : List ℕ → ℕ → Found → LengthAnswer
+unpackIf m room (At b) = unpackIn m b room
+unpackIf m room (Refused r) = refusedLength r
+
+-- Q1: the module's own refusal, then 18, then 17.
+abbrev pub unpackAnswer : List ℕ → ℕ → ℕ → LengthAnswer
+unpackAnswer m pattern room = unpackIf m room (found m Pattern pattern)
+
+abbrev pub unpackOutputIf : List ℕ → List ℕ → Found → List ℕ
+unpackOutputIf m out (At b) = unpackOutputIn m b out
+unpackOutputIf m out (Refused r) = out
+
+abbrev pub unpackOutput : List ℕ → ℕ → List ℕ → List ℕ
+unpackOutput m pattern out = unpackOutputIf m out (found m Pattern pattern)

@@ -1,0 +1,101 @@
+// Patterns: rows, one cell, and the whole pattern unpacked. Each query gives the module's own refusal, then 18, then 17. Of the
+// packed rows only the promises of `pattern` are used.
+use numbers::number16;
+use numbers::number32;
+use numbers::part;
+use pattern::CellAnswer;
+use pattern::Unpacking;
+use queries::Block;
+use queries::Found;
+use queries::LengthAnswer;
+use queries::Thing;
+use queries::find;
+use queries::refused;
+use queries::written;
+use refusal::Refusal;
+ghost use mathlib.Core.Path.{_≡_};
+ghost use Prim.Native.Nat.{_<_};
+ghost use lib.ListN.{length};
+ghost use Rattle.module.specs.Streams.{packedBytes};
+ghost use Rattle.patterns.specs.Shown.{noRows, rowsAnswer, cellIn, cellAnswer, unpackIn, unpackOutputIn, unpackAnswer, unpackOutput};
+
+// How many rows a pattern has.
+#[repr(C)]
+pub struct RowsAnswer {
+    pub number: u64,
+    pub place: usize,
+    pub rows: u16,
+}
+
+fn no_rows(r: Refusal) -> RowsAnswer
+    ensures { λ a. ⌜ a ≡ noRows r ⌝ }
+{
+    RowsAnswer {
+        number: r.number as u64,
+        place: r.place,
+        rows: 0,
+    }
+}
+
+// The rows of a pattern, counted from 0.
+pub fn rows(m: &[u8], pattern: usize) -> RowsAnswer
+    ensures { λ r. ⌜ r ≡ rowsAnswer (now (m .entry)) pattern ⌝ }
+{
+    match find(m, Thing::Pattern, pattern) {
+        Found::At(b) => RowsAnswer {
+            number: 0,
+            place: 0,
+            rows: number16(m, b.at),
+        },
+        Found::Refused(r) => no_rows(r),
+    }
+}
+
+// The packed bytes of the pattern whose block stands at a place.
+fn packed(m: &[u8], at: usize) -> &[u8]
+    requires { ⌜ at < 0x10000000000000 ⌝ }
+    ensures { λ r. ⌜ now r ≡ packedBytes (now (m .entry)) at ⌝ }
+{
+    part(m, at + 6, number32(m, at + 2) as usize)
+}
+
+// A cell of the pattern of a block.
+fn cell_in(m: &[u8], b: Block, row: usize, track: usize) -> CellAnswer
+    requires { ⌜ b .at < 0x10000000000000 ⌝ }
+    ensures { λ r. ⌜ r ≡ cellIn (now (m .entry)) b row track ⌝ }
+{
+    let rows = number16(m, b.at) as usize;
+    pattern::cell(packed(m, b.at), rows, b.tracks as usize, row, track)
+}
+
+// A cell of a pattern: pattern and row counted from 0, track from 1.
+pub fn cell(m: &[u8], pattern: usize, row: usize, track: usize) -> CellAnswer
+    ensures { λ r. ⌜ r ≡ cellAnswer (now (m .entry)) pattern row track ⌝ }
+{
+    match find(m, Thing::Pattern, pattern) {
+        Found::At(b) => cell_in(m, b, row, track),
+        Found::Refused(r) => CellAnswer::Refused(r),
+    }
+}
+
+// Unpacks the pattern of a block.
+fn unpack_in(m: &[u8], b: Block, out: &mut [u8]) -> LengthAnswer
+    requires { ⌜ b .at < 0x10000000000000 ⌝ }
+    ensures { λ r. ⌜ (r ≡ unpackIn (now (m .entry)) b (length (now (out .entry)))) × (now (out .exit) ≡ unpackOutputIn (now (m .entry)) b (now (out .entry))) ⌝ }
+{
+    let rows = number16(m, b.at) as usize;
+    match pattern::unpack(packed(m, b.at), rows, b.tracks as usize, out) {
+        Unpacking::Unpacked(n) => written(n),
+        Unpacking::Refused(r) => refused(r),
+    }
+}
+
+// Unpacks a pattern, row by row, tracks ascending, six bytes for each cell.
+pub fn unpack(m: &[u8], pattern: usize, out: &mut [u8]) -> LengthAnswer
+    ensures { λ r. ⌜ (r ≡ unpackAnswer (now (m .entry)) pattern (length (now (out .entry)))) × (now (out .exit) ≡ unpackOutput (now (m .entry)) pattern (now (out .entry))) ⌝ }
+{
+    match find(m, Thing::Pattern, pattern) {
+        Found::At(b) => unpack_in(m, b, out),
+        Found::Refused(r) => refused(r),
+    }
+}

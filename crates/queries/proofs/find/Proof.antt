@@ -1,0 +1,13 @@
+use borrow.Author.Needs.{needs}
+use Rattle.queries.proofs.find.Statement.{statement}
+use Rattle.queries.proofs.find.Tie as tie
+
+returns : tie.Need-returns
+returns c = (simp (← c .before .before .before .before .«open» .ensures, c .before .before .l .given .1, c .find-in .ensures .0), c .find-in .ensures .1)
+
+returns-2 : tie.Need-returns-2
+returns-2 c = (simp (← c .before .before .before .«open» .ensures, c .before .r .given .1), search needs)
+
+pub find-spec : {M : Type 1} → statement M
+find-spec =
+    tie.close (tie.spec (λ c κs. search needs) (λ c. search needs) (λ c κs. search needs) (λ c. search needs) returns returns-2)

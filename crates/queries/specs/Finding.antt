@@ -1,0 +1,85 @@
+-- FORMAT.md, Q1 and Q2 (document 01, "Refusal numbers and their order"): where what a query asks for stands.
+use Prim.Native.Nat.{ℕ, _-_}
+use mathlib.Core.List.{List}
+use mathlib.Core.Bool.{Bool, cond, _&&_}
+use lib.Dec.{leb, ltb}
+use Rattle.refusal.specs.Numbers.{refusal}
+use Rattle.refusal.specs.declared.Cause.the-variants.{NotThere}
+use Rattle.layout.specs.declared.Layout.{Layout}
+use Rattle.layout.specs.declared.Outline.{Outline}
+use Rattle.layout.specs.declared.Outline.the-variants.{Found as Opened, Refused as OpeningRefused}
+use Rattle.layout.specs.declared.Place.{Place}
+use Rattle.blocks.specs.Sizes.{blockAt, envelopeCount}
+use Rattle.blocks.specs.declared.Kind.{Kind}
+use Rattle.blocks.specs.declared.Kind.the-variants.{Song as SongKind, Instrument as InstrumentKind, Pattern as PatternKind, Sample as SampleKind, Envelope as EnvelopeKind}
+use Rattle.module.specs.Verdicts.{opened}
+use Rattle.queries.specs.declared.Thing.{Thing}
+use Rattle.queries.specs.declared.Thing.the-variants.{Song, Instrument, Pattern, Sample, VolumeEnvelope, PanningEnvelope}
+use Rattle.queries.specs.declared.Block.{Block}
+use Rattle.queries.specs.declared.Found.{Found}
+use Rattle.queries.specs.declared.Found.the-variants.{At, Refused}
+
+-- The kind of its block.
+abbrev pub kindOf : Thing → Kind
+kindOf Song = SongKind
+kindOf Instrument = InstrumentKind
+kindOf Pattern = PatternKind
+kindOf Sample = SampleKind
+kindOf VolumeEnvelope = EnvelopeKind
+kindOf PanningEnvelope = EnvelopeKind
+
+-- The chunk that holds it.
+abbrev pub chunkOf : Layout → Thing → Place
+chunkOf l Song = l .places .song
+chunkOf l Instrument = l .places .inst
+chunkOf l Pattern = l .places .patt
+chunkOf l Sample = l .places .smpl
+chunkOf l VolumeEnvelope = l .places .venv
+chunkOf l PanningEnvelope = l .places .penv
+
+-- How many there are: INFO's number, or the count of the envelopes' chunk; none where that chunk is missing.
+abbrev pub countOf : List ℕ → Layout → Thing → ℕ
+countOf m l Song = l .songs
+countOf m l Instrument = l .instruments
+countOf m l Pattern = l .patterns
+countOf m l Sample = l .samples
+countOf m l VolumeEnvelope = envelopeCount m (l .places .venv)
+countOf m l PanningEnvelope = envelopeCount m (l .places .penv)
+
+-- Q2: instruments and samples are counted from 1, all else from 0.
+abbrev pub firstOf : Thing → ℕ
+firstOf Song = 0
+firstOf Instrument = 1
+firstOf Pattern = 0
+firstOf Sample = 1
+firstOf VolumeEnvelope = 0
+firstOf PanningEnvelope = 0
+
+-- Whether there is one of this number.
+abbrev pub there : List ℕ → Layout → Thing → ℕ → Bool
+there m l thing number = leb (firstOf thing) number && ltb (number - firstOf thing) (countOf m l thing)
+
+-- Its block, with the version and the tracks by which it is shown.
+abbrev pub blockOf : List ℕ → Layout → Thing → ℕ → Block
+blockOf m l thing number = record {
+  at = blockAt m (kindOf thing) (chunkOf l thing) (number - firstOf thing);
+  version = l .version;
+  tracks = l .tracks;
+}
+
+-- Q1: 18.
+abbrev pub foundIn : List ℕ → Layout → Thing → ℕ → Found
+foundIn m l thing number = cond (there m l thing number) (At (blockOf m l thing number)) (Refused (refusal NotThere 0))
+
+abbrev pub foundIf : List ℕ → Thing → ℕ → Outline → Found
+foundIf m thing number (Opened l) = foundIn m l thing number
+foundIf m thing number (OpeningRefused r) = Refused r
+
+-- Q1: the module's own refusal, then 18.
+abbrev pub found : List ℕ → Thing → ℕ → Found
+found m thing number = foundIf m thing number (opened m)
+
+-- The place of what was found, 0 where nothing was.
+abbrev pub placeIn : Found → ℕ
+placeIn (At b) = b .at
+placeIn (Refused r) = 0

@@ -1,0 +1,164 @@
+// What all queries about a module have in common: where what is asked for stands, a name, and the answer of a query that fills a
+// lent output.
+use blocks::Kind;
+use blocks::block_at;
+use blocks::envelope_count;
+use layout::Layout;
+use layout::Outline;
+use layout::Place;
+use numbers::copy;
+use refusal::Cause;
+use refusal::Refusal;
+use refusal::refuse;
+ghost use mathlib.Core.Path.{_≡_};
+ghost use Prim.Native.Nat.{_<_};
+ghost use Rattle.numbers.specs.Numbers.{bytesFrom};
+ghost use Rattle.queries.specs.Finding.{kindOf, chunkOf, countOf, firstOf, foundIn, found, placeIn};
+ghost use Rattle.queries.specs.Lengths.{refusedLength, writtenLength};
+
+// What a query asks for.
+pub enum Thing {
+    Song,
+    Instrument,
+    Pattern,
+    Sample,
+    VolumeEnvelope,
+    PanningEnvelope,
+}
+
+// Where a block of an accepted module stands, and the version and tracks by which it is shown.
+pub struct Block {
+    pub at: usize,
+    pub version: u8,
+    pub tracks: u16,
+}
+
+// The block that was asked for, or a refusal.
+pub enum Found {
+    At(Block),
+    Refused(Refusal),
+}
+
+// The answer of a query that fills a lent output: the refusal's number (0: none) and place, and the length written (0 on a
+// refusal).
+#[repr(C)]
+pub struct LengthAnswer {
+    pub number: u64,
+    pub place: usize,
+    pub length: usize,
+}
+
+fn kind_of(thing: Thing) -> Kind
+    ensures { λ r. ⌜ r ≡ kindOf thing ⌝ }
+{
+    match thing {
+        Thing::Song => Kind::Song,
+        Thing::Instrument => Kind::Instrument,
+        Thing::Pattern => Kind::Pattern,
+        Thing::Sample => Kind::Sample,
+        Thing::VolumeEnvelope => Kind::Envelope,
+        Thing::PanningEnvelope => Kind::Envelope,
+    }
+}
+
+fn chunk_of(l: Layout, thing: Thing) -> Place
+    ensures { λ r. ⌜ r ≡ chunkOf l thing ⌝ }
+{
+    let p = l.places;
+    match thing {
+        Thing::Song => p.song,
+        Thing::Instrument => p.inst,
+        Thing::Pattern => p.patt,
+        Thing::Sample => p.smpl,
+        Thing::VolumeEnvelope => p.venv,
+        Thing::PanningEnvelope => p.penv,
+    }
+}
+
+// How many of these the module has.
+fn count_of(m: &[u8], l: Layout, thing: Thing) -> u16
+    ensures { λ r. ⌜ r ≡ countOf (now (m .entry)) l thing ⌝ }
+{
+    match thing {
+        Thing::Song => l.songs,
+        Thing::Instrument => l.instruments,
+        Thing::Pattern => l.patterns,
+        Thing::Sample => l.samples,
+        Thing::VolumeEnvelope => envelope_count(m, l.places.venv),
+        Thing::PanningEnvelope => envelope_count(m, l.places.penv),
+    }
+}
+
+// The number of the first: 1 for instruments and samples, 0 for all else.
+fn first_of(thing: Thing) -> usize
+    ensures { λ r. ⌜ r ≡ firstOf thing ⌝ }
+{
+    match thing {
+        Thing::Song => 0,
+        Thing::Instrument => 1,
+        Thing::Pattern => 0,
+        Thing::Sample => 1,
+        Thing::VolumeEnvelope => 0,
+        Thing::PanningEnvelope => 0,
+    }
+}
+
+// Where the block of a number stands: 18.
+fn find_in(m: &[u8], l: Layout, thing: Thing, number: usize) -> Found
+    ensures { λ r. ⌜ (r ≡ foundIn (now (m .entry)) l thing number) × (placeIn r < 0x10000000000000) ⌝ }
+{
+    let first = first_of(thing);
+    if number < first {
+        return Found::Refused(refuse(Cause::NotThere, 0));
+    }
+    let index = number - first;
+    if (count_of(m, l, thing) as usize) <= index {
+        return Found::Refused(refuse(Cause::NotThere, 0));
+    }
+    Found::At(Block {
+        at: block_at(m, kind_of(thing), chunk_of(l, thing), index as u16),
+        version: l.version,
+        tracks: l.tracks,
+    })
+}
+
+// Where the block of a number stands in a module: the module's own refusal, then 18.
+pub fn find(m: &[u8], thing: Thing, number: usize) -> Found
+    ensures { λ r. ⌜ (r ≡ found (now (m .entry)) thing number) × (placeIn r < 0x10000000000000) ⌝ }
+{
+    match module::open(m) {
+        Outline::Found(l) => find_in(m, l, thing, number),
+        Outline::Refused(r) => Found::Refused(r),
+    }
+}
+
+// A name of 44 bytes.
+pub fn name44(m: &[u8], at: usize) -> [u8; 44]
+    ensures { λ r. ⌜ r ≡ bytesFrom (now (m .entry)) at 44 ⌝ }
+{
+    let mut name = [0u8; 44];
+    copy(m, at, &mut name);
+    name
+}
+
+// The answer of a query that refuses to fill an output.
+pub fn refused(r: Refusal) -> LengthAnswer
+    ensures { λ a. ⌜ a ≡ refusedLength r ⌝ }
+{
+    LengthAnswer {
+        number: r.number as u64,
+        place: r.place,
+        length: 0,
+    }
+}
+
+// The answer of a query that has filled so much of an output.
+pub fn written(length: usize) -> LengthAnswer
+    ensures { λ r. ⌜ r ≡ writtenLength length ⌝ }
+{
+    LengthAnswer {
+        number: 0,
+        place: 0,
+        length,
+    }
+}

@@ -1,0 +1,136 @@
+-- FORMAT.md, B5 and Q11 to Q13 (document 01, "Layout"): a sample and its frames as they are shown. Each answer begins with the
+-- refusal's number and place, 0 and 0 where there is none; on a refusal all else is 0.
+use Prim.Native.Nat.{ℕ, _+_, _-_, _*_, _/_, _%_}
+use mathlib.Core.List.{List, [], _∷_, _++_}
+use mathlib.Core.Bool.{cond}
+use lib.ListN.{length}
+use lib.Dec.{eqb, ltb}
+use lib.IntN.{ℤ, pos, negsuc, _*ℤ_}
+use Rattle.refusal.specs.Numbers.{refusal}
+use Rattle.refusal.specs.declared.Cause.the-variants.{NotThere}
+use Rattle.refusal.specs.declared.Refusal.{Refusal}
+use Rattle.numbers.specs.Numbers.{byteAt, number16, number32, partOf, signedBy, signed16, eachFrom}
+use Rattle.blocks.specs.Sizes.{widthOf}
+use Rattle.queries.specs.Finding.{found}
+use Rattle.queries.specs.Lengths.{refusedLength, lengthIf, outputIf}
+use Rattle.queries.specs.declared.Found.{Found}
+use Rattle.queries.specs.declared.Found.the-variants.{At, Refused}
+use Rattle.queries.specs.declared.LengthAnswer.{LengthAnswer}
+use Rattle.queries.specs.declared.Thing.the-variants.{Sample}
+use Rattle.samples.specs.declared.SampleAnswer.{SampleAnswer}
+use Rattle.samples.specs.declared.FramesAnswer.{FramesAnswer}
+use Rattle.samples.specs.declared.FrameAnswer.{FrameAnswer}
+
+-- B5: the bytes of a frame, by the flags; and how many frames there are.
+abbrev pub frameBytes : List ℕ → ℕ → ℕ
+frameBytes m at = widthOf (number32 m at)
+
+abbrev pub frameCount : List ℕ → ℕ → ℕ
+frameCount m at = number32 m (at + 4)
+
+abbrev pub noSample : Refusal → SampleAnswer
+noSample r = record { number = r .number; place = r .place; width = 0; frames = 0 }
+
+-- Q11: the bits of a frame, and how many frames there are.
+abbrev pub shownSample : List ℕ → ℕ → SampleAnswer
+shownSample m at = record { number = 0; place = 0; width = 8 * frameBytes m at; frames = frameCount m at }
+
+abbrev pub sampleIf : List ℕ → Found → SampleAnswer
+sampleIf m (At b) = shownSample m (b .at)
+sampleIf m (Refused r) = noSample r
+
+-- Q1: the module's own refusal, then 18, else the sample.
+abbrev pub sampleAnswer : List ℕ → ℕ → SampleAnswer
+sampleAnswer m sample = sampleIf m (found m Sample sample)
+
+abbrev pub noFrames : Refusal → FramesAnswer
+noFrames r = record { number = r .number; place = r .place; offset = 0; length = 0 }
+
+-- B5, Q12: the frames stand behind flags and number.
+abbrev pub shownFrames : List ℕ → ℕ → FramesAnswer
+shownFrames m at = record { number = 0; place = 0; offset = at + 8; length = frameCount m at * frameBytes m at }
+
+abbrev pub framesIf : List ℕ → Found → FramesAnswer
+framesIf m (At b) = shownFrames m (b .at)
+framesIf m (Refused r) = noFrames r
+
+abbrev pub framesAnswer : List ℕ → ℕ → FramesAnswer
+framesAnswer m sample = framesIf m (found m Sample sample)
+
+-- Q12: the frames themselves, as the part of the module that they are; empty on a refusal.
+abbrev pub framesPart : List ℕ → ℕ → List ℕ
+framesPart m sample = partOf m (framesAnswer m sample .offset) (framesAnswer m sample .length)
+
+-- A whole number divided by 65,536 and rounded down.
+abbrev pub dividedDown : ℤ → ℤ
+dividedDown (pos n) = pos (n / 65536)
+dividedDown (negsuc n) = negsuc (n / 65536)
+
+-- Q13: the frame at a place at 16 bits, by its bytes: 8-bit times 256; 16-bit as it is; 32-bit divided by 65,536 and rounded down.
+-- Frames are signed. (Source document 002 calls them unsigned; 000 stands.)
+abbrev pub frame16 : List ℕ → ℕ → ℕ → ℤ
+frame16 m bytes at =
+    cond (eqb bytes 1) (signedBy 128 (byteAt m at) *ℤ pos 256)
+    (cond (eqb bytes 2) (signed16 (number16 m at))
+    (dividedDown (signedBy 2147483648 (number32 m at))))
+
+-- Q13: a frame of the sample at a place, counted from 0.
+abbrev pub frameOf : List ℕ → ℕ → ℕ → ℤ
+frameOf m at frame = frame16 m (frameBytes m at) (at + 8 + frame * frameBytes m at)
+
+abbrev pub noFrame : Refusal → FrameAnswer
+noFrame r = record { number = r .number; place = r .place; frame = pos 0 }
+
+-- 18 past the last frame.
+abbrev pub frameIn : List ℕ → ℕ → ℕ → FrameAnswer
+frameIn m at frame =
+    cond (ltb frame (frameCount m at))
+    (record { number = 0; place = 0; frame = frameOf m at frame })
+    (noFrame (refusal NotThere 0))
+
+abbrev pub frameIf : List ℕ → ℕ → Found → FrameAnswer
+frameIf m frame (At b) = frameIn m (b .at) frame
+frameIf m frame (Refused r) = noFrame r
+
+-- Q1: the module's own refusal, then 18, else the frame.
+abbrev pub frameAnswer : List ℕ → ℕ → ℕ → FrameAnswer
+frameAnswer m sample frame = frameIf m frame (found m Sample sample)
+
+-- M1: a signed number as 2 bytes.
+abbrev pub unsigned16 : ℤ → ℕ
+unsigned16 (pos n) = n
+unsigned16 (negsuc n) = 65535 - n
+
+abbrev pub bytes16 : ℤ → List ℕ
+bytes16 z = unsigned16 z / 256 ∷ unsigned16 z % 256 ∷ []
+
+abbrev pub joined : List (List ℕ) → List ℕ
+joined [] = []
+joined (xs ∷ xss) = xs ++ joined xss
+
+-- Q13: all frames of the sample at a place at 16 bits, 2 bytes each.
+abbrev pub allFrames : List ℕ → ℕ → List ℕ
+allFrames m at = joined (eachFrom (λ frame. bytes16 (frameOf m at frame)) 0 (frameCount m at))
+
+-- 17, else the length: 2 bytes for each frame.
+abbrev pub allFramesIn : List ℕ → ℕ → ℕ → LengthAnswer
+allFramesIn m at room = lengthIf (2 * frameCount m at) room
+
+abbrev pub allFramesOutputIn : List ℕ → ℕ → List ℕ → List ℕ
+allFramesOutputIn m at out = outputIf (allFramesIn m at (length out)) (allFrames m at) out
+
+abbrev pub allFramesIf : List ℕ → ℕ → Found → LengthAnswer
+allFramesIf m room (At b) = allFramesIn m (b .at) room
+allFramesIf m room (Refused r) = refusedLength r
+
+-- Q1: the module's own refusal, then 18, then 17.
+abbrev pub allFramesAnswer : List ℕ → ℕ → ℕ → LengthAnswer
+allFramesAnswer m sample room = allFramesIf m room (found m Sample sample)
+
+abbrev pub allFramesOutputIf : List ℕ → List ℕ → Found → List ℕ
+allFramesOutputIf m out (At b) = allFramesOutputIn m (b .at) out
+allFramesOutputIf m out (Refused r) = out
+
+-- F8: what the output then holds.
+abbrev pub allFramesOutput : List ℕ → ℕ → List ℕ → List ℕ
+allFramesOutput m sample out = allFramesOutputIf m out (found m Sample sample)

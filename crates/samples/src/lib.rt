@@ -1,0 +1,223 @@
+// Samples: width and frames, the frames as the part of the module that they are, one frame and all frames at 16 bits. Each query
+// gives the module's own refusal, then 18, then 17.
+use blocks::width;
+use numbers::byte;
+use numbers::number16;
+use numbers::number32;
+use numbers::part;
+use numbers::signed;
+use queries::Found;
+use queries::LengthAnswer;
+use queries::Thing;
+use queries::find;
+use queries::refused;
+use queries::written;
+use refusal::Cause;
+use refusal::Refusal;
+use refusal::refuse;
+ghost use mathlib.Core.Path.{_≡_};
+ghost use Prim.Native.Nat.{_*_, _<_};
+ghost use lib.ListN.{length};
+ghost use Rattle.samples.specs.Shown.{frameBytes, noSample, shownSample, sampleAnswer, noFrames, shownFrames, framesAnswer, framesPart, noFrame, frameIn, frameAnswer, allFramesIn, allFramesOutputIn, allFramesAnswer, allFramesOutput};
+ghost use Rattle.samples.specs.Steps.{stored16, frames16};
+
+// A sample: the bits of a frame (8, 16 or 32), and how many frames there are.
+#[repr(C)]
+pub struct SampleAnswer {
+    pub number: u64,
+    pub place: usize,
+    pub width: u8,
+    pub frames: u32,
+}
+
+// Where the frames of a sample stand in the module, and how many bytes they have.
+#[repr(C)]
+pub struct FramesAnswer {
+    pub number: u64,
+    pub place: usize,
+    pub offset: usize,
+    pub length: usize,
+}
+
+// A frame at 16 bits.
+#[repr(C)]
+pub struct FrameAnswer {
+    pub number: u64,
+    pub place: usize,
+    pub frame: i16,
+}
+
+// How many bytes a frame of the sample at a place has: 1, 2 or 4 in an accepted module.
+fn frame_bytes(m: &[u8], at: usize) -> usize
+    ensures { λ r. ⌜ (r ≡ frameBytes (now (m .entry)) at) × (r < 5) ⌝ }
+{
+    width(number32(m, at))
+}
+
+fn no_sample(r: Refusal) -> SampleAnswer
+    ensures { λ a. ⌜ a ≡ noSample r ⌝ }
+{
+    SampleAnswer {
+        number: r.number as u64,
+        place: r.place,
+        width: 0,
+        frames: 0,
+    }
+}
+
+// The sample whose block stands at a place.
+fn sample_at(m: &[u8], at: usize) -> SampleAnswer
+    requires { ⌜ at < 0x10000000000000 ⌝ }
+    ensures { λ r. ⌜ r ≡ shownSample (now (m .entry)) at ⌝ }
+{
+    SampleAnswer {
+        number: 0,
+        place: 0,
+        width: (8 * frame_bytes(m, at)) as u8,
+        frames: number32(m, at + 4),
+    }
+}
+
+// A sample, counted from 1.
+pub fn sample(m: &[u8], sample: usize) -> SampleAnswer
+    ensures { λ r. ⌜ r ≡ sampleAnswer (now (m .entry)) sample ⌝ }
+{
+    match find(m, Thing::Sample, sample) {
+        Found::At(b) => sample_at(m, b.at),
+        Found::Refused(r) => no_sample(r),
+    }
+}
+
+fn no_frames(r: Refusal) -> FramesAnswer
+    ensures { λ a. ⌜ a ≡ noFrames r ⌝ }
+{
+    FramesAnswer {
+        number: r.number as u64,
+        place: r.place,
+        offset: 0,
+        length: 0,
+    }
+}
+
+// The frames of the sample whose block stands at a place.
+fn frames_at(m: &[u8], at: usize) -> FramesAnswer
+    requires { ⌜ at < 0x10000000000000 ⌝ }
+    ensures { λ r. ⌜ r ≡ shownFrames (now (m .entry)) at ⌝ }
+{
+    FramesAnswer {
+        number: 0,
+        place: 0,
+        offset: at + 8,
+        length: (number32(m, at + 4) as usize) * frame_bytes(m, at),
+    }
+}
+
+// The refusal of `frames` on the same inputs, or none; and where the frames stand in the module.
+pub fn frames_place(m: &[u8], sample: usize) -> FramesAnswer
+    ensures { λ r. ⌜ r ≡ framesAnswer (now (m .entry)) sample ⌝ }
+{
+    match find(m, Thing::Sample, sample) {
+        Found::At(b) => frames_at(m, b.at),
+        Found::Refused(r) => no_frames(r),
+    }
+}
+
+// The frames of a sample, counted from 1: the part of the module that they are. It is empty where `frames_place` gives a refusal.
+pub fn frames(m: &[u8], sample: usize) -> &[u8]
+    ensures { λ r. ⌜ now r ≡ framesPart (now (m .entry)) sample ⌝ }
+{
+    let a = frames_place(m, sample);
+    part(m, a.offset, a.length)
+}
+
+// A frame of so many bytes at 16 bits, as it would be stored: 8-bit times 256, 32-bit divided by 65,536 and rounded down.
+fn at_16_bits(m: &[u8], bytes: usize, at: usize) -> u16
+    requires { ⌜ at < 0x1000000000000000 ⌝ }
+    ensures { λ r. ⌜ r ≡ stored16 (now (m .entry)) bytes at ⌝ }
+{
+    if bytes == 1 {
+        return (byte(m, at) as u16) * 256;
+    }
+    if bytes == 2 {
+        return number16(m, at);
+    }
+    (number32(m, at) / 65536) as u16
+}
+
+fn no_frame(r: Refusal) -> FrameAnswer
+    ensures { λ a. ⌜ a ≡ noFrame r ⌝ }
+{
+    FrameAnswer {
+        number: r.number as u64,
+        place: r.place,
+        frame: 0,
+    }
+}
+
+// A frame of the sample whose block stands at a place: 18.
+fn frame_in(m: &[u8], at: usize, frame: usize) -> FrameAnswer
+    requires { ⌜ at < 0x10000000000000 ⌝ }
+    ensures { λ r. ⌜ r ≡ frameIn (now (m .entry)) at frame ⌝ }
+{
+    if (number32(m, at + 4) as usize) <= frame {
+        return no_frame(refuse(Cause::NotThere, 0));
+    }
+    let bytes = frame_bytes(m, at);
+    FrameAnswer {
+        number: 0,
+        place: 0,
+        frame: signed(at_16_bits(m, bytes, at + 8 + frame * bytes)),
+    }
+}
+
+// A frame of a sample at 16 bits: the sample counted from 1, the frame from 0.
+pub fn frame(m: &[u8], sample: usize, frame: usize) -> FrameAnswer
+    ensures { λ r. ⌜ r ≡ frameAnswer (now (m .entry)) sample frame ⌝ }
+{
+    match find(m, Thing::Sample, sample) {
+        Found::At(b) => frame_in(m, b.at, frame),
+        Found::Refused(r) => no_frame(r),
+    }
+}
+
+// Writes so many frames at 16 bits, from a place on: each has so many bytes.
+fn write_frames(m: &[u8], bytes: usize, start: usize, frames: usize, out: &mut [u8])
+    requires { ⌜ (start < 0x20000000000000) × ((bytes < 5) × ((frames < 0x100000000) × (length (now out) ≡ 2 * frames))) ⌝ }
+    ensures { λ r. ⌜ now (out .exit) ≡ frames16 (now (m .entry)) bytes start frames ⌝ }
+{
+    let mut at = start;
+    let mut i = 0;
+    let mut left = frames;
+    while 0 < left {
+        let v = at_16_bits(m, bytes, at);
+        out[i] = (v / 256) as u8;
+        out[i + 1] = (v % 256) as u8;
+        at = at + bytes;
+        i = i + 2;
+        left = left - 1;
+    }
+}
+
+// Writes all frames of the sample whose block stands at a place: 17.
+fn all_frames_in(m: &[u8], at: usize, out: &mut [u8]) -> LengthAnswer
+    requires { ⌜ at < 0x10000000000000 ⌝ }
+    ensures { λ r. ⌜ (r ≡ allFramesIn (now (m .entry)) at (length (now (out .entry)))) × (now (out .exit) ≡ allFramesOutputIn (now (m .entry)) at (now (out .entry))) ⌝ }
+{
+    let frames = number32(m, at + 4) as usize;
+    let needed = 2 * frames;
+    if out.len() < needed {
+        return refused(refuse(Cause::Room, needed));
+    }
+    write_frames(m, frame_bytes(m, at), at + 8, frames, &mut out[..needed]);
+    written(needed)
+}
+
+// Writes all frames of a sample at 16 bits, two bytes for each.
+pub fn all_frames(m: &[u8], sample: usize, out: &mut [u8]) -> LengthAnswer
+    ensures { λ r. ⌜ (r ≡ allFramesAnswer (now (m .entry)) sample (length (now (out .entry)))) × (now (out .exit) ≡ allFramesOutput (now (m .entry)) sample (now (out .entry))) ⌝ }
+{
+    match find(m, Thing::Sample, sample) {
+        Found::At(b) => all_frames_in(m, b.at, out),
+        Found::Refused(r) => refused(r),
+    }
+}

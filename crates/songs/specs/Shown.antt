@@ -1,0 +1,78 @@
+-- FORMAT.md, B2, Q3 and Q7 (document 01, "Layout"): a song as it is shown. Each answer begins with the refusal's number and place,
+-- 0 and 0 where there is none; on a refusal all else is 0.
+use Prim.Native.Nat.{ℕ, _+_, _*_}
+use mathlib.Core.List.{List}
+use mathlib.Core.Bool.{cond}
+use lib.ListN.{length, replicate}
+use lib.Dec.{ltb}
+use Rattle.refusal.specs.Numbers.{refusal}
+use Rattle.refusal.specs.declared.Cause.the-variants.{NotThere}
+use Rattle.refusal.specs.declared.Refusal.{Refusal}
+use Rattle.numbers.specs.Numbers.{number16, bytesFrom}
+use Rattle.queries.specs.Finding.{found}
+use Rattle.queries.specs.Lengths.{refusedLength, lengthIf, outputIf}
+use Rattle.queries.specs.declared.Found.{Found}
+use Rattle.queries.specs.declared.Found.the-variants.{At, Refused}
+use Rattle.queries.specs.declared.LengthAnswer.{LengthAnswer}
+use Rattle.queries.specs.declared.Thing.the-variants.{Song}
+use Rattle.songs.specs.declared.SongAnswer.{SongAnswer}
+use Rattle.songs.specs.declared.EntryAnswer.{EntryAnswer}
+
+abbrev pub noSong : Refusal → SongAnswer
+noSong r = record { number = r .number; place = r .place; name = replicate 44 0; length = 0 }
+
+-- B2, Q7: name 44, length 2.
+abbrev pub shownSong : List ℕ → ℕ → SongAnswer
+shownSong m at = record { number = 0; place = 0; name = bytesFrom m at 44; length = number16 m (at + 44) }
+
+abbrev pub songIf : List ℕ → Found → SongAnswer
+songIf m (At b) = shownSong m (b .at)
+songIf m (Refused r) = noSong r
+
+-- Q1: the module's own refusal, then 18, else the song.
+abbrev pub songAnswer : List ℕ → ℕ → SongAnswer
+songAnswer m song = songIf m (found m Song song)
+
+abbrev pub noEntry : Refusal → EntryAnswer
+noEntry r = record { number = r .number; place = r .place; pattern = 0 }
+
+-- B2, Q7: the entries stand behind the length, 2 bytes each; 18 past the last.
+abbrev pub entryIn : List ℕ → ℕ → ℕ → EntryAnswer
+entryIn m at entry =
+    cond (ltb entry (number16 m (at + 44)))
+    (record { number = 0; place = 0; pattern = number16 m (at + 46 + 2 * entry) })
+    (noEntry (refusal NotThere 0))
+
+abbrev pub entryIf : List ℕ → ℕ → Found → EntryAnswer
+entryIf m entry (At b) = entryIn m (b .at) entry
+entryIf m entry (Refused r) = noEntry r
+
+abbrev pub entryAnswer : List ℕ → ℕ → ℕ → EntryAnswer
+entryAnswer m song entry = entryIf m entry (found m Song song)
+
+-- Q7: a playlist as it is stored: so many entries of 2 bytes.
+abbrev pub playlistBytes : List ℕ → ℕ → List ℕ
+playlistBytes m at = bytesFrom m (at + 46) (2 * number16 m (at + 44))
+
+-- 17, else the length of the playlist.
+abbrev pub playlistIn : List ℕ → ℕ → ℕ → LengthAnswer
+playlistIn m at room = lengthIf (2 * number16 m (at + 44)) room
+
+abbrev pub playlistOutputIn : List ℕ → ℕ → List ℕ → List ℕ
+playlistOutputIn m at out = outputIf (playlistIn m at (length out)) (playlistBytes m at) out
+
+abbrev pub playlistIf : List ℕ → ℕ → Found → LengthAnswer
+playlistIf m room (At b) = playlistIn m (b .at) room
+playlistIf m room (Refused r) = refusedLength r
+
+-- Q1: the module's own refusal, then 18, then 17.
+abbrev pub playlistAnswer : List ℕ → ℕ → ℕ → LengthAnswer
+playlistAnswer m song room = playlistIf m room (found m Song song)
+
+abbrev pub playlistOutputIf : List ℕ → List ℕ → Found → List ℕ
+playlistOutputIf m out (At b) = playlistOutputIn m (b .at) out
+playlistOutputIf m out (Refused r) = out
+
+-- F8: what the output then holds.
+abbrev pub playlistOutput : List ℕ → ℕ → List ℕ → List ℕ
+playlistOutput m song out = playlistOutputIf m out (found m Song song)

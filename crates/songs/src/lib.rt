@@ -1,0 +1,126 @@
+// Songs: name and length, one entry of a playlist, and a whole playlist. Each query gives the module's own refusal, then 18, then 17.
+use numbers::copy;
+use numbers::number16;
+use queries::Found;
+use queries::LengthAnswer;
+use queries::Thing;
+use queries::find;
+use queries::name44;
+use queries::refused;
+use queries::written;
+use refusal::Cause;
+use refusal::Refusal;
+use refusal::refuse;
+ghost use mathlib.Core.Path.{_≡_};
+ghost use Prim.Native.Nat.{_<_};
+ghost use lib.ListN.{length};
+ghost use Rattle.songs.specs.Shown.{noSong, shownSong, songAnswer, noEntry, entryIn, entryAnswer, playlistIn, playlistBytes, playlistAnswer, playlistOutput, playlistOutputIn};
+
+// A song: its name, and the number of entries of its playlist.
+#[repr(C)]
+pub struct SongAnswer {
+    pub number: u64,
+    pub place: usize,
+    pub name: [u8; 44],
+    pub length: u16,
+}
+
+// An entry of a playlist: the number of a pattern.
+#[repr(C)]
+pub struct EntryAnswer {
+    pub number: u64,
+    pub place: usize,
+    pub pattern: u16,
+}
+
+fn no_song(r: Refusal) -> SongAnswer
+    ensures { λ a. ⌜ a ≡ noSong r ⌝ }
+{
+    SongAnswer {
+        number: r.number as u64,
+        place: r.place,
+        name: [0; 44],
+        length: 0,
+    }
+}
+
+// The song whose block stands at a place.
+fn song_at(m: &[u8], at: usize) -> SongAnswer
+    requires { ⌜ at < 0x10000000000000 ⌝ }
+    ensures { λ r. ⌜ r ≡ shownSong (now (m .entry)) at ⌝ }
+{
+    SongAnswer {
+        number: 0,
+        place: 0,
+        name: name44(m, at),
+        length: number16(m, at + 44),
+    }
+}
+
+// A song, counted from 0.
+pub fn song(m: &[u8], song: usize) -> SongAnswer
+    ensures { λ r. ⌜ r ≡ songAnswer (now (m .entry)) song ⌝ }
+{
+    match find(m, Thing::Song, song) {
+        Found::At(b) => song_at(m, b.at),
+        Found::Refused(r) => no_song(r),
+    }
+}
+
+fn no_entry(r: Refusal) -> EntryAnswer
+    ensures { λ a. ⌜ a ≡ noEntry r ⌝ }
+{
+    EntryAnswer {
+        number: r.number as u64,
+        place: r.place,
+        pattern: 0,
+    }
+}
+
+// An entry of the song whose block stands at a place: 18.
+fn entry_in(m: &[u8], at: usize, entry: usize) -> EntryAnswer
+    requires { ⌜ at < 0x10000000000000 ⌝ }
+    ensures { λ r. ⌜ r ≡ entryIn (now (m .entry)) at entry ⌝ }
+{
+    if (number16(m, at + 44) as usize) <= entry {
+        return no_entry(refuse(Cause::NotThere, 0));
+    }
+    EntryAnswer {
+        number: 0,
+        place: 0,
+        pattern: number16(m, at + 46 + 2 * entry),
+    }
+}
+
+// An entry of a song's playlist, both counted from 0.
+pub fn entry(m: &[u8], song: usize, entry: usize) -> EntryAnswer
+    ensures { λ r. ⌜ r ≡ entryAnswer (now (m .entry)) song entry ⌝ }
+{
+    match find(m, Thing::Song, song) {
+        Found::At(b) => entry_in(m, b.at, entry),
+        Found::Refused(r) => no_entry(r),
+    }
+}
+
+// Writes the playlist of the song whose block stands at a place: 17.
+fn write_playlist(m: &[u8], at: usize, out: &mut [u8]) -> LengthAnswer
+    requires { ⌜ at < 0x10000000000000 ⌝ }
+    ensures { λ r. ⌜ (r ≡ playlistIn (now (m .entry)) at (length (now (out .entry)))) × (now (out .exit) ≡ playlistOutputIn (now (m .entry)) at (now (out .entry))) ⌝ }
+{
+    let needed = 2 * (number16(m, at + 44) as usize);
+    if out.len() < needed {
+        return refused(refuse(Cause::Room, needed));
+    }
+    copy(m, at + 46, &mut out[..needed]);
+    written(needed)
+}
+
+// Writes a song's playlist, two bytes for each entry.
+pub fn playlist(m: &[u8], song: usize, out: &mut [u8]) -> LengthAnswer
+    ensures { λ r. ⌜ (r ≡ playlistAnswer (now (m .entry)) song (length (now (out .entry)))) × (now (out .exit) ≡ playlistOutput (now (m .entry)) song (now (out .entry))) ⌝ }
+{
+    match find(m, Thing::Song, song) {
+        Found::At(b) => write_playlist(m, b.at, out),
+        Found::Refused(r) => refused(r),
+    }
+}
