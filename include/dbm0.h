@@ -1,9 +1,11 @@
 /*
- * dbm0.h: DBM0 modules. The check of a whole module.
+ * dbm0.h: DBM0 modules. The check of a whole module, and every query about
+ * one: version, name, INFO, songs, instruments, envelopes, patterns, samples.
  *
  * Link with libdbm0.a (x86-64, System V calling convention). The calls of
  * dbm0_pattern.h, which this header includes, are in libpattern.a: a program
- * that wants both links both. libdbm0.a needs nothing of a C library.
+ * that wants both links both. libdbm0.a needs memset of a C library, or one
+ * of the program's own.
  *
  * A module is a header of 8 bytes ("DBM0", version, revision, two reserved
  * bytes) and chunks: an identifier of four letters, the length of the data in
@@ -13,10 +15,21 @@
  * What holds for every call:
  *
  * - Every pair of a pointer and a length is memory that the caller lends for
- *   the time of the call. A pointer may be NULL where its length is 0. Nothing
- *   is written.
- * - The bytes may be any: a call ends on every input, reads nothing outside
- *   it, and no sum or product wraps.
+ *   the time of the call. A pointer may be NULL where its length is 0. The
+ *   module and an output must not overlap. Only an output is written.
+ * - The bytes and numbers may be any: a call ends on every input, reads
+ *   nothing outside it, and no sum or product wraps.
+ * - Every answer begins with number (0: no refusal) and place. On a refusal
+ *   all else in the answer is 0, and no byte of an output is changed.
+ * - A query gives, the first that applies: the module's own refusal (1 to 15,
+ *   as dbm0_check_module), then 18, then 17 where an output is lent. Instruments,
+ *   samples and tracks are counted from 1, all else from 0.
+ * - A query that fills an output tells the needed length as the place of 17:
+ *   call it with an output of length 0 to ask for it. On success, bytes behind
+ *   the written length stay as they were.
+ * - Every query checks the module first; that is most of its time. What comes
+ *   on top of the check is said at each. Work on many entries, cells or frames
+ *   goes through the calls that fill an output.
  * - No call keeps any state, allocates, or waits. They may run on any thread
  *   and at the same time.
  * - A call needs less than 1,024 bytes of stack.
@@ -35,7 +48,7 @@ extern "C" {
 #endif
 
 /* The version of this interface: major x 10000 + minor x 100 + patch. */
-#define DBM0_VERSION 10000
+#define DBM0_VERSION 10100
 
 /* The most bytes that a module may have. */
 #define DBM0_MODULE_MOST_BYTES 16777216
@@ -96,6 +109,13 @@ extern "C" {
 /* A packed stream is broken. The place is the pattern's block. */
 #define DBM0_MODULE_STREAM_BROKEN 15
 
+/* A query's output is shorter than needed. The place is the needed length. */
+#define DBM0_MODULE_ROOM 17
+
+/* There is no such song, entry, instrument, envelope, pattern, sample, frame,
+ * row or track. The place is 0. */
+#define DBM0_MODULE_NOT_THERE 18
+
 /*
  * number: 0 where there is no refusal, else one of the numbers above.
  * place:  what the number says, and 0 where there is no refusal.
@@ -120,6 +140,259 @@ typedef struct {
  */
 dbm0_module_answer dbm0_check_module(
     const uint8_t *module, size_t module_length);
+
+/* Version and revision, as stored (two decimal digits of four bits each). */
+typedef struct {
+    uint64_t number;
+    uint64_t place;
+    uint8_t version;
+    uint8_t revision;
+} dbm0_version_answer;
+
+/* Refusals: the module's own. Time beside the check: constant. */
+dbm0_version_answer dbm0_version(
+    const uint8_t *module, size_t module_length);
+
+/* The name's bytes as stored; zeros where the module has none. They need not
+ * end in a zero. */
+typedef struct {
+    uint64_t number;
+    uint64_t place;
+    uint8_t name[44];
+} dbm0_name_answer;
+
+/* Refusals: the module's own. Time beside the check: constant. */
+dbm0_name_answer dbm0_name(
+    const uint8_t *module, size_t module_length);
+
+/* How many instruments, samples, songs and patterns there are, and how many
+ * tracks a pattern has. */
+typedef struct {
+    uint64_t number;
+    uint64_t place;
+    uint16_t instruments;
+    uint16_t samples;
+    uint16_t songs;
+    uint16_t patterns;
+    uint16_t tracks;
+} dbm0_info_answer;
+
+/* Refusals: the module's own. Time beside the check: constant. */
+dbm0_info_answer dbm0_info(
+    const uint8_t *module, size_t module_length);
+
+/* A song's name, and how many entries its playlist has. */
+typedef struct {
+    uint64_t number;
+    uint64_t place;
+    uint8_t name[44];
+    uint16_t length;
+} dbm0_song_answer;
+
+/* A song, counted from 0. Refusals: the module's own, 18. Time beside the
+ * check: grows with the songs before it. */
+dbm0_song_answer dbm0_song(
+    const uint8_t *module, size_t module_length, size_t song);
+
+/* An entry of a playlist: the number of a pattern. */
+typedef struct {
+    uint64_t number;
+    uint64_t place;
+    uint16_t pattern;
+} dbm0_entry_answer;
+
+/* An entry of a song, both counted from 0. Refusals: the module's own, 18 (no
+ * such song or entry). Time beside the check: grows with the songs before
+ * it. */
+dbm0_entry_answer dbm0_entry(
+    const uint8_t *module, size_t module_length, size_t song, size_t entry);
+
+/* The answer of a query that fills an output: how many bytes it has written,
+ * 0 on a refusal. */
+typedef struct {
+    uint64_t number;
+    uint64_t place;
+    uint64_t length;
+} dbm0_length_answer;
+
+/* Writes all entries of a song, 2 bytes each and big-endian. Refusals: the
+ * module's own, 18, 17. Time beside the check: grows with the songs before it
+ * and the entries. */
+dbm0_length_answer dbm0_playlist(
+    const uint8_t *module, size_t module_length, size_t song,
+    uint8_t *out, size_t out_length);
+
+/* The two bits of an instrument's flags. Where both are set, the loop is
+ * forward. Without a loop length there is no loop. */
+#define DBM0_LOOP_FORWARD 1
+#define DBM0_LOOP_PING_PONG 2
+
+/* An instrument, all fields as stored. sample: counted from 1, 0 is none.
+ * volume: 0 to 64. panning: -128 to 128 in both versions. */
+typedef struct {
+    uint64_t number;
+    uint64_t place;
+    uint8_t name[30];
+    uint16_t sample;
+    uint16_t volume;
+    int16_t panning;
+    uint16_t flags;
+    uint32_t rate;
+    uint32_t loop_start;
+    uint32_t loop_length;
+} dbm0_instrument_answer;
+
+/* An instrument, counted from 1. Refusals: the module's own, 18. Time beside
+ * the check: grows with the instruments before it. */
+dbm0_instrument_answer dbm0_instrument(
+    const uint8_t *module, size_t module_length, size_t instrument);
+
+/* How many envelopes there are; 0 where their chunk is missing. */
+typedef struct {
+    uint64_t number;
+    uint64_t place;
+    uint16_t count;
+} dbm0_count_answer;
+
+/* Refusals: the module's own. Time beside the check: constant. */
+dbm0_count_answer dbm0_volume_envelopes(
+    const uint8_t *module, size_t module_length);
+dbm0_count_answer dbm0_panning_envelopes(
+    const uint8_t *module, size_t module_length);
+
+/* The bits of an envelope's flags. */
+#define DBM0_ENVELOPE_ON 1
+#define DBM0_ENVELOPE_FIRST_SUSTAIN 2
+#define DBM0_ENVELOPE_LOOP 4
+#define DBM0_ENVELOPE_SECOND_SUSTAIN 8
+
+/* An envelope. instrument: counted from 1. The points in use are sections + 1;
+ * the others are zeros. values: 0 to 64 of volume; of panning -128 to 128 (a
+ * stored v of version 2 is shown as 4v - 128). The rest is as stored: the
+ * points at which the first sustain, the loop and the second sustain stand
+ * count only where their flag is set. */
+typedef struct {
+    uint64_t number;
+    uint64_t place;
+    uint16_t instrument;
+    uint8_t flags;
+    uint8_t sections;
+    uint8_t first_sustain;
+    uint8_t loop_first;
+    uint8_t loop_last;
+    uint8_t second_sustain;
+    uint16_t positions[32];
+    int32_t values[32];
+} dbm0_envelope_answer;
+
+/* An envelope, counted from 0 by its place in the chunk VENV or PENV.
+ * Refusals: the module's own, 18. Time beside the check: grows with the
+ * envelopes before it. */
+dbm0_envelope_answer dbm0_volume_envelope(
+    const uint8_t *module, size_t module_length, size_t envelope);
+dbm0_envelope_answer dbm0_panning_envelope(
+    const uint8_t *module, size_t module_length, size_t envelope);
+
+/* How many rows a pattern has. Its tracks are those of dbm0_info. */
+typedef struct {
+    uint64_t number;
+    uint64_t place;
+    uint16_t rows;
+} dbm0_rows_answer;
+
+/* A pattern, counted from 0. Refusals: the module's own, 18. Time beside the
+ * check: grows with the patterns before it. */
+dbm0_rows_answer dbm0_rows(
+    const uint8_t *module, size_t module_length, size_t pattern);
+
+/* The kinds of a note. */
+#define DBM0_NOTE_NONE 0
+#define DBM0_NOTE_KEY_OFF 1
+#define DBM0_NOTE_PITCH 2
+#define DBM0_NOTE_UNKNOWN 3
+
+/* A cell. kind: one of the four above. octave (1 to 8) and semitone (0 to 11,
+ * from C): of a pitch, else 0. unknown: the byte of an unknown note, else
+ * 0. */
+typedef struct {
+    uint64_t number;
+    uint64_t place;
+    uint8_t kind;
+    uint8_t octave;
+    uint8_t semitone;
+    uint8_t unknown;
+    uint8_t instrument;
+    uint8_t command1;
+    uint8_t parameter1;
+    uint8_t command2;
+    uint8_t parameter2;
+} dbm0_cell_answer;
+
+/* A cell: pattern and row counted from 0, track from 1. Refusals: the module's
+ * own, 18 (no such pattern, row or track). Time beside the check: grows with
+ * the patterns before it and the packed bytes of its own. */
+dbm0_cell_answer dbm0_cell(
+    const uint8_t *module, size_t module_length,
+    size_t pattern, size_t row, size_t track);
+
+/* Writes all cells of a pattern: row by row, tracks ascending, six bytes each
+ * (note, instrument, command 1, parameter 1, command 2, parameter 2).
+ * Refusals: the module's own, 18, 17. Time beside the check: grows with the
+ * patterns before it, the packed bytes of its own and the bytes written. */
+dbm0_length_answer dbm0_cells(
+    const uint8_t *module, size_t module_length, size_t pattern,
+    uint8_t *out, size_t out_length);
+
+/* A sample. width: the bits of a frame, 8, 16 or 32. */
+typedef struct {
+    uint64_t number;
+    uint64_t place;
+    uint8_t width;
+    uint32_t frames;
+} dbm0_sample_answer;
+
+/* A sample, counted from 1. Refusals: the module's own, 18. Time beside the
+ * check: grows with the samples before it. */
+dbm0_sample_answer dbm0_sample(
+    const uint8_t *module, size_t module_length, size_t sample);
+
+/* The frames of a sample, as the part of the module that they are: module +
+ * offset, length bytes (frames times the bytes of a frame), signed and
+ * big-endian. */
+typedef struct {
+    uint64_t number;
+    uint64_t place;
+    uint64_t offset;
+    uint64_t length;
+} dbm0_frames_answer;
+
+/* The frames of a sample, counted from 1. Nothing is copied. Refusals: the
+ * module's own, 18. Time beside the check: grows with the samples before
+ * it. */
+dbm0_frames_answer dbm0_frames(
+    const uint8_t *module, size_t module_length, size_t sample);
+
+/* A frame at 16 bits: 8-bit times 256, 32-bit divided by 65,536 and rounded
+ * down. */
+typedef struct {
+    uint64_t number;
+    uint64_t place;
+    int16_t frame;
+} dbm0_frame_answer;
+
+/* A frame: the sample counted from 1, the frame from 0. Refusals: the
+ * module's own, 18 (no such sample or frame). Time beside the check: grows
+ * with the samples before it. */
+dbm0_frame_answer dbm0_frame(
+    const uint8_t *module, size_t module_length,
+    size_t sample, size_t frame);
+
+/* Writes all frames of a sample at 16 bits, 2 bytes each, signed and
+ * big-endian. Refusals: the module's own, 18, 17. Time beside the check:
+ * grows with the samples before it and the frames. */
+dbm0_length_answer dbm0_all_frames(
+    const uint8_t *module, size_t module_length, size_t sample,
+    uint8_t *out, size_t out_length);
 
 #ifdef __cplusplus
 }

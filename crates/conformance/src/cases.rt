@@ -5,12 +5,12 @@ use crate::text::fill;
 use crate::text::print_bytes;
 use crate::text::print_numbers;
 use crate::text::within;
+use cells::Cell;
+use cells::Note;
 use listing_text::Listing;
-use pattern::CellAnswer;
-use pattern::Packing;
-use pattern::Unpacking;
-use pattern::cells::Cell;
-use pattern::cells::Note;
+use packed_rows::CellAnswer;
+use packed_rows::Packing;
+use packed_rows::Unpacking;
 use refusal::Refusal;
 use refusal::Verdict;
 ghost use Prim.Native.Nat.{_≤_};
@@ -122,25 +122,25 @@ fn note_numbers(note: Note) -> NoteNumbers {
 }
 
 fn print_check(stream: &[u8], rows: usize, tracks: usize, line: &mut [u8]) {
-    let a = of_verdict(pattern::check(stream, rows, tracks));
+    let a = of_verdict(packed_rows::check(stream, rows, tracks));
     print_numbers(b"check", &[a.number, a.place], line);
 }
 
 fn print_unpack(stream: &[u8], rows: usize, tracks: usize, out: &mut [u8], line: &mut [u8]) {
     fill(out);
-    let a = of_unpacking(pattern::unpack(stream, rows, tracks, out));
+    let a = of_unpacking(packed_rows::unpack(stream, rows, tracks, out));
     print_bytes(b"unpack", &[a.number, a.place, a.length], out, line);
 }
 
 fn print_repack(stream: &[u8], rows: usize, tracks: usize, out: &mut [u8], line: &mut [u8]) {
     fill(out);
-    let a = of_packing(pattern::repack(stream, rows, tracks, out));
+    let a = of_packing(packed_rows::repack(stream, rows, tracks, out));
     print_bytes(b"repack", &[a.number, a.place, a.length], out, line);
 }
 
 fn print_pack(cells: &[u8], rows: usize, tracks: usize, out: &mut [u8], line: &mut [u8]) {
     fill(out);
-    let a = of_packing(pattern::pack(cells, rows, tracks, out));
+    let a = of_packing(packed_rows::pack(cells, rows, tracks, out));
     print_bytes(b"pack", &[a.number, a.place, a.length], out, line);
 }
 
@@ -152,7 +152,7 @@ fn print_cell(
     track: usize,
     line: &mut [u8],
 ) {
-    let answer = pattern::cell(stream, rows, tracks, row, track);
+    let answer = packed_rows::cell(stream, rows, tracks, row, track);
     let a = of_cell(answer);
     let c = found(answer);
     let note = c.note;
@@ -188,7 +188,7 @@ fn print_stream(
 }
 
 fn print_shown(cell: [u8; 6], line: &mut [u8]) {
-    let c = pattern::shown(cell);
+    let c = cells::shown(cell);
     let note = c.note;
     let p = note_numbers(note);
     let numbers = [

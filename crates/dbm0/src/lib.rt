@@ -1,17 +1,69 @@
-// The C entry points of the module reader.
+// The C entry points of the module reader: the check of a module and every query about it. An answer begins with the refusal's number
+// (0: none) and place.
+use cells::Cell;
+use cells::Note;
+use envelopes::CountAnswer;
+use envelopes::EnvelopeAnswer;
+use envelopes::EnvelopeKind;
+use instruments::InstrumentAnswer;
+use packed_rows::CellAnswer;
+use patterns::RowsAnswer;
+use queries::LengthAnswer;
+use refusal::Refusal;
 use refusal::Verdict;
+use samples::FrameAnswer;
+use samples::FramesAnswer;
+use samples::SampleAnswer;
+use songs::EntryAnswer;
+use songs::SongAnswer;
+use summary::InfoAnswer;
+use summary::NameAnswer;
+use summary::VersionAnswer;
 ghost use mathlib.Core.Path.{_≡_};
+ghost use lib.ListN.{length};
 ghost use Rattle.module.specs.Verdicts.{moduleVerdict};
-ghost use Rattle.dbm0.specs.Answers.{told, toldModule};
+ghost use Rattle.summary.specs.Shown.{versionAnswer, nameAnswer, infoAnswer};
+ghost use Rattle.songs.specs.Shown.{songAnswer, entryAnswer, playlistAnswer, playlistOutput};
+ghost use Rattle.instruments.specs.Shown.{instrumentAnswer};
+ghost use Rattle.envelopes.specs.Shown.{countAnswer, envelopeAnswer};
+ghost use Rattle.envelopes.specs.declared.EnvelopeKind.the-variants.{Volume, Panning};
+ghost use Rattle.patterns.specs.Shown.{rowsAnswer, cellAnswer, unpackAnswer, unpackOutput};
+ghost use Rattle.samples.specs.Shown.{sampleAnswer, framesAnswer, frameAnswer, allFramesAnswer, allFramesOutput};
+ghost use Rattle.dbm0.specs.Answers.{told, toldModule, noteNumbers, noCell, foundCell, toldCell};
 
-// An answer for C: the refusal's number (0: none) and place.
+// The answer of the check.
 #[repr(C)]
 pub struct ModuleAnswer {
     pub number: u64,
     pub place: usize,
 }
 
-// An answer for C: every one is made here.
+// A note in numbers: its kind (0 none, 1 key off, 2 pitch, 3 unknown), octave and semitone of a pitch, and the byte of an unknown one;
+// what a kind does not have is 0.
+pub struct NoteNumbers {
+    pub kind: u8,
+    pub octave: u8,
+    pub semitone: u8,
+    pub unknown: u8,
+}
+
+// A cell.
+#[repr(C)]
+pub struct PatternCell {
+    pub number: u64,
+    pub place: usize,
+    pub kind: u8,
+    pub octave: u8,
+    pub semitone: u8,
+    pub unknown: u8,
+    pub instrument: u8,
+    pub command1: u8,
+    pub parameter1: u8,
+    pub command2: u8,
+    pub parameter2: u8,
+}
+
+// An answer for C: every one of the check is made here.
 fn answer(number: u8, place: usize) -> ModuleAnswer
     ensures { λ r. ⌜ r ≡ told number place ⌝ }
 {
@@ -30,4 +82,220 @@ pub extern "C" fn dbm0_check_module(m: &[u8]) -> ModuleAnswer
         Verdict::Accepted => answer(0, 0),
         Verdict::Refused(r) => answer(r.number, r.place),
     }
+}
+
+// Version and revision.
+#[no_mangle]
+pub extern "C" fn dbm0_version(m: &[u8]) -> VersionAnswer
+    ensures { λ r. ⌜ r ≡ versionAnswer (now (m .entry)) ⌝ }
+{
+    summary::version(m)
+}
+
+// The module's name.
+#[no_mangle]
+pub extern "C" fn dbm0_name(m: &[u8]) -> NameAnswer
+    ensures { λ r. ⌜ r ≡ nameAnswer (now (m .entry)) ⌝ }
+{
+    summary::name(m)
+}
+
+// INFO's numbers.
+#[no_mangle]
+pub extern "C" fn dbm0_info(m: &[u8]) -> InfoAnswer
+    ensures { λ r. ⌜ r ≡ infoAnswer (now (m .entry)) ⌝ }
+{
+    summary::info(m)
+}
+
+// A song.
+#[no_mangle]
+pub extern "C" fn dbm0_song(m: &[u8], song: usize) -> SongAnswer
+    ensures { λ r. ⌜ r ≡ songAnswer (now (m .entry)) song ⌝ }
+{
+    songs::song(m, song)
+}
+
+// An entry of a song's playlist.
+#[no_mangle]
+pub extern "C" fn dbm0_entry(m: &[u8], song: usize, entry: usize) -> EntryAnswer
+    ensures { λ r. ⌜ r ≡ entryAnswer (now (m .entry)) song entry ⌝ }
+{
+    songs::entry(m, song, entry)
+}
+
+// A song's playlist.
+#[no_mangle]
+pub extern "C" fn dbm0_playlist(m: &[u8], song: usize, out: &mut [u8]) -> LengthAnswer
+    ensures { λ r. ⌜ (r ≡ playlistAnswer (now (m .entry)) song (length (now (out .entry)))) × (now (out .exit) ≡ playlistOutput (now (m .entry)) song (now (out .entry))) ⌝ }
+{
+    songs::playlist(m, song, out)
+}
+
+// An instrument.
+#[no_mangle]
+pub extern "C" fn dbm0_instrument(m: &[u8], instrument: usize) -> InstrumentAnswer
+    ensures { λ r. ⌜ r ≡ instrumentAnswer (now (m .entry)) instrument ⌝ }
+{
+    instruments::instrument(m, instrument)
+}
+
+// How many volume envelopes there are.
+#[no_mangle]
+pub extern "C" fn dbm0_volume_envelopes(m: &[u8]) -> CountAnswer
+    ensures { λ r. ⌜ r ≡ countAnswer (now (m .entry)) Volume ⌝ }
+{
+    envelopes::count(m, EnvelopeKind::Volume)
+}
+
+// How many panning envelopes there are.
+#[no_mangle]
+pub extern "C" fn dbm0_panning_envelopes(m: &[u8]) -> CountAnswer
+    ensures { λ r. ⌜ r ≡ countAnswer (now (m .entry)) Panning ⌝ }
+{
+    envelopes::count(m, EnvelopeKind::Panning)
+}
+
+// A volume envelope.
+#[no_mangle]
+pub extern "C" fn dbm0_volume_envelope(m: &[u8], envelope: usize) -> EnvelopeAnswer
+    ensures { λ r. ⌜ r ≡ envelopeAnswer (now (m .entry)) Volume envelope ⌝ }
+{
+    envelopes::envelope(m, EnvelopeKind::Volume, envelope)
+}
+
+// A panning envelope.
+#[no_mangle]
+pub extern "C" fn dbm0_panning_envelope(m: &[u8], envelope: usize) -> EnvelopeAnswer
+    ensures { λ r. ⌜ r ≡ envelopeAnswer (now (m .entry)) Panning envelope ⌝ }
+{
+    envelopes::envelope(m, EnvelopeKind::Panning, envelope)
+}
+
+// The rows of a pattern.
+#[no_mangle]
+pub extern "C" fn dbm0_rows(m: &[u8], pattern: usize) -> RowsAnswer
+    ensures { λ r. ⌜ r ≡ rowsAnswer (now (m .entry)) pattern ⌝ }
+{
+    patterns::rows(m, pattern)
+}
+
+fn note_numbers(note: Note) -> NoteNumbers
+    ensures { λ r. ⌜ r ≡ noteNumbers note ⌝ }
+{
+    match note {
+        Note::None => NoteNumbers {
+            kind: 0,
+            octave: 0,
+            semitone: 0,
+            unknown: 0,
+        },
+        Note::KeyOff => NoteNumbers {
+            kind: 1,
+            octave: 0,
+            semitone: 0,
+            unknown: 0,
+        },
+        Note::Pitch { octave, semitone } => NoteNumbers {
+            kind: 2,
+            octave,
+            semitone,
+            unknown: 0,
+        },
+        Note::Unknown(byte) => NoteNumbers {
+            kind: 3,
+            octave: 0,
+            semitone: 0,
+            unknown: byte,
+        },
+    }
+}
+
+fn no_cell(r: Refusal) -> PatternCell
+    ensures { λ a. ⌜ a ≡ noCell r ⌝ }
+{
+    PatternCell {
+        number: r.number as u64,
+        place: r.place,
+        kind: 0,
+        octave: 0,
+        semitone: 0,
+        unknown: 0,
+        instrument: 0,
+        command1: 0,
+        parameter1: 0,
+        command2: 0,
+        parameter2: 0,
+    }
+}
+
+fn shown_cell(c: Cell) -> PatternCell
+    ensures { λ r. ⌜ r ≡ foundCell c ⌝ }
+{
+    let stored = c.note;
+    let note = note_numbers(stored);
+    PatternCell {
+        number: 0,
+        place: 0,
+        kind: note.kind,
+        octave: note.octave,
+        semitone: note.semitone,
+        unknown: note.unknown,
+        instrument: c.instrument,
+        command1: c.command1,
+        parameter1: c.parameter1,
+        command2: c.command2,
+        parameter2: c.parameter2,
+    }
+}
+
+// A cell of a pattern.
+#[no_mangle]
+pub extern "C" fn dbm0_cell(m: &[u8], pattern: usize, row: usize, track: usize) -> PatternCell
+    ensures { λ r. ⌜ r ≡ toldCell (cellAnswer (now (m .entry)) pattern row track) ⌝ }
+{
+    match patterns::cell(m, pattern, row, track) {
+        CellAnswer::Found(c) => shown_cell(c),
+        CellAnswer::Refused(r) => no_cell(r),
+    }
+}
+
+// All cells of a pattern.
+#[no_mangle]
+pub extern "C" fn dbm0_cells(m: &[u8], pattern: usize, out: &mut [u8]) -> LengthAnswer
+    ensures { λ r. ⌜ (r ≡ unpackAnswer (now (m .entry)) pattern (length (now (out .entry)))) × (now (out .exit) ≡ unpackOutput (now (m .entry)) pattern (now (out .entry))) ⌝ }
+{
+    patterns::unpack(m, pattern, out)
+}
+
+// A sample.
+#[no_mangle]
+pub extern "C" fn dbm0_sample(m: &[u8], sample: usize) -> SampleAnswer
+    ensures { λ r. ⌜ r ≡ sampleAnswer (now (m .entry)) sample ⌝ }
+{
+    samples::sample(m, sample)
+}
+
+// Where the frames of a sample stand in the module.
+#[no_mangle]
+pub extern "C" fn dbm0_frames(m: &[u8], sample: usize) -> FramesAnswer
+    ensures { λ r. ⌜ r ≡ framesAnswer (now (m .entry)) sample ⌝ }
+{
+    samples::frames_place(m, sample)
+}
+
+// A frame of a sample at 16 bits.
+#[no_mangle]
+pub extern "C" fn dbm0_frame(m: &[u8], sample: usize, frame: usize) -> FrameAnswer
+    ensures { λ r. ⌜ r ≡ frameAnswer (now (m .entry)) sample frame ⌝ }
+{
+    samples::frame(m, sample, frame)
+}
+
+// All frames of a sample at 16 bits.
+#[no_mangle]
+pub extern "C" fn dbm0_all_frames(m: &[u8], sample: usize, out: &mut [u8]) -> LengthAnswer
+    ensures { λ r. ⌜ (r ≡ allFramesAnswer (now (m .entry)) sample (length (now (out .entry)))) × (now (out .exit) ≡ allFramesOutput (now (m .entry)) sample (now (out .entry))) ⌝ }
+{
+    samples::all_frames(m, sample, out)
 }

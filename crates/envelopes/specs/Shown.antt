@@ -19,42 +19,42 @@ use Rattle.queries.specs.declared.Found.{Found}
 use Rattle.queries.specs.declared.Found.the-variants.{At, Refused}
 use Rattle.queries.specs.declared.Thing.{Thing}
 use Rattle.queries.specs.declared.Thing.the-variants.{VolumeEnvelope, PanningEnvelope}
-use Rattle.envelopes.specs.declared.Shape.{Shape}
-use Rattle.envelopes.specs.declared.Shape.the-variants.{Volume, Panning}
+use Rattle.envelopes.specs.declared.EnvelopeKind.{EnvelopeKind}
+use Rattle.envelopes.specs.declared.EnvelopeKind.the-variants.{Volume, Panning}
 use Rattle.envelopes.specs.declared.CountAnswer.{CountAnswer}
 use Rattle.envelopes.specs.declared.EnvelopeAnswer.{EnvelopeAnswer}
 
 -- The envelopes of VENV are of volume, those of PENV of panning.
-abbrev pub thingOf : Shape → Thing
+abbrev pub thingOf : EnvelopeKind → Thing
 thingOf Volume = VolumeEnvelope
 thingOf Panning = PanningEnvelope
 
-abbrev pub chunkOf : Layout → Shape → Place
+abbrev pub chunkOf : Layout → EnvelopeKind → Place
 chunkOf l Volume = l .places .venv
 chunkOf l Panning = l .places .penv
 
 abbrev pub noCount : Refusal → CountAnswer
 noCount r = record { number = r .number; place = r .place; count = 0 }
 
-abbrev pub countIf : List ℕ → Shape → Outline → CountAnswer
-countIf m shape (Opened l) = record { number = 0; place = 0; count = envelopeCount m (chunkOf l shape) }
-countIf m shape (OpeningRefused r) = noCount r
+abbrev pub countIf : List ℕ → EnvelopeKind → Outline → CountAnswer
+countIf m kind (Opened l) = record { number = 0; place = 0; count = envelopeCount m (chunkOf l kind) }
+countIf m kind (OpeningRefused r) = noCount r
 
 -- Q9: how many envelopes there are: the count of their chunk, and none where it is missing.
-abbrev pub countAnswer : List ℕ → Shape → CountAnswer
-countAnswer m shape = countIf m shape (opened m)
+abbrev pub countAnswer : List ℕ → EnvelopeKind → CountAnswer
+countAnswer m kind = countIf m kind (opened m)
 
 -- Q9: the points in use are sections + 1, so the last of them has the number of the sections; the others are shown as zeros.
 abbrev pub positionShown : List ℕ → ℕ → ℕ → ℕ → ℕ
 positionShown m at sections point = cond (leb point sections) (number16 m (at + 8 + 4 * point)) 0
 
 -- Q9: a value of volume as stored; a value of panning is signed, and in version 2 a stored v is shown as 4v − 128.
-abbrev pub valueOf : Shape → ℕ → ℕ → ℤ
+abbrev pub valueOf : EnvelopeKind → ℕ → ℕ → ℤ
 valueOf Volume version v = pos v
 valueOf Panning version v = cond (eqb version 2) (pos (4 * v) -ℤ pos 128) (signed16 v)
 
-abbrev pub valueShown : List ℕ → Shape → ℕ → ℕ → ℕ → ℕ → ℤ
-valueShown m shape version at sections point = cond (leb point sections) (valueOf shape version (number16 m (at + 10 + 4 * point))) (pos 0)
+abbrev pub valueShown : List ℕ → EnvelopeKind → ℕ → ℕ → ℕ → ℕ → ℤ
+valueShown m kind version at sections point = cond (leb point sections) (valueOf kind version (number16 m (at + 10 + 4 * point))) (pos 0)
 
 abbrev pub noEnvelope : Refusal → EnvelopeAnswer
 noEnvelope r = record {
@@ -72,8 +72,8 @@ noEnvelope r = record {
 }
 
 -- B6: instrument 2, flags 1, sections 1, S1, L1, L2, S2, then 32 points of position 2 and value 2.
-abbrev pub shownEnvelope : List ℕ → Shape → ℕ → ℕ → EnvelopeAnswer
-shownEnvelope m shape version at = record {
+abbrev pub shownEnvelope : List ℕ → EnvelopeKind → ℕ → ℕ → EnvelopeAnswer
+shownEnvelope m kind version at = record {
   number = 0;
   place = 0;
   instrument = number16 m at;
@@ -84,13 +84,13 @@ shownEnvelope m shape version at = record {
   «loop_last» = byteAt m (at + 6);
   «second_sustain» = byteAt m (at + 7);
   positions = eachFrom (positionShown m at (byteAt m (at + 3))) 0 32;
-  values = eachFrom (valueShown m shape version at (byteAt m (at + 3))) 0 32;
+  values = eachFrom (valueShown m kind version at (byteAt m (at + 3))) 0 32;
 }
 
-abbrev pub envelopeIf : List ℕ → Shape → Found → EnvelopeAnswer
-envelopeIf m shape (At b) = shownEnvelope m shape (b .version) (b .at)
-envelopeIf m shape (Refused r) = noEnvelope r
+abbrev pub envelopeIf : List ℕ → EnvelopeKind → Found → EnvelopeAnswer
+envelopeIf m kind (At b) = shownEnvelope m kind (b .version) (b .at)
+envelopeIf m kind (Refused r) = noEnvelope r
 
 -- Q1: the module's own refusal, then 18, else the envelope.
-abbrev pub envelopeAnswer : List ℕ → Shape → ℕ → EnvelopeAnswer
-envelopeAnswer m shape envelope = envelopeIf m shape (found m (thingOf shape) envelope)
+abbrev pub envelopeAnswer : List ℕ → EnvelopeKind → ℕ → EnvelopeAnswer
+envelopeAnswer m kind envelope = envelopeIf m kind (found m (thingOf kind) envelope)

@@ -18,7 +18,7 @@ ghost use Rattle.numbers.specs.Numbers.{eachFrom};
 ghost use Rattle.envelopes.specs.Shown.{thingOf, chunkOf, noCount, countAnswer, positionShown, valueOf, valueShown, noEnvelope, shownEnvelope, envelopeAnswer};
 
 // The two kinds of envelopes.
-pub enum Shape {
+pub enum EnvelopeKind {
     Volume,
     Panning,
 }
@@ -47,22 +47,22 @@ pub struct EnvelopeAnswer {
     pub values: [i32; 32],
 }
 
-fn thing_of(shape: Shape) -> Thing
-    ensures { λ r. ⌜ r ≡ thingOf shape ⌝ }
+fn thing_of(kind: EnvelopeKind) -> Thing
+    ensures { λ r. ⌜ r ≡ thingOf kind ⌝ }
 {
-    match shape {
-        Shape::Volume => Thing::VolumeEnvelope,
-        Shape::Panning => Thing::PanningEnvelope,
+    match kind {
+        EnvelopeKind::Volume => Thing::VolumeEnvelope,
+        EnvelopeKind::Panning => Thing::PanningEnvelope,
     }
 }
 
-fn chunk_of(l: Layout, shape: Shape) -> Place
-    ensures { λ r. ⌜ r ≡ chunkOf l shape ⌝ }
+fn chunk_of(l: Layout, kind: EnvelopeKind) -> Place
+    ensures { λ r. ⌜ r ≡ chunkOf l kind ⌝ }
 {
     let p = l.places;
-    match shape {
-        Shape::Volume => p.venv,
-        Shape::Panning => p.penv,
+    match kind {
+        EnvelopeKind::Volume => p.venv,
+        EnvelopeKind::Panning => p.penv,
     }
 }
 
@@ -77,14 +77,14 @@ fn no_count(r: Refusal) -> CountAnswer
 }
 
 // How many envelopes of a kind there are.
-pub fn count(m: &[u8], shape: Shape) -> CountAnswer
-    ensures { λ r. ⌜ r ≡ countAnswer (now (m .entry)) shape ⌝ }
+pub fn count(m: &[u8], kind: EnvelopeKind) -> CountAnswer
+    ensures { λ r. ⌜ r ≡ countAnswer (now (m .entry)) kind ⌝ }
 {
     match module::open(m) {
         Outline::Found(l) => CountAnswer {
             number: 0,
             place: 0,
-            count: envelope_count(m, chunk_of(l, shape)),
+            count: envelope_count(m, chunk_of(l, kind)),
         },
         Outline::Refused(r) => no_count(r),
     }
@@ -102,12 +102,12 @@ fn position(m: &[u8], at: usize, sections: u8, point: usize) -> u16
 }
 
 // A value as it is shown.
-fn value_of(shape: Shape, version: u8, v: u16) -> i32
-    ensures { λ r. ⌜ r ≡ valueOf shape version v ⌝ }
+fn value_of(kind: EnvelopeKind, version: u8, v: u16) -> i32
+    ensures { λ r. ⌜ r ≡ valueOf kind version v ⌝ }
 {
-    match shape {
-        Shape::Volume => v as i32,
-        Shape::Panning => {
+    match kind {
+        EnvelopeKind::Volume => v as i32,
+        EnvelopeKind::Panning => {
             if version == 2 {
                 return 4 * (v as i32) - 128;
             }
@@ -117,14 +117,14 @@ fn value_of(shape: Shape, version: u8, v: u16) -> i32
 }
 
 // The value of a point of the envelope at a place.
-fn value(m: &[u8], shape: Shape, version: u8, at: usize, sections: u8, point: usize) -> i32
+fn value(m: &[u8], kind: EnvelopeKind, version: u8, at: usize, sections: u8, point: usize) -> i32
     requires { ⌜ (at < 0x10000000000000) × (point < 32) ⌝ }
-    ensures { λ r. ⌜ r ≡ valueShown (now (m .entry)) shape version at sections point ⌝ }
+    ensures { λ r. ⌜ r ≡ valueShown (now (m .entry)) kind version at sections point ⌝ }
 {
     if (sections as usize) < point {
         return 0;
     }
-    value_of(shape, version, number16(m, at + 10 + 4 * point))
+    value_of(kind, version, number16(m, at + 10 + 4 * point))
 }
 
 // Fills in the positions of all points.
@@ -140,13 +140,13 @@ fn fill_positions(m: &[u8], at: usize, sections: u8, out: &mut [u16])
 }
 
 // Fills in the values of all points.
-fn fill_values(m: &[u8], shape: Shape, version: u8, at: usize, sections: u8, out: &mut [i32])
+fn fill_values(m: &[u8], kind: EnvelopeKind, version: u8, at: usize, sections: u8, out: &mut [i32])
     requires { ⌜ (at < 0x10000000000000) × (length (now out) ≡ 32) ⌝ }
-    ensures { λ r. ⌜ now (out .exit) ≡ eachFrom (valueShown (now (m .entry)) shape version at sections) 0 32 ⌝ }
+    ensures { λ r. ⌜ now (out .exit) ≡ eachFrom (valueShown (now (m .entry)) kind version at sections) 0 32 ⌝ }
 {
     let mut i = 0;
     while i < out.len() {
-        let v = value(m, shape, version, at, sections, i);
+        let v = value(m, kind, version, at, sections, i);
         out[i] = v;
         i = i + 1;
     }
@@ -161,12 +161,12 @@ fn positions(m: &[u8], at: usize, sections: u8) -> [u16; 32]
     all
 }
 
-fn values(m: &[u8], shape: Shape, version: u8, at: usize, sections: u8) -> [i32; 32]
+fn values(m: &[u8], kind: EnvelopeKind, version: u8, at: usize, sections: u8) -> [i32; 32]
     requires { ⌜ at < 0x10000000000000 ⌝ }
-    ensures { λ r. ⌜ r ≡ eachFrom (valueShown (now (m .entry)) shape version at sections) 0 32 ⌝ }
+    ensures { λ r. ⌜ r ≡ eachFrom (valueShown (now (m .entry)) kind version at sections) 0 32 ⌝ }
 {
     let mut all = [0i32; 32];
-    fill_values(m, shape, version, at, sections, &mut all);
+    fill_values(m, kind, version, at, sections, &mut all);
     all
 }
 
@@ -189,9 +189,9 @@ fn no_envelope(r: Refusal) -> EnvelopeAnswer
 }
 
 // The envelope whose block stands at a place.
-fn envelope_at(m: &[u8], shape: Shape, version: u8, at: usize) -> EnvelopeAnswer
+fn envelope_at(m: &[u8], kind: EnvelopeKind, version: u8, at: usize) -> EnvelopeAnswer
     requires { ⌜ at < 0x10000000000000 ⌝ }
-    ensures { λ r. ⌜ r ≡ shownEnvelope (now (m .entry)) shape version at ⌝ }
+    ensures { λ r. ⌜ r ≡ shownEnvelope (now (m .entry)) kind version at ⌝ }
 {
     let sections = byte(m, at + 3);
     EnvelopeAnswer {
@@ -205,16 +205,16 @@ fn envelope_at(m: &[u8], shape: Shape, version: u8, at: usize) -> EnvelopeAnswer
         loop_last: byte(m, at + 6),
         second_sustain: byte(m, at + 7),
         positions: positions(m, at, sections),
-        values: values(m, shape, version, at, sections),
+        values: values(m, kind, version, at, sections),
     }
 }
 
 // An envelope, counted from 0 by its place in its chunk.
-pub fn envelope(m: &[u8], shape: Shape, envelope: usize) -> EnvelopeAnswer
-    ensures { λ r. ⌜ r ≡ envelopeAnswer (now (m .entry)) shape envelope ⌝ }
+pub fn envelope(m: &[u8], kind: EnvelopeKind, envelope: usize) -> EnvelopeAnswer
+    ensures { λ r. ⌜ r ≡ envelopeAnswer (now (m .entry)) kind envelope ⌝ }
 {
-    match find(m, thing_of(shape), envelope) {
-        Found::At(b) => envelope_at(m, shape, b.version, b.at),
+    match find(m, thing_of(kind), envelope) {
+        Found::At(b) => envelope_at(m, kind, b.version, b.at),
         Found::Refused(r) => no_envelope(r),
     }
 }

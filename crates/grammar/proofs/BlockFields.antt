@@ -106,7 +106,7 @@ unfolding sizeOf
 instrument-sized samples block r = r .size
 
 -- Samples.
-width-says : (flags : ℕ) → (not (eqb (widthOf flags) 0) ≡ true) ↔ ((flags ≡ 1) ⊎ ((flags ≡ 2) ⊎ (flags ≡ 4)))
+pub width-says : (flags : ℕ) → (not (eqb (widthOf flags) 0) ≡ true) ↔ ((flags ≡ 1) ⊎ ((flags ≡ 2) ⊎ (flags ≡ 4)))
 width-says flags = go (eqb flags 1) (eqb flags 2) (eqb flags 4) refl refl refl
   where
     go : (one two four : Bool) → eqb flags 1 ≡ one → eqb flags 2 ≡ two → eqb flags 4 ≡ four → (not (eqb (cond one 1 (cond two 2 (cond four 4 0))) 0) ≡ true) ↔ ((flags ≡ 1) ⊎ ((flags ≡ 2) ⊎ (flags ≡ 4)))

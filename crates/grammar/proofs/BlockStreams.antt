@@ -1,5 +1,5 @@
 -- The packed streams of patterns: the check reads a stream in the module, the rules in the pattern's block; and the check accepts
--- a stream exactly when it is that of some rows of sound entries (theorem 6 of `pattern`).
+-- a stream exactly when it is that of some rows of sound entries (theorem 6 of `packed_rows`).
 use Prim.Native.Nat.{ℕ, _+_, _%_, _≤_}
 use mathlib.Core.Path.{_≡_, refl, sym, ap, _∙_}
 use mathlib.Core.Logic.{_↔_, Iff·rfl}
@@ -15,12 +15,12 @@ use Rattle.refusal.specs.declared.Cause.the-variants.{Sizes}
 use Rattle.refusal.specs.declared.Refusal.{Refusal}
 use Rattle.refusal.specs.declared.Verdict.{Verdict}
 use Rattle.refusal.specs.declared.Verdict.the-variants.{Accepted, Refused}
-use Rattle.pattern.specs.Cells.{sizesFit}
-use Rattle.pattern.specs.Entries.{Entry}
-use Rattle.pattern.specs.Stream.{readStream}
-use Rattle.pattern.specs.Answers.{checkAnswer, verdictOf}
-use Rattle.pattern.specs.Theorems.{StreamOf}
-use Rattle.pattern.proofs.Theorems.{accepts-exactly}
+use Rattle.cells.specs.Cells.{sizesFit}
+use Rattle.packed_rows.specs.Entries.{Entry}
+use Rattle.packed_rows.specs.Stream.{readStream}
+use Rattle.packed_rows.specs.Answers.{checkAnswer, verdictOf}
+use Rattle.packed_rows.specs.Theorems.{StreamOf}
+use Rattle.packed_rows.proofs.Theorems.{accepts-exactly}
 use Rattle.numbers.specs.Numbers.{number16, number32, partOf}
 use Rattle.blocks.specs.Sizes.{sizeOf}
 use Rattle.blocks.specs.declared.Kind.the-variants.{Pattern}
@@ -35,12 +35,12 @@ abbrev pub TracksFit : ℕ → Type 0
 TracksFit tracks = (4 ≤ tracks) × (tracks ≤ 254) × (tracks % 2 ≡ 0)
 
 -- What the check of a stream says.
-accepted-says : (v : Verdict) → (accepted v ≡ true) ↔ (v ≡ Accepted)
+pub accepted-says : (v : Verdict) → (accepted v ≡ true) ↔ (v ≡ Accepted)
 accepted-says Accepted = (λ e. refl, λ e. refl)
 accepted-says (Refused r) = (λ e. false-never e, λ e. let z : _≡_ {A = ℕ} 0 1 = cc in absurd (omega arith))
 
 module _ (stream : List ℕ) (rows tracks : ℕ) where
-  accepted-sizes : checkAnswer stream rows tracks ≡ Accepted → sizesFit rows tracks ≡ true
+  pub accepted-sizes : checkAnswer stream rows tracks ≡ Accepted → sizesFit rows tracks ≡ true
   accepted-sizes = go (sizesFit rows tracks) (refusal Sizes 0) (verdictOf (readStream rows tracks stream))
     where
       go : (fits : Bool) (r : Refusal) (v : Verdict) → cond (not fits) (Refused r) v ≡ Accepted → fits ≡ true

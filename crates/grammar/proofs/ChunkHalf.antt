@@ -7,7 +7,7 @@ use mathlib.Core.List.{List, _∷_, _++_, append-assoc}
 use mathlib.Core.Bool.{true}
 use native.Mathlib.Omega.{arith}
 use lib.ListN.{length, take, length-append}
-use Rattle.pattern.specs.Cells.{joined}
+use Rattle.cells.specs.Cells.{joined}
 use Rattle.layout.specs.Header.{headerRules}
 use Rattle.layout.specs.Chunks.{occurs}
 use Rattle.layout.specs.Outlines.{standing, placeOf, placesOf, layoutWith, mandatoryThere, outline}

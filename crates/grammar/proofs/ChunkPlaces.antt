@@ -7,7 +7,7 @@ use mathlib.Core.Bool.{Bool, true, false, cond, not, _&&_, _||_, or-assoc, or-fa
 use native.Mathlib.Omega.{arith}
 use lib.ListN.{length, take}
 use lib.Dec.{eqb, lit<}
-use Rattle.pattern.specs.Cells.{joined}
+use Rattle.cells.specs.Cells.{joined}
 use Rattle.refusal.specs.Numbers.{refusal}
 use Rattle.refusal.specs.declared.Cause.the-variants.{InfoRange}
 use Rattle.refusal.specs.declared.Refusal.{Refusal}
@@ -20,10 +20,12 @@ use Rattle.layout.specs.declared.Layout.{Layout}
 use Rattle.layout.specs.declared.Outline.{Outline}
 use Rattle.layout.specs.declared.Outline.the-variants.{Found, Refused}
 use Rattle.blocks.specs.Filling.{dataEnd}
+use Rattle.grammar.specs.Rules.{Covered}
 use Rattle.grammar.specs.Places.{oneOf, HeaderAt, HeaderOf, InData, PlaceOf, tooLong, notAModule, version, chunkCut, identifier, repeated, beforeInfo, missing, fixedLength, infoRange}
 use Rattle.grammar.proofs.Locating.{PartAt, part-inside}
 use Rattle.grammar.proofs.Holding.{leb-says, eqb-says, and-says, unless-says, false-never, plain}
 use Rattle.grammar.proofs.FirstBroken.{WhereBroken, no-rule, this-or, first-broken, broken-if}
+use Rattle.grammar.proofs.Identifiers.{chunk-named}
 use Rattle.grammar.proofs.Recorded.{recorded, recordsFrom, present-occurs}
 use Rattle.grammar.proofs.Fitting.{identifier-is, data-length-is}
 use Rattle.grammar.proofs.Chunking.{InTurn, done, next, turn-bytes, joined-next, Reached, reached-next}
@@ -115,12 +117,14 @@ module _ {m header : List ℕ} {before : List (List ℕ)} {at : ℕ} (r : Reache
       broken-if (eqb (number32 m at) INFO)
       (λ test. let info = eqb-says (number32 m at) INFO .0 test in info-placed info (info-length lengths info) (leb-says _ _ .0 whole))
 
--- A place of a layout is that of a whole chunk with this identifier: its header begins there, and its data are as long as its length
--- says.
+-- A place of a layout is that of a whole chunk with this identifier: the chunk is there, its header begins there, and its data are as
+-- long as its length says, in NAME 44.
 pub record WholeAt (m : List ℕ) (identifier : ℕ) (place : Place) : Type 0 where
+  pub present : place .present ≡ true
   pub header : HeaderAt m (place .at)
   pub named : number32 m (place .at) ≡ identifier
   pub size : number32 m (place .at + 4) ≡ place .length
+  pub nameSize : identifier ≡ NAME → place .length ≡ 44
   pub inside : dataEnd place ≤ length m
 
 -- Such a chunk, as one of some identifiers, and a place in its data.
@@ -147,7 +151,7 @@ place-whole n {m} {header} {before} {at = at} r bytes (next {chunk = chunk} {res
     go true e ih h =
         let size = fits .bytes .size in
         let inside = part-inside part in
-        record { header = header-at r (omega arith); named = identifier-is part size ∙ eqb-says _ _ .0 e; size = data-length-is part size; inside = omega arith }
+        record { present = refl; header = header-at r (omega arith); named = identifier-is part size ∙ eqb-says _ _ .0 e; size = data-length-is part size; nameSize = λ same. omega (arith, fits .name (chunk-named (fits .bytes) Covered.name .0 (eqb-says _ _ .0 e ∙ same))); inside = omega arith }
     go false e ih h = ih h
 
 -- The places of a found layout.

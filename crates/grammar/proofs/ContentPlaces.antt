@@ -48,11 +48,11 @@ first-behind Sample place = omega arith
 first-behind Envelope place = omega arith
 
 -- A block of a kind lies at a place in a chunk's data.
-record BlockIn (m : List ℕ) (kind : Kind) (place : Place) (at : ℕ) : Type 0 where
-  behind : place .at + 8 ≤ at
-  inside : at + sizeOf kind m at ≤ dataEnd place
+pub record BlockIn (m : List ℕ) (kind : Kind) (place : Place) (at : ℕ) : Type 0 where
+  pub behind : place .at + 8 ≤ at
+  pub inside : at + sizeOf kind m at ≤ dataEnd place
 
-block-in : (m : List ℕ) (kind : Kind) (place : Place) (n i : ℕ) → blockAt m kind place n ≡ dataEnd place → i < n → BlockIn m kind place (blockAt m kind place i)
+pub block-in : (m : List ℕ) (kind : Kind) (place : Place) (n i : ℕ) → blockAt m kind place n ≡ dataEnd place → i < n → BlockIn m kind place (blockAt m kind place i)
 block-in m kind place n i e h = record {
   behind = omega (arith, first-behind kind place, after-least (sizeOf kind m) i (firstBlock kind place));
   inside = omega (arith, after-next (sizeOf kind m) n i (firstBlock kind place) h, e);
@@ -135,7 +135,7 @@ module _ (m : List ℕ) (kind : Kind) (place : Place) (n : ℕ) (rulesAt : ℕ �
   inside-placed fill h = each-placed (λ i l. h (blockAt m kind place i) (block-in m kind place n i fill l))
 
 -- Envelopes, where their chunk is there.
-count-there : (m : List ℕ) (place : Place) (i : ℕ) → i < envelopeCount m place → place .present ≡ true
+pub count-there : (m : List ℕ) (place : Place) (i : ℕ) → i < envelopeCount m place → place .present ≡ true
 count-there m place i h = go (place .present) refl
   where
     go : (there : Bool) → place .present ≡ there → place .present ≡ true

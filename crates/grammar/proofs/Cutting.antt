@@ -7,7 +7,7 @@ use mathlib.Core.List.{List, [], _∷_, _++_, append-assoc}
 use native.Mathlib.Omega.{arith}
 use lib.ListN.{length, getD, take, drop, length-append, length-drop, take-append-drop}
 use lib.Seq.{length-take-le}
-use Rattle.pattern.specs.Cells.{joined}
+use Rattle.cells.specs.Cells.{joined}
 use Rattle.blocks.specs.Sizes.{sizeOf, placesFrom, placeAfter}
 use Rattle.blocks.specs.declared.Kind.{Kind}
 use Rattle.blocks.specs.declared.Kind.the-variants.{Song, Instrument, Pattern, Sample, Envelope}

@@ -20,4 +20,10 @@ pub mod ChunkPlaces
 pub mod ContentPlaces
 pub mod Acceptance
 pub mod RefusalPlaces
+pub mod FoundBlocks
+pub mod SampleFrames
+pub mod ShownBytes
+pub mod FoundPatterns
+pub mod EnvelopeValues
+pub mod Samples
 pub mod Theorems

@@ -5,7 +5,7 @@ use mathlib.Core.Path.{_≡_, refl}
 use mathlib.Core.List.{List, [], _++_}
 use mathlib.Core.Bool.{Bool, true, false, cond}
 use lib.ListN.{length, take}
-use Rattle.pattern.specs.Cells.{joined}
+use Rattle.cells.specs.Cells.{joined}
 use Rattle.refusal.specs.Numbers.{refusal}
 use Rattle.refusal.specs.Rules.{firstBroken}
 use Rattle.refusal.specs.declared.Cause.the-variants.{Missing}

@@ -10,7 +10,7 @@ use native.Mathlib.Nat.{add-assoc, add-zero}
 use lib.ListN.{length, take, length-append}
 use lib.Dec.{eqb}
 use borrow.Author.Tests.{eqb-true, eq-eqb, ne-eqb}
-use Rattle.pattern.specs.Cells.{joined}
+use Rattle.cells.specs.Cells.{joined}
 use Rattle.numbers.specs.Numbers.{number32}
 use Rattle.layout.specs.Chunks.{Chunk, occurs}
 use Rattle.layout.specs.Outlines.{standing, placeOf}

@@ -9,7 +9,7 @@ use lib.Dec.{eqb}
 use Rattle.refusal.specs.Numbers.{refusal}
 use Rattle.refusal.specs.declared.Cause.the-variants.{TooLong, NotAModule, Version, ChunkCut, Identifier, Repeated, BeforeInfo, Missing, FixedLength, InfoRange, Blocks, Reference, FieldRange, Loop, Stream}
 use Rattle.refusal.specs.declared.Refusal.{Refusal}
-use Rattle.pattern.specs.Cells.{joined}
+use Rattle.cells.specs.Cells.{joined}
 use Rattle.numbers.specs.Numbers.{number32}
 use Rattle.layout.specs.Chunks.{NAME, INFO, SONG, INST, PATT, SMPL, VENV, PENV}
 use Rattle.layout.specs.Outlines.{outline}

@@ -9,9 +9,9 @@ use mathlib.Core.List.{List, [], _∷_, _++_}
 use lib.ListN.{length, getD, take}
 use lib.IntN.{pos, negsuc}
 use lib.Signed.{_≤ℤ_}
-use Rattle.pattern.specs.Cells.{joined}
-use Rattle.pattern.specs.Entries.{Entry}
-use Rattle.pattern.specs.Theorems.{StreamOf}
+use Rattle.cells.specs.Cells.{joined}
+use Rattle.packed_rows.specs.Entries.{Entry}
+use Rattle.packed_rows.specs.Theorems.{StreamOf}
 use Rattle.numbers.specs.Numbers.{byteAt, number16, number32, signed16}
 
 -- A list of bytes: each number is below 256. A slice of bytes is such a list; the rules themselves speak of any list of numbers.

@@ -4,7 +4,7 @@ use mathlib.Core.List.{List, [], _∷_}
 use Rattle.refusal.specs.Rules.{Rule, rule, rulesOfEach, accepted}
 use Rattle.refusal.specs.declared.Cause.the-variants.{Stream}
 use Rattle.refusal.specs.declared.Verdict.{Verdict}
-use Rattle.pattern.specs.Answers.{checkAnswer}
+use Rattle.packed_rows.specs.Answers.{checkAnswer}
 use Rattle.numbers.specs.Numbers.{number16, number32, partOf}
 use Rattle.layout.specs.declared.Layout.{Layout}
 use Rattle.blocks.specs.Sizes.{patternBlocks}

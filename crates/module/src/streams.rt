@@ -21,7 +21,7 @@ fn stream_fits(m: &[u8], tracks: u16, at: usize) -> bool
 {
     let packed = number32(m, at + 2) as usize;
     let stream = part(m, at + 6, packed);
-    match pattern::check(stream, number16(m, at) as usize, tracks as usize) {
+    match packed_rows::check(stream, number16(m, at) as usize, tracks as usize) {
         Verdict::Accepted => true,
         Verdict::Refused(_) => false,
     }

@@ -1,52 +1,11 @@
-// Packed rows: check, unpack, pack and repack a stream, one cell of it, and the shown cell.
-pub mod cells;
-mod packer;
-mod reader;
-mod repacker;
-
-use crate::cells::Cell;
-use crate::cells::Note;
-use crate::packer::packed_length;
-use crate::packer::write_rows;
-use crate::reader::check_stream;
-use crate::reader::load_row;
-use crate::reader::skip_rows;
-use crate::reader::unpack_rows;
-use crate::repacker::repack_rows;
-use crate::repacker::repacked_length;
-use refusal::Cause;
-use refusal::Refusal;
+// The C entry points of the packed rows.
+use packed_rows::Packing;
+use packed_rows::Unpacking;
 use refusal::Verdict;
-use refusal::refuse;
 ghost use mathlib.Core.Path.{_≡_};
 ghost use lib.ListN.{length};
-ghost use Prim.Native.Nat.{_+_, _*_, _≤_, _<_};
-ghost use mathlib.Core.Bool.{true};
-ghost use Rattle.refusal.specs.declared.Verdict.the-variants.{Accepted};
-ghost use Rattle.pattern.specs.Stream.{readStream};
-ghost use Rattle.pattern.specs.Packer.{packedLength, packedStream};
-ghost use Rattle.pattern.specs.Steps.{cellAt, cellRead, rowsRead};
-ghost use Rattle.pattern.specs.Cells.{sizesFit};
-ghost use Rattle.pattern.specs.Shown.{isPitch, shownNote, shownCell};
-ghost use Rattle.pattern.specs.Answers.{packedIf, outputPacked, told, checkAnswer, unpackAnswer, unpackOutput, packAnswer, packOutput, repackAnswer, repackOutput, cellThere, cellOf, verdictOf, toldVerdict, toldUnpacking, toldPacking};
-
-// What unpacking answers: the length written, or a refusal.
-pub enum Unpacking {
-    Unpacked(usize),
-    Refused(Refusal),
-}
-
-// What packing and repacking answer: the packed length, or a refusal.
-pub enum Packing {
-    Packed(usize),
-    Refused(Refusal),
-}
-
-// What the question for one cell answers.
-pub enum CellAnswer {
-    Found(Cell),
-    Refused(Refusal),
-}
+ghost use Rattle.packed_rows.specs.Answers.{checkAnswer, unpackAnswer, unpackOutput, packAnswer, packOutput};
+ghost use Rattle.pattern.specs.Answers.{told, toldVerdict, toldUnpacking, toldPacking};
 
 // An answer for C: the refusal's number (0: none) and place, and the length written (0 on a refusal).
 #[repr(C)]
@@ -54,190 +13,6 @@ pub struct PatternAnswer {
     pub number: u64,
     pub place: usize,
     pub length: usize,
-}
-
-// Whether a pattern may have so many rows and tracks.
-fn sizes_fit(rows: usize, tracks: usize) -> bool
-    ensures { λ r. ⌜ r ≡ sizesFit rows tracks ⌝ }
-{
-    (rows <= 65535) & ((4 <= tracks) & ((tracks <= 254) & (tracks % 2 == 0)))
-}
-
-// The note of a byte.
-fn shown_note(note: u8) -> Note
-    ensures { λ r. ⌜ r ≡ shownNote note ⌝ }
-{
-    if note == 0 {
-        return Note::None;
-    }
-    if note == 31 {
-        return Note::KeyOff;
-    }
-    if is_pitch(note) {
-        return Note::Pitch {
-            octave: note / 16,
-            semitone: note % 16,
-        };
-    }
-    Note::Unknown(note)
-}
-
-// Whether a note is a pitch.
-fn is_pitch(note: u8) -> bool
-    ensures { λ r. ⌜ r ≡ isPitch note ⌝ }
-{
-    (1 <= note / 16) & ((note / 16 <= 8) & (note % 16 <= 11))
-}
-
-// A cell as it is shown.
-pub fn shown(cell: [u8; 6]) -> Cell
-    ensures { λ r. ⌜ r ≡ shownCell cell ⌝ }
-{
-    Cell {
-        note: shown_note(cell[0]),
-        instrument: cell[1],
-        command1: cell[2],
-        parameter1: cell[3],
-        command2: cell[4],
-        parameter2: cell[5],
-    }
-}
-
-// Whether a pattern of so many rows and tracks has this row, from 0, and this track, from 1.
-fn cell_there(rows: usize, tracks: usize, row: usize, track: usize) -> bool
-    ensures { λ r. ⌜ r ≡ cellThere rows tracks row track ⌝ }
-{
-    (row < rows) & ((1 <= track) & (track <= tracks))
-}
-
-// Checks a stream: 16, 15.
-pub fn check(stream: &[u8], rows: usize, tracks: usize) -> Verdict
-    ensures { λ r. ⌜ r ≡ checkAnswer (now (stream .entry)) rows tracks ⌝ }
-{
-    if !sizes_fit(rows, tracks) {
-        return Verdict::Refused(refuse(Cause::Sizes, 0));
-    }
-    check_stream(stream, rows, tracks)
-}
-
-// Unpacks a stream: 16, 17, 15.
-pub fn unpack(stream: &[u8], rows: usize, tracks: usize, out: &mut [u8]) -> Unpacking
-    ensures { λ r. ⌜ (r ≡ unpackAnswer (now (stream .entry)) rows tracks (length (now (out .entry)))) × (now (out .exit) ≡ unpackOutput (now (stream .entry)) rows tracks (now (out .entry))) ⌝ }
-{
-    if !sizes_fit(rows, tracks) {
-        return Unpacking::Refused(refuse(Cause::Sizes, 0));
-    }
-    let size = rows * (tracks * 6);
-    if out.len() < size {
-        return Unpacking::Refused(refuse(Cause::Room, size));
-    }
-    if let Verdict::Refused(r) = check_stream(stream, rows, tracks) {
-        return Unpacking::Refused(r);
-    }
-    unpack_rows(stream, rows, tracks, &mut out[..size]);
-    Unpacking::Unpacked(size)
-}
-
-// Packs a pattern's cells: 16, 17.
-pub fn pack(cells: &[u8], rows: usize, tracks: usize, out: &mut [u8]) -> Packing
-    ensures { λ r. ⌜ (r ≡ packAnswer (now (cells .entry)) rows tracks (length (now (out .entry)))) × (now (out .exit) ≡ packOutput (now (cells .entry)) rows tracks (now (out .entry))) ⌝ }
-{
-    if !sizes_fit(rows, tracks) {
-        return Packing::Refused(refuse(Cause::Sizes, 0));
-    }
-    if cells.len() != rows * (tracks * 6) {
-        return Packing::Refused(refuse(Cause::Sizes, 0));
-    }
-    let needed = packed_length(cells, rows, tracks);
-    if out.len() < needed {
-        return Packing::Refused(refuse(Cause::Room, needed));
-    }
-    write_rows(cells, rows, tracks, &mut out[..needed]);
-    Packing::Packed(needed)
-}
-
-// Repacks an accepted stream into the room that is left: 17. `line` is room for a row.
-fn repack_accepted(
-    stream: &[u8],
-    rows: usize,
-    tracks: usize,
-    line: &mut [u8],
-    out: &mut [u8],
-) -> Packing
-    requires { ⌜ (verdictOf (readStream rows tracks (now stream)) ≡ Accepted) × (length (now line) ≡ tracks * 6) × (rows < 65536) × (tracks < 255) ⌝ }
-    ensures { λ r. ⌜ (r ≡ packedIf (packedLength (rowsRead (now (stream .entry)) rows tracks)) (length (now (out .entry)))) × (now (out .exit) ≡ outputPacked r (packedStream (rowsRead (now (stream .entry)) rows tracks)) (now (out .entry))) ⌝ }
-{
-    let needed = repacked_length(stream, rows, tracks, line);
-    if out.len() < needed {
-        return Packing::Refused(refuse(Cause::Room, needed));
-    }
-    repack_rows(stream, rows, tracks, line, &mut out[..needed]);
-    Packing::Packed(needed)
-}
-
-// Repacks a stream: 16, 15, 17.
-pub fn repack(stream: &[u8], rows: usize, tracks: usize, out: &mut [u8]) -> Packing
-    ensures { λ r. ⌜ (r ≡ repackAnswer (now (stream .entry)) rows tracks (length (now (out .entry)))) × (now (out .exit) ≡ repackOutput (now (stream .entry)) rows tracks (now (out .entry))) ⌝ }
-{
-    if !sizes_fit(rows, tracks) {
-        return Packing::Refused(refuse(Cause::Sizes, 0));
-    }
-    if let Verdict::Refused(r) = check_stream(stream, rows, tracks) {
-        return Packing::Refused(r);
-    }
-    let mut line = [0u8; 1524];
-    let width = tracks * 6;
-    repack_accepted(stream, rows, tracks, &mut line[..width], out)
-}
-
-// The cell at a place of a row's bytes, as it is shown.
-fn shown_at(row: &[u8], at: usize) -> Cell
-    requires { ⌜ at + 6 ≤ length (now row) ⌝ }
-    ensures { λ r. ⌜ r ≡ shownCell (cellAt (now (row .entry)) at) ⌝ }
-{
-    shown([
-        row[at],
-        row[at + 1],
-        row[at + 2],
-        row[at + 3],
-        row[at + 4],
-        row[at + 5],
-    ])
-}
-
-// The cell of an accepted stream at a row, from 0, and a track, from 1. `line` is room for a row.
-fn read_cell(
-    stream: &[u8],
-    rows: usize,
-    tracks: usize,
-    row: usize,
-    track: usize,
-    line: &mut [u8],
-) -> Cell
-    requires { ⌜ (verdictOf (readStream rows tracks (now stream)) ≡ Accepted) × (cellThere rows tracks row track ≡ true) × (length (now line) ≡ tracks * 6) ⌝ }
-    ensures { λ r. ⌜ r ≡ shownCell (cellRead (now (stream .entry)) rows tracks row track) ⌝ }
-{
-    let at = skip_rows(stream, row);
-    load_row(stream, at, line);
-    shown_at(line, (track - 1) * 6)
-}
-
-// One cell of a stream: 16, 18, 15.
-pub fn cell(stream: &[u8], rows: usize, tracks: usize, row: usize, track: usize) -> CellAnswer
-    ensures { λ r. ⌜ r ≡ cellOf (now (stream .entry)) rows tracks row track ⌝ }
-{
-    if !sizes_fit(rows, tracks) {
-        return CellAnswer::Refused(refuse(Cause::Sizes, 0));
-    }
-    if !cell_there(rows, tracks, row, track) {
-        return CellAnswer::Refused(refuse(Cause::NotThere, 0));
-    }
-    if let Verdict::Refused(r) = check_stream(stream, rows, tracks) {
-        return CellAnswer::Refused(r);
-    }
-    let mut line = [0u8; 1524];
-    let width = tracks * 6;
-    CellAnswer::Found(read_cell(stream, rows, tracks, row, track, &mut line[..width]))
 }
 
 // An answer for C: every one is made here.
@@ -256,7 +31,7 @@ fn answer(number: u8, place: usize, length: usize) -> PatternAnswer
 pub extern "C" fn dbm0_check_pattern(stream: &[u8], rows: usize, tracks: usize) -> PatternAnswer
     ensures { λ r. ⌜ r ≡ toldVerdict (checkAnswer (now (stream .entry)) rows tracks) ⌝ }
 {
-    match check(stream, rows, tracks) {
+    match packed_rows::check(stream, rows, tracks) {
         Verdict::Accepted => answer(0, 0, 0),
         Verdict::Refused(r) => answer(r.number, r.place, 0),
     }
@@ -272,7 +47,7 @@ pub extern "C" fn dbm0_unpack_pattern(
 ) -> PatternAnswer
     ensures { λ r. ⌜ (r ≡ toldUnpacking (unpackAnswer (now (stream .entry)) rows tracks (length (now (out .entry))))) × (now (out .exit) ≡ unpackOutput (now (stream .entry)) rows tracks (now (out .entry))) ⌝ }
 {
-    match unpack(stream, rows, tracks, out) {
+    match packed_rows::unpack(stream, rows, tracks, out) {
         Unpacking::Unpacked(n) => answer(0, 0, n),
         Unpacking::Refused(r) => answer(r.number, r.place, 0),
     }
@@ -288,7 +63,7 @@ pub extern "C" fn dbm0_pack_pattern(
 ) -> PatternAnswer
     ensures { λ r. ⌜ (r ≡ toldPacking (packAnswer (now (cells .entry)) rows tracks (length (now (out .entry))))) × (now (out .exit) ≡ packOutput (now (cells .entry)) rows tracks (now (out .entry))) ⌝ }
 {
-    match pack(cells, rows, tracks, out) {
+    match packed_rows::pack(cells, rows, tracks, out) {
         Packing::Packed(n) => answer(0, 0, n),
         Packing::Refused(r) => answer(r.number, r.place, 0),
     }

@@ -5,11 +5,11 @@ use mathlib.Core.List.{List}
 use lib.ListN.{length}
 use Rattle.refusal.specs.declared.Refusal.{Refusal}
 use Rattle.numbers.specs.Numbers.{number16}
-use Rattle.pattern.specs.Answers.{cellOf, unpackAnswer as streamAnswer, unpackOutput as streamOutput}
-use Rattle.pattern.specs.declared.CellAnswer.{CellAnswer}
-use Rattle.pattern.specs.declared.CellAnswer.the-variants.{Refused as CellRefused}
-use Rattle.pattern.specs.declared.Unpacking.{Unpacking}
-use Rattle.pattern.specs.declared.Unpacking.the-variants.{Unpacked, Refused as UnpackingRefused}
+use Rattle.packed_rows.specs.Answers.{cellOf, unpackAnswer as streamAnswer, unpackOutput as streamOutput}
+use Rattle.packed_rows.specs.declared.CellAnswer.{CellAnswer}
+use Rattle.packed_rows.specs.declared.CellAnswer.the-variants.{Refused as CellRefused}
+use Rattle.packed_rows.specs.declared.Unpacking.{Unpacking}
+use Rattle.packed_rows.specs.declared.Unpacking.the-variants.{Unpacked, Refused as UnpackingRefused}
 use Rattle.module.specs.Streams.{packedBytes}
 use Rattle.queries.specs.Finding.{found}
 use Rattle.queries.specs.Lengths.{refusedLength, writtenLength}

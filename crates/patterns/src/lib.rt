@@ -3,8 +3,8 @@
 use numbers::number16;
 use numbers::number32;
 use numbers::part;
-use pattern::CellAnswer;
-use pattern::Unpacking;
+use packed_rows::CellAnswer;
+use packed_rows::Unpacking;
 use queries::Block;
 use queries::Found;
 use queries::LengthAnswer;
@@ -65,7 +65,7 @@ fn cell_in(m: &[u8], b: Block, row: usize, track: usize) -> CellAnswer
     ensures { λ r. ⌜ r ≡ cellIn (now (m .entry)) b row track ⌝ }
 {
     let rows = number16(m, b.at) as usize;
-    pattern::cell(packed(m, b.at), rows, b.tracks as usize, row, track)
+    packed_rows::cell(packed(m, b.at), rows, b.tracks as usize, row, track)
 }
 
 // A cell of a pattern: pattern and row counted from 0, track from 1.
@@ -84,7 +84,7 @@ fn unpack_in(m: &[u8], b: Block, out: &mut [u8]) -> LengthAnswer
     ensures { λ r. ⌜ (r ≡ unpackIn (now (m .entry)) b (length (now (out .entry)))) × (now (out .exit) ≡ unpackOutputIn (now (m .entry)) b (now (out .entry))) ⌝ }
 {
     let rows = number16(m, b.at) as usize;
-    match pattern::unpack(packed(m, b.at), rows, b.tracks as usize, out) {
+    match packed_rows::unpack(packed(m, b.at), rows, b.tracks as usize, out) {
         Unpacking::Unpacked(n) => written(n),
         Unpacking::Refused(r) => refused(r),
     }

@@ -1,0 +1,2 @@
+pub mod SixteenBits
+pub mod WritingFrames

@@ -1,13 +1,8 @@
--- Definitions that private functions cite: frames at 16 bits as they are stored, from a place on.
-use Prim.Native.Nat.{ℕ, zero, suc, _+_, _*_, _/_, _%_}
-use mathlib.Core.List.{List, [], _∷_}
-use mathlib.Core.Bool.{cond}
-use lib.Dec.{eqb}
-use Rattle.numbers.specs.Numbers.{byteAt, number16, number32}
+-- A definition that private functions cite: so many frames at 16 bits from a place on, 2 bytes each.
+use Prim.Native.Nat.{ℕ, _+_, _*_}
+use mathlib.Core.List.{List}
+use Rattle.numbers.specs.Numbers.{eachFrom}
+use Rattle.samples.specs.Shown.{frame16, bytes16, joined}
 
-abbrev pub stored16 : List ℕ → ℕ → ℕ → ℕ
-stored16 m bytes at = cond (eqb bytes 1) (byteAt m at * 256) (cond (eqb bytes 2) (number16 m at) (number32 m at / 65536))
-
-abbrev pub frames16 : List ℕ → ℕ → ℕ → ℕ → List ℕ
-frames16 m bytes at zero = []
-frames16 m bytes at (suc n) = stored16 m bytes at / 256 ∷ stored16 m bytes at % 256 ∷ frames16 m bytes (at + bytes) n
+abbrev pub framesFrom : List ℕ → ℕ → ℕ → ℕ → List ℕ
+framesFrom m bytes start n = joined (eachFrom (λ frame. bytes16 (frame16 m bytes (start + frame * bytes))) 0 n)

@@ -16,10 +16,11 @@ use refusal::Cause;
 use refusal::Refusal;
 use refusal::refuse;
 ghost use mathlib.Core.Path.{_≡_};
-ghost use Prim.Native.Nat.{_*_, _<_};
+ghost use Prim.Native.Nat.{_*_, _/_, _<_};
 ghost use lib.ListN.{length};
-ghost use Rattle.samples.specs.Shown.{frameBytes, noSample, shownSample, sampleAnswer, noFrames, shownFrames, framesAnswer, framesPart, noFrame, frameIn, frameAnswer, allFramesIn, allFramesOutputIn, allFramesAnswer, allFramesOutput};
-ghost use Rattle.samples.specs.Steps.{stored16, frames16};
+ghost use Rattle.numbers.specs.Numbers.{signed16};
+ghost use Rattle.samples.specs.Shown.{frameBytes, frame16, noSample, shownSample, sampleAnswer, noFrames, shownFrames, framesAnswer, framesPart, noFrame, frameIn, frameAnswer, allFramesIn, allFramesOutputIn, allFramesAnswer, allFramesOutput};
+ghost use Rattle.samples.specs.Steps.{framesFrom};
 
 // A sample: the bits of a frame (8, 16 or 32), and how many frames there are.
 #[repr(C)]
@@ -130,10 +131,16 @@ pub fn frames(m: &[u8], sample: usize) -> &[u8]
     part(m, a.offset, a.length)
 }
 
+// A stored 32-bit frame as a stored 16-bit frame: divided by 65,536, and rounded down.
+fn rounded_down(v: u32) -> u16
+    ensures { λ r. ⌜ r ≡ v / 65536 ⌝ }
+{
+    (v / 65536) as u16
+}
+
 // A frame of so many bytes at 16 bits, as it would be stored: 8-bit times 256, 32-bit divided by 65,536 and rounded down.
 fn at_16_bits(m: &[u8], bytes: usize, at: usize) -> u16
-    requires { ⌜ at < 0x1000000000000000 ⌝ }
-    ensures { λ r. ⌜ r ≡ stored16 (now (m .entry)) bytes at ⌝ }
+    ensures { λ r. ⌜ signed16 r ≡ frame16 (now (m .entry)) bytes at ⌝ }
 {
     if bytes == 1 {
         return (byte(m, at) as u16) * 256;
@@ -141,7 +148,7 @@ fn at_16_bits(m: &[u8], bytes: usize, at: usize) -> u16
     if bytes == 2 {
         return number16(m, at);
     }
-    (number32(m, at) / 65536) as u16
+    rounded_down(number32(m, at))
 }
 
 fn no_frame(r: Refusal) -> FrameAnswer
@@ -183,18 +190,14 @@ pub fn frame(m: &[u8], sample: usize, frame: usize) -> FrameAnswer
 // Writes so many frames at 16 bits, from a place on: each has so many bytes.
 fn write_frames(m: &[u8], bytes: usize, start: usize, frames: usize, out: &mut [u8])
     requires { ⌜ (start < 0x20000000000000) × ((bytes < 5) × ((frames < 0x100000000) × (length (now out) ≡ 2 * frames))) ⌝ }
-    ensures { λ r. ⌜ now (out .exit) ≡ frames16 (now (m .entry)) bytes start frames ⌝ }
+    ensures { λ r. ⌜ now (out .exit) ≡ framesFrom (now (m .entry)) bytes start frames ⌝ }
 {
-    let mut at = start;
     let mut i = 0;
-    let mut left = frames;
-    while 0 < left {
-        let v = at_16_bits(m, bytes, at);
-        out[i] = (v / 256) as u8;
-        out[i + 1] = (v % 256) as u8;
-        at = at + bytes;
-        i = i + 2;
-        left = left - 1;
+    while i < frames {
+        let v = at_16_bits(m, bytes, start + i * bytes);
+        out[2 * i] = (v / 256) as u8;
+        out[2 * i + 1] = (v % 256) as u8;
+        i = i + 1;
     }
 }
 

@@ -184,10 +184,7 @@ pub fn round_trip(library: Library, cells: &[u8], rows: u64, tracks: u64) -> Res
 
 /// Checks a module. The error says what differs, with the whole module where it is not too long to be read.
 pub fn module(library: Library, module: &[u8]) -> Result<(), String> {
-    let told = |what: String| match module.len() {
-        0..=4096 => format!("{what}\nmodule {module:02x?}"),
-        length => format!("{what}\nmodule of {length} bytes"),
-    };
+    let told = |what: String| with_module(what, module);
     let is = (library.check_module)(module);
     if is.place > module.len() as u64 {
         return Err(told(format!("check_module gives {is:?}, past the end")));
@@ -196,7 +193,15 @@ pub fn module(library: Library, module: &[u8]) -> Result<(), String> {
     same_answer("check_module", is, expected).map_err(told)
 }
 
-fn same_answer<A: PartialEq + Debug>(call: &str, is: A, expected: A) -> Result<(), String> {
+/// What differs, with the whole module where it is not too long to be read.
+pub fn with_module(what: String, module: &[u8]) -> String {
+    match module.len() {
+        0..=4096 => format!("{what}\nmodule {module:02x?}"),
+        length => format!("{what}\nmodule of {length} bytes"),
+    }
+}
+
+pub fn same_answer<A: PartialEq + Debug>(call: &str, is: A, expected: A) -> Result<(), String> {
     if is == expected {
         return Ok(());
     }
@@ -204,7 +209,7 @@ fn same_answer<A: PartialEq + Debug>(call: &str, is: A, expected: A) -> Result<(
 }
 
 /// The output and the guards on both sides.
-fn same_bytes(call: &str, is: &Lent, expected: &Lent) -> Result<(), String> {
+pub fn same_bytes(call: &str, is: &Lent, expected: &Lent) -> Result<(), String> {
     let differs = is
         .bytes
         .iter()

@@ -3,22 +3,12 @@
 
 #![allow(unsafe_code)]
 
-/// The answer of each call on packed rows.
-#[repr(C)]
-#[derive(Clone, Copy, Debug, PartialEq, Eq)]
-pub struct Answer {
-    pub number: u64,
-    pub place: u64,
-    pub length: u64,
-}
+mod answers;
 
-/// The answer of the check of a module.
-#[repr(C)]
-#[derive(Clone, Copy, Debug, PartialEq, Eq)]
-pub struct ModuleAnswer {
-    pub number: u64,
-    pub place: u64,
-}
+pub use answers::{
+    Answer, Cell, Envelope, Frames, Info, Instrument, ModuleAnswer, Name, Sample, Song, Told,
+    Version,
+};
 
 extern "C" {
     fn dbm0_check_pattern(stream: *const u8, length: usize, rows: u64, tracks: u64) -> Answer;
@@ -38,44 +28,72 @@ extern "C" {
         out: *mut u8,
         out_length: usize,
     ) -> Answer;
-    fn dbm0_check_module(module: *const u8, length: usize) -> ModuleAnswer;
 }
 
+extern "C" {
+    fn dbm0_check_module(module: *const u8, length: usize) -> ModuleAnswer;
+    fn dbm0_version(module: *const u8, length: usize) -> Told<Version>;
+    fn dbm0_name(module: *const u8, length: usize) -> Told<Name>;
+    fn dbm0_info(module: *const u8, length: usize) -> Told<Info>;
+    fn dbm0_song(module: *const u8, length: usize, song: usize) -> Told<Song>;
+    fn dbm0_entry(module: *const u8, length: usize, song: usize, entry: usize) -> Told<u16>;
+    fn dbm0_playlist(
+        module: *const u8,
+        length: usize,
+        song: usize,
+        out: *mut u8,
+        out_length: usize,
+    ) -> Answer;
+    fn dbm0_instrument(module: *const u8, length: usize, instrument: usize) -> Told<Instrument>;
+    fn dbm0_volume_envelopes(module: *const u8, length: usize) -> Told<u16>;
+    fn dbm0_panning_envelopes(module: *const u8, length: usize) -> Told<u16>;
+    fn dbm0_volume_envelope(module: *const u8, length: usize, envelope: usize) -> Told<Envelope>;
+    fn dbm0_panning_envelope(module: *const u8, length: usize, envelope: usize) -> Told<Envelope>;
+    fn dbm0_rows(module: *const u8, length: usize, pattern: usize) -> Told<u16>;
+    fn dbm0_cell(
+        module: *const u8,
+        length: usize,
+        pattern: usize,
+        row: usize,
+        track: usize,
+    ) -> Told<Cell>;
+    fn dbm0_cells(
+        module: *const u8,
+        length: usize,
+        pattern: usize,
+        out: *mut u8,
+        out_length: usize,
+    ) -> Answer;
+    fn dbm0_sample(module: *const u8, length: usize, sample: usize) -> Told<Sample>;
+    fn dbm0_frames(module: *const u8, length: usize, sample: usize) -> Told<Frames>;
+    fn dbm0_frame(module: *const u8, length: usize, sample: usize, frame: usize) -> Told<i16>;
+    fn dbm0_all_frames(
+        module: *const u8,
+        length: usize,
+        sample: usize,
+        out: *mut u8,
+        out_length: usize,
+    ) -> Answer;
+}
+
+// All calls below are sound for the same reasons: a pointer and a length are those of a slice that lives through the call, and a
+// lent `&mut` slice overlaps no other.
+
 pub fn check(stream: &[u8], rows: u64, tracks: u64) -> Answer {
-    // The pointer and length are those of a slice that lives through the call.
     unsafe { dbm0_check_pattern(stream.as_ptr(), stream.len(), rows, tracks) }
 }
 
 pub fn unpack(stream: &[u8], rows: u64, tracks: u64, out: &mut [u8]) -> Answer {
-    // As above, and a lent `&mut` slice overlaps no other.
-    unsafe {
-        dbm0_unpack_pattern(
-            stream.as_ptr(),
-            stream.len(),
-            rows,
-            tracks,
-            out.as_mut_ptr(),
-            out.len(),
-        )
-    }
+    let (start, length) = (out.as_mut_ptr(), out.len());
+    unsafe { dbm0_unpack_pattern(stream.as_ptr(), stream.len(), rows, tracks, start, length) }
 }
 
 pub fn pack(cells: &[u8], rows: u64, tracks: u64, out: &mut [u8]) -> Answer {
-    // As above.
-    unsafe {
-        dbm0_pack_pattern(
-            cells.as_ptr(),
-            cells.len(),
-            rows,
-            tracks,
-            out.as_mut_ptr(),
-            out.len(),
-        )
-    }
+    let (start, length) = (out.as_mut_ptr(), out.len());
+    unsafe { dbm0_pack_pattern(cells.as_ptr(), cells.len(), rows, tracks, start, length) }
 }
 
 pub fn check_module(module: &[u8]) -> ModuleAnswer {
-    // The pointer and length are those of a slice that lives through the call.
     unsafe { dbm0_check_module(module.as_ptr(), module.len()) }
 }
 
@@ -83,4 +101,79 @@ pub fn check_module(module: &[u8]) -> ModuleAnswer {
 pub fn check_module_at_null() -> ModuleAnswer {
     // The header allows NULL where the length is 0.
     unsafe { dbm0_check_module(std::ptr::null(), 0) }
+}
+
+pub fn version(module: &[u8]) -> Told<Version> {
+    unsafe { dbm0_version(module.as_ptr(), module.len()) }
+}
+
+pub fn name(module: &[u8]) -> Told<Name> {
+    unsafe { dbm0_name(module.as_ptr(), module.len()) }
+}
+
+pub fn info(module: &[u8]) -> Told<Info> {
+    unsafe { dbm0_info(module.as_ptr(), module.len()) }
+}
+
+pub fn song(module: &[u8], song: usize) -> Told<Song> {
+    unsafe { dbm0_song(module.as_ptr(), module.len(), song) }
+}
+
+pub fn entry(module: &[u8], song: usize, entry: usize) -> Told<u16> {
+    unsafe { dbm0_entry(module.as_ptr(), module.len(), song, entry) }
+}
+
+pub fn playlist(module: &[u8], song: usize, out: &mut [u8]) -> Answer {
+    let (start, length) = (out.as_mut_ptr(), out.len());
+    unsafe { dbm0_playlist(module.as_ptr(), module.len(), song, start, length) }
+}
+
+pub fn instrument(module: &[u8], instrument: usize) -> Told<Instrument> {
+    unsafe { dbm0_instrument(module.as_ptr(), module.len(), instrument) }
+}
+
+pub fn volume_envelopes(module: &[u8]) -> Told<u16> {
+    unsafe { dbm0_volume_envelopes(module.as_ptr(), module.len()) }
+}
+
+pub fn panning_envelopes(module: &[u8]) -> Told<u16> {
+    unsafe { dbm0_panning_envelopes(module.as_ptr(), module.len()) }
+}
+
+pub fn volume_envelope(module: &[u8], envelope: usize) -> Told<Envelope> {
+    unsafe { dbm0_volume_envelope(module.as_ptr(), module.len(), envelope) }
+}
+
+pub fn panning_envelope(module: &[u8], envelope: usize) -> Told<Envelope> {
+    unsafe { dbm0_panning_envelope(module.as_ptr(), module.len(), envelope) }
+}
+
+pub fn rows(module: &[u8], pattern: usize) -> Told<u16> {
+    unsafe { dbm0_rows(module.as_ptr(), module.len(), pattern) }
+}
+
+pub fn cell(module: &[u8], pattern: usize, row: usize, track: usize) -> Told<Cell> {
+    unsafe { dbm0_cell(module.as_ptr(), module.len(), pattern, row, track) }
+}
+
+pub fn cells(module: &[u8], pattern: usize, out: &mut [u8]) -> Answer {
+    let (start, length) = (out.as_mut_ptr(), out.len());
+    unsafe { dbm0_cells(module.as_ptr(), module.len(), pattern, start, length) }
+}
+
+pub fn sample(module: &[u8], sample: usize) -> Told<Sample> {
+    unsafe { dbm0_sample(module.as_ptr(), module.len(), sample) }
+}
+
+pub fn frames(module: &[u8], sample: usize) -> Told<Frames> {
+    unsafe { dbm0_frames(module.as_ptr(), module.len(), sample) }
+}
+
+pub fn frame(module: &[u8], sample: usize, frame: usize) -> Told<i16> {
+    unsafe { dbm0_frame(module.as_ptr(), module.len(), sample, frame) }
+}
+
+pub fn all_frames(module: &[u8], sample: usize, out: &mut [u8]) -> Answer {
+    let (start, length) = (out.as_mut_ptr(), out.len());
+    unsafe { dbm0_all_frames(module.as_ptr(), module.len(), sample, start, length) }
 }

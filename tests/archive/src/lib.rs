@@ -4,4 +4,7 @@
 
 pub mod compare;
 pub mod interface;
+pub mod large;
+pub mod queries;
+pub mod records;
 pub mod seeds;

@@ -2,11 +2,8 @@
 
 use archive::compare::{self, ARCHIVE};
 use archive::interface::{self, ModuleAnswer};
-use reference::chunks::Name;
-use reference::draft::{Chunk, Draft, Envelope, Instrument, Pattern, Sample, Song, Tune};
-
-/// A module has at most this many bytes.
-const MOST: usize = 16_777_216;
+use archive::large::{filled_up, with_last, MOST};
+use reference::draft::{Chunk, Envelope, Instrument, Pattern, Sample, Song, Tune};
 
 /// The archive agrees with the reference, and the answer is this one.
 #[track_caller]
@@ -32,26 +29,6 @@ fn refused_with(module: &mut [u8], place: usize, byte: u8, (number, at): (u64, u
     let stored = std::mem::replace(&mut module[place], byte);
     gives(module, number, at);
     module[place] = stored;
-}
-
-/// The bytes of a module, brought to a length by another chunk in front of all others.
-fn filled_up(mut draft: Draft, length: usize) -> Vec<u8> {
-    let data = length - draft.bytes().len() - 8;
-    draft
-        .chunks
-        .insert(0, Chunk::new(b"FILL", vec![0xA5; data]));
-    let module = draft.bytes();
-    assert_eq!(module.len(), length);
-    module
-}
-
-/// The same module with one chunk behind all others.
-fn with_last(tune: &Tune, name: &Name) -> Draft {
-    let mut draft = tune.draft();
-    let index = draft.index(name);
-    let last = draft.chunks.remove(index);
-    draft.chunks.push(last);
-    draft
 }
 
 #[test]

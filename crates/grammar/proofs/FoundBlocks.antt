@@ -1,0 +1,160 @@
+-- The blocks that queries find (theorems 13 and 14). A query finds a block only in a module that is accepted. There the blocks of each
+-- chunk fill it, so each lies in the chunk's data, and the chunk in the module; each begins where the one before it ends, and the last
+-- ends where the data do.
+use Prim.Native.Nat.{ℕ, zero, suc, _+_, _-_, _≤_, _<_}
+use mathlib.Core.Path.{_≡_, refl, sym, ap, _∙_}
+use mathlib.Core.List.{List, [], _∷_}
+use mathlib.Core.Bool.{Bool, true, false, cond}
+use native.Mathlib.Omega.{arith}
+use lib.Dec.{ltb}
+use borrow.Author.Tests.{eq-eqb, le-leb, ltb-false}
+use Rattle.refusal.specs.Numbers.{refusal}
+use Rattle.refusal.specs.Rules.{firstBroken}
+use Rattle.refusal.specs.declared.Cause.the-variants.{NotThere}
+use Rattle.refusal.specs.declared.Refusal.{Refusal}
+use Rattle.refusal.specs.declared.Verdict.{Verdict}
+use Rattle.refusal.specs.declared.Verdict.the-variants.{Accepted, Refused as VerdictRefused}
+use Rattle.layout.specs.Outlines.{outlineIf, outline}
+use Rattle.layout.specs.declared.Layout.{Layout}
+use Rattle.layout.specs.declared.Outline.{Outline}
+use Rattle.layout.specs.declared.Outline.the-variants.{Found as Opened, Refused as OpeningRefused}
+use Rattle.blocks.specs.Sizes.{sizeOf, placeAfter, firstBlock, blockAt}
+use Rattle.blocks.specs.Filling.{dataEnd}
+use Rattle.module.specs.Verdicts.{contentRules, contentIf, opened}
+use Rattle.queries.specs.Finding.{kindOf, chunkOf, countOf, firstOf, there, blockOf, foundIn, foundIf, found}
+use Rattle.queries.specs.declared.Thing.{Thing}
+use Rattle.queries.specs.declared.Thing.the-variants.{Song, Instrument, Pattern, Sample, VolumeEnvelope, PanningEnvelope}
+use Rattle.queries.specs.declared.Block.{Block}
+use Rattle.queries.specs.declared.Found.the-variants.{At, Refused}
+use Rattle.grammar.specs.Places.{oneOf}
+use Rattle.grammar.specs.Queries.{identifierOf, InChunk}
+use Rattle.grammar.proofs.Holding.{and-says, leb-says, ltb-says, accepted-hold}
+use Rattle.grammar.proofs.ChunkPlaces.{WholeAt, header-of, PlacesWhole, outline-places}
+use Rattle.grammar.proofs.ContentPlaces.{BlockIn, block-in, count-there}
+use Rattle.grammar.proofs.ContentRules.{BlocksHold, ContentHolds, content-hold}
+
+-- A module that opens: its layout is that of whole chunks, and the rules for its content all hold.
+pub record Opens (m : List ℕ) (l : Layout) : Type 0 where
+  pub places : PlacesWhole m l
+  pub content : ContentHolds m l
+
+pub module-opens : (m : List ℕ) (l : Layout) → opened m ≡ Opened l → Opens m l
+module-opens m l = go (outline m) refl
+  where
+    same : {k : Layout} → Opened k ≡ Opened l → k ≡ l
+    same e = cc
+
+    accepted : (k : Layout) → outline m ≡ Opened k → (v : Verdict) → firstBroken (contentRules m k) ≡ v → outlineIf v (Opened k) ≡ Opened l → Opens m l
+    accepted k h Accepted e o = rw (same o) at (let opens : Opens m k = record { places = outline-places m k h; content = content-hold m k .0 (accepted-hold (contentRules m k) .0 e) } in opens)
+    accepted k h (VerdictRefused r) e o = let z : _≡_ {A = ℕ} 0 1 = cc in absurd (omega arith)
+
+    go : (o : Outline) → outline m ≡ o → contentIf m o ≡ Opened l → Opens m l
+    go (Opened k) h e = accepted k h (firstBroken (contentRules m k)) refl e
+    go (OpeningRefused r) h e = let z : _≡_ {A = ℕ} 0 1 = cc in absurd (omega arith)
+
+-- The block that a query finds in a module that opens: that of a number which is counted.
+pub record Numbered (m : List ℕ) (l : Layout) (thing : Thing) (number : ℕ) (b : Block) : Type 0 where
+  pub first : firstOf thing ≤ number
+  pub counted : number - firstOf thing < countOf m l thing
+  pub block : b ≡ blockOf m l thing number
+
+found-in : (m : List ℕ) (l : Layout) (thing : Thing) (number : ℕ) (b : Block) → foundIn m l thing number ≡ At b → Numbered m l thing number b
+found-in m l thing number b = go (there m l thing number) refl
+  where
+    go : (t : Bool) → there m l thing number ≡ t → cond t (At (blockOf m l thing number)) (Refused (refusal NotThere 0)) ≡ At b → Numbered m l thing number b
+    go true h e =
+        let says = and-says _ _ .0 h in
+        record { first = leb-says (firstOf thing) number .0 (says .0); counted = ltb-says (number - firstOf thing) (countOf m l thing) .0 (says .1); block = cc }
+    go false h e = let z : _≡_ {A = ℕ} 0 1 = cc in absurd (omega arith)
+
+module _ (m : List ℕ) (thing : Thing) (number : ℕ) (b : Block) where
+  pub found-opened : found m thing number ≡ At b → (l : Layout) × (opened m ≡ Opened l)
+  found-opened = go (opened m) refl
+    where
+      go : (o : Outline) → opened m ≡ o → foundIf m thing number o ≡ At b → (l : Layout) × (opened m ≡ Opened l)
+      go (Opened l) h e = (l, h)
+      go (OpeningRefused r) h e = let z : _≡_ {A = ℕ} 0 1 = cc in absurd (omega arith)
+
+  pub found-numbered : (l : Layout) → opened m ≡ Opened l → found m thing number ≡ At b → Numbered m l thing number b
+  found-numbered l o e = found-in m l thing number b (sym (ap (foundIf m thing number) o) ∙ e)
+
+-- The chunk of a thing.
+module _ {m : List ℕ} {l : Layout} where
+  pub thing-whole : PlacesWhole m l → (thing : Thing) (i : ℕ) → i < countOf m l thing → WholeAt m (identifierOf thing) (chunkOf l thing)
+  thing-whole c Song i h = c .song
+  thing-whole c Instrument i h = c .inst
+  thing-whole c Pattern i h = c .patt
+  thing-whole c Sample i h = c .smpl
+  thing-whole c VolumeEnvelope i h = c .venv (count-there m (l .places .venv) i h)
+  thing-whole c PanningEnvelope i h = c .penv (count-there m (l .places .penv) i h)
+
+  pub thing-fills : BlocksHold m l → (thing : Thing) (i : ℕ) → i < countOf m l thing → blockAt m (kindOf thing) (chunkOf l thing) (countOf m l thing) ≡ dataEnd (chunkOf l thing)
+  thing-fills f Song i h = f .songs
+  thing-fills f Instrument i h = f .instruments
+  thing-fills f Pattern i h = f .patterns
+  thing-fills f Sample i h = f .samples
+  thing-fills f VolumeEnvelope i h = f .volumeEnvelopes (count-there m (l .places .venv) i h)
+  thing-fills f PanningEnvelope i h = f .panningEnvelopes (count-there m (l .places .penv) i h)
+
+-- 13.
+pub block-in-chunk : (m : List ℕ) (thing : Thing) (number : ℕ) (b : Block) → found m thing number ≡ At b → InChunk m thing (b .at)
+block-in-chunk m thing number b e = in-layout (found-opened m thing number b e .0) (found-opened m thing number b e .1)
+  where
+    in-layout : (l : Layout) → opened m ≡ Opened l → InChunk m thing (b .at)
+    in-layout l o =
+        let s = found-numbered m thing number b l o e in
+        let opens = module-opens m l o in
+        let i : ℕ = number - firstOf thing in
+        let w = thing-whole (opens .places) thing i (s .counted) in
+        let inside : BlockIn m (kindOf thing) (chunkOf l thing) (blockAt m (kindOf thing) (chunkOf l thing) i) = block-in m (kindOf thing) (chunkOf l thing) (countOf m l thing) i (thing-fills (opens .content .blocks) thing i (s .counted)) (s .counted) in
+        let one : oneOf (identifierOf thing) (identifierOf thing ∷ []) ≡ true = rw (eq-eqb (identifierOf thing) (identifierOf thing) refl) in
+        rw (s .block) (record {
+          layout = l;
+          opens = o;
+          present = w .present;
+          header = header-of w one;
+          size = w .size;
+          behind = inside .behind;
+          inside = inside .inside;
+          whole = w .inside;
+        })
+
+-- 14.
+pub first-block : (m : List ℕ) (l : Layout) (thing : Thing) (b : Block) → opened m ≡ Opened l → found m thing (firstOf thing) ≡ At b → b .at ≡ firstBlock (kindOf thing) (chunkOf l thing)
+first-block m l thing b o e =
+    let none : firstOf thing - firstOf thing ≡ 0 = omega arith in
+    ap (λ (c : Block). c .at) (found-numbered m thing (firstOf thing) b l o e .block) ∙ ap (blockAt m (kindOf thing) (chunkOf l thing)) none
+
+-- One block more leads to behind the last.
+after-more : (size : ℕ → ℕ) (n at : ℕ) → placeAfter size (suc n) at ≡ placeAfter size n at + size (placeAfter size n at)
+after-more size zero at = refl
+after-more size (suc n) at = after-more size n (at + size at)
+
+module _ (m : List ℕ) (thing : Thing) (number : ℕ) (b : Block) (e : found m thing number ≡ At b) where
+  next-in : (l : Layout) → opened m ≡ Opened l → blockAt m (kindOf thing) (chunkOf l thing) (number + 1 - firstOf thing) ≡ b .at + sizeOf (kindOf thing) m (b .at)
+  next-in l o =
+      let s = found-numbered m thing number b l o e in
+      let i : ℕ = number - firstOf thing in
+      let more : number + 1 - firstOf thing ≡ suc i = omega (arith, s .first) in
+      rw (s .block, more) (after-more (sizeOf (kindOf thing) m) i (firstBlock (kindOf thing) (chunkOf l thing)))
+
+  pub next-block : (c : Block) → found m thing (number + 1) ≡ At c → c .at ≡ b .at + sizeOf (kindOf thing) m (b .at)
+  next-block c f = in-layout (found-opened m thing number b e .0) (found-opened m thing number b e .1)
+    where
+      in-layout : (l : Layout) → opened m ≡ Opened l → c .at ≡ b .at + sizeOf (kindOf thing) m (b .at)
+      in-layout l o = ap (λ (d : Block). d .at) (found-numbered m thing (number + 1) c l o f .block) ∙ next-in l o
+
+  pub last-block : (l : Layout) (r : Refusal) → opened m ≡ Opened l → found m thing (number + 1) ≡ Refused r → b .at + sizeOf (kindOf thing) m (b .at) ≡ dataEnd (chunkOf l thing)
+  last-block l r o f = go (ltb (number + 1 - firstOf thing) (countOf m l thing)) refl
+    where
+      s : Numbered m l thing number b
+      s = found-numbered m thing number b l o e
+
+      go : (t : Bool) → ltb (number + 1 - firstOf thing) (countOf m l thing) ≡ t → b .at + sizeOf (kindOf thing) m (b .at) ≡ dataEnd (chunkOf l thing)
+      go true h =
+          let more : found m thing (number + 1) ≡ At (blockOf m l thing (number + 1)) = ap (foundIf m thing (number + 1)) o ∙ simp (le-leb (firstOf thing) (number + 1) (omega (arith, s .first)), h) in
+          let z : _≡_ {A = ℕ} 0 1 = cc in
+          absurd (omega arith)
+      go false h =
+          let all : number + 1 - firstOf thing ≡ countOf m l thing = omega (arith, s .first, s .counted, ltb-false (number + 1 - firstOf thing) (countOf m l thing) h) in
+          sym (next-in l o) ∙ ap (blockAt m (kindOf thing) (chunkOf l thing)) all ∙ thing-fills (module-opens m l o .content .blocks) thing (number - firstOf thing) (s .counted)

@@ -1,0 +1,163 @@
+-- The register samples P1 to P12 (document 01, "Register samples"), as the rows of one table under one statement: what the definitions
+-- give, as numbers, is what the register says. P1 to P9 are streams, P10 to P12 small modules, written out byte by byte.
+use Prim.Native.Nat.{ℕ, suc}
+use mathlib.Core.Path.{_≡_, refl}
+use mathlib.Core.List.{List, [], _∷_, _++_, map}
+use lib.ListN.{length, take, replicate}
+use lib.IntN.{ℤ, pos, negsuc}
+use Rattle.refusal.specs.Numbers.{verdictNumber, verdictPlace}
+use Rattle.refusal.specs.declared.Verdict.{Verdict}
+use Rattle.cells.specs.Cells.{joined, rowsOf}
+use Rattle.packed_rows.specs.Stream.{readFrom, reading, cellsRead}
+use Rattle.packed_rows.specs.Packer.{packedStream}
+use Rattle.packed_rows.specs.Answers.{checkAnswer, cellOf, cellNumbers}
+use Rattle.numbers.specs.Numbers.{byteAt, number16, number32}
+use Rattle.layout.specs.Chunks.{chunksFrom, chunks}
+use Rattle.blocks.specs.Sizes.{sizeOf}
+use Rattle.module.specs.Verdicts.{moduleVerdict}
+use Rattle.envelopes.specs.Shown.{envelopeAnswer}
+use Rattle.envelopes.specs.declared.EnvelopeAnswer.{EnvelopeAnswer}
+use Rattle.envelopes.specs.declared.EnvelopeKind.the-variants.{Panning}
+use Rattle.samples.specs.Shown.{frameAnswer}
+use Rattle.samples.specs.declared.FrameAnswer.{FrameAnswer}
+use Rattle.grammar.specs.Rules.{infoLetters, songLetters, instLetters, pattLetters, smplLetters, penvLetters}
+
+-- A row of the table: the sample's number, what the definitions give, and what the register says.
+pub record Sample : Type 0 where
+  pub number : ℕ
+  pub found : List ℕ
+  pub registered : List ℕ
+
+-- A verdict as number and place; 0 0 is accepted.
+verdictNumbers : Verdict → List ℕ
+verdictNumbers v = verdictNumber v ∷ verdictPlace v ∷ []
+
+-- What the check of a stream says.
+checked : ℕ → ℕ → List ℕ → List ℕ
+unfolding verdictNumbers
+checked rows tracks stream = verdictNumbers (checkAnswer stream rows tracks)
+
+-- What the cells of a stream pack to.
+repacked : ℕ → ℕ → List ℕ → List ℕ
+repacked rows tracks stream = packedStream (rowsOf rows tracks (cellsRead rows tracks stream))
+
+p1 : List ℕ
+p1 = 0x02 ∷ 0x03 ∷ 0x47 ∷ 0x01 ∷ 0x00 ∷ 0x00 ∷ []
+
+p2 : List ℕ
+p2 = 0x02 ∷ 0x01 ∷ 0x47 ∷ 0x02 ∷ 0x02 ∷ 0x01 ∷ 0x00 ∷ 0x00 ∷ []
+
+p3 : List ℕ
+p3 = 0x02 ∷ 0x07 ∷ 0x47 ∷ 0x01 ∷ 0x00 ∷ 0x00 ∷ 0x00 ∷ []
+
+p4 : List ℕ
+p4 = 0x01 ∷ 0x01 ∷ 0x47 ∷ 0x01 ∷ 0x01 ∷ 0x00 ∷ 0x00 ∷ []
+
+p5 : List ℕ
+p5 = 0x01 ∷ 0x00 ∷ 0x00 ∷ []
+
+p7 : List ℕ
+p7 = 0x05 ∷ 0x01 ∷ 0x47 ∷ 0x00 ∷ []
+
+p8 : List ℕ
+p8 = 0x01 ∷ 0x41 ∷ 0x47 ∷ 0x00 ∷ []
+
+p9 : List ℕ
+p9 = 0x00 ∷ []
+
+accepted : List ℕ
+accepted = 0 ∷ 0 ∷ []
+
+-- A signed number as two: 1 and its magnitude where it is negative, else 0 and itself.
+signNumbers : ℤ → List ℕ
+signNumbers (pos n) = 0 ∷ n ∷ []
+signNumbers (negsuc n) = 1 ∷ suc n ∷ []
+
+-- What the check of a module says.
+moduleChecked : List ℕ → List ℕ
+unfolding verdictNumbers
+moduleChecked m = verdictNumbers (moduleVerdict m)
+
+-- The first so many values of an envelope as it is shown, behind number and place of its refusal; and a frame likewise.
+valueNumbers : ℕ → EnvelopeAnswer → List ℕ
+unfolding signNumbers
+valueNumbers n a = a .number ∷ a .place ∷ joined (map signNumbers (take n (a .values)))
+
+frameNumbers : FrameAnswer → List ℕ
+unfolding signNumbers
+frameNumbers a = a .number ∷ a .place ∷ signNumbers (a .frame)
+
+-- A chunk of less than 256 bytes of data.
+chunk : List ℕ → List ℕ → List ℕ
+chunk letters bytes = letters ++ (0 ∷ 0 ∷ 0 ∷ length bytes ∷ bytes)
+
+-- A module of 4 tracks with no song and no pattern, by its version, its numbers of instruments and samples, and the data of INST and
+-- SMPL; and chunks behind them.
+smallModule : ℕ → ℕ → ℕ → List ℕ → List ℕ → List ℕ → List ℕ
+unfolding chunk
+smallModule version instruments samples inst smpl after =
+    (0x44 ∷ 0x42 ∷ 0x4D ∷ 0x30 ∷ version ∷ 0 ∷ 0 ∷ 0 ∷ [])
+    ++ (chunk infoLetters (0 ∷ instruments ∷ 0 ∷ samples ∷ 0 ∷ 0 ∷ 0 ∷ 0 ∷ 0 ∷ 4 ∷ [])
+    ++ (chunk songLetters []
+    ++ (chunk instLetters inst
+    ++ (chunk pattLetters []
+    ++ (chunk smplLetters smpl
+    ++ after)))))
+
+-- An instrument, by its sample, its loop's start and length (4 bytes each) and its flags: no name, volume, rate and panning 0.
+instrument : ℕ → List ℕ → List ℕ → ℕ → List ℕ
+instrument sample start size flags =
+    replicate 30 0 ++ (0 ∷ sample ∷ 0 ∷ 0 ∷ 0 ∷ 0 ∷ 0 ∷ 0 ∷ (start ++ (size ++ (0 ∷ 0 ∷ 0 ∷ flags ∷ []))))
+
+-- P10: a sample of 100 frames of 8 bits, and an instrument of it with a forward loop. Its block stands at 42.
+p10 : List ℕ → List ℕ → List ℕ
+unfolding smallModule instrument
+p10 start size = smallModule 3 1 1 (instrument 1 start size 1) (0 ∷ 0 ∷ 0 ∷ 1 ∷ 0 ∷ 0 ∷ 0 ∷ 100 ∷ replicate 100 0) []
+
+-- P11: version 2, and one panning envelope of three points, at 118. The value of the last point stands at 136.
+p11 : ℕ → ℕ → ℕ → List ℕ
+unfolding smallModule instrument chunk
+p11 first second third =
+    smallModule 2 1 0 (instrument 0 (replicate 4 0) (replicate 4 0) 0) []
+    (chunk penvLetters (0 ∷ 1 ∷ 0 ∷ 1 ∷ 1 ∷ 2 ∷ 0 ∷ 0 ∷ 0 ∷ 0 ∷ 0 ∷ 0 ∷ 0 ∷ first ∷ 0 ∷ 0 ∷ 0 ∷ second ∷ 0 ∷ 0 ∷ 0 ∷ third ∷ replicate 116 0))
+
+-- P12: a sample of one frame, by its flags and its bytes.
+p12 : ℕ → List ℕ → List ℕ
+unfolding smallModule
+p12 flags frame = smallModule 3 0 1 [] (0 ∷ 0 ∷ 0 ∷ flags ∷ 0 ∷ 0 ∷ 0 ∷ 1 ∷ frame) []
+
+pub samples : List Sample
+unfolding checked repacked p1 p2 p3 p4 p5 p7 p8 p9 accepted moduleChecked valueNumbers frameNumbers p10 p11 p12
+samples =
+    record { number = 1; found = checked 2 4 p1; registered = accepted }
+    ∷ record { number = 1; found = cellNumbers (cellOf p1 2 4 0 2); registered = 0 ∷ 0 ∷ 0x47 ∷ 1 ∷ 0 ∷ 0 ∷ 0 ∷ 0 ∷ [] }
+    ∷ record { number = 1; found = repacked 2 4 p1; registered = p1 }
+    ∷ record { number = 2; found = checked 2 4 p2; registered = accepted }
+    ∷ record { number = 2; found = cellsRead 2 4 p2; registered = cellsRead 2 4 p1 }
+    ∷ record { number = 2; found = repacked 2 4 p2; registered = p1 }
+    ∷ record { number = 3; found = checked 2 4 p3; registered = accepted }
+    ∷ record { number = 3; found = cellsRead 2 4 p3; registered = cellsRead 2 4 p1 }
+    ∷ record { number = 3; found = repacked 2 4 p3; registered = p1 }
+    ∷ record { number = 4; found = checked 1 4 p4; registered = accepted }
+    ∷ record { number = 4; found = repacked 1 4 p4; registered = 0 ∷ [] }
+    ∷ record { number = 5; found = checked 1 4 p5; registered = accepted }
+    ∷ record { number = 5; found = repacked 1 4 p5; registered = 0 ∷ [] }
+    ∷ record { number = 6; found = checked 0 4 []; registered = accepted }
+    ∷ record { number = 6; found = checked 0 4 (0 ∷ []); registered = 15 ∷ 0 ∷ [] }
+    ∷ record { number = 7; found = checked 1 4 p7; registered = 15 ∷ 0 ∷ [] }
+    ∷ record { number = 7; found = checked 1 6 p7; registered = accepted }
+    ∷ record { number = 8; found = checked 1 4 p8; registered = 15 ∷ 0 ∷ [] }
+    ∷ record { number = 9; found = checked 2 4 p9; registered = 15 ∷ 1 ∷ [] }
+    ∷ record { number = 10; found = moduleChecked (p10 (0 ∷ 0 ∷ 0 ∷ 90 ∷ []) (0 ∷ 0 ∷ 0 ∷ 10 ∷ [])); registered = accepted }
+    ∷ record { number = 10; found = moduleChecked (p10 (0 ∷ 0 ∷ 0 ∷ 90 ∷ []) (0 ∷ 0 ∷ 0 ∷ 11 ∷ [])); registered = 14 ∷ 42 ∷ [] }
+    ∷ record { number = 10; found = moduleChecked (p10 (0xFF ∷ 0xFF ∷ 0xFF ∷ 0xFF ∷ []) (0 ∷ 0 ∷ 0 ∷ 2 ∷ [])); registered = 14 ∷ 42 ∷ [] }
+    ∷ record { number = 11; found = valueNumbers 3 (envelopeAnswer (p11 0 32 64) Panning 0); registered = 0 ∷ 0 ∷ 1 ∷ 128 ∷ 0 ∷ 0 ∷ 0 ∷ 128 ∷ [] }
+    ∷ record { number = 11; found = moduleChecked (p11 0 32 65); registered = 13 ∷ 136 ∷ [] }
+    ∷ record { number = 12; found = frameNumbers (frameAnswer (p12 4 (0xFF ∷ 0xFF ∷ 0xFF ∷ 0xFF ∷ [])) 1 0); registered = 0 ∷ 0 ∷ 1 ∷ 1 ∷ [] }
+    ∷ record { number = 12; found = frameNumbers (frameAnswer (p12 1 (0x80 ∷ [])) 1 0); registered = 0 ∷ 0 ∷ 1 ∷ 32768 ∷ [] }
+    ∷ []
+
+-- The statement.
+pub samples-agree : map (λ (s : Sample). s .found) samples ≡ map (λ (s : Sample). s .registered) samples
+unfolding samples readFrom reading byteAt number16 number32 chunksFrom chunks sizeOf
+samples-agree = refl

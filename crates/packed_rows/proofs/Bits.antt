@@ -1,0 +1,41 @@
+-- Masks: the bits of a number, and the number of bits, undo each other.
+use Prim.Native.Nat.{ℕ, zero, suc, _+_, _*_, _/_, _%_, _^_, _<_}
+use native.Mathlib.Nat.{pow-suc}
+use native.Mathlib.Omega.{arith}
+use mathlib.Core.Path.{_≡_, refl}
+use mathlib.Core.List.{List, [], _∷_}
+use mathlib.Core.Bool.{Bool, true, false, cond}
+use borrow.Author.Tests.{eqb-true, eqb-false, eq-eqb, ne-eqb}
+use lib.ListN.{length}
+use lib.Dec.{eqb}
+use Rattle.packed_rows.specs.Entries.{bits}
+use Rattle.packed_rows.specs.Packer.{ofBits}
+
+-- A number whose lowest bit is b, above which m stands.
+low-bit : (b : Bool) (m : ℕ) → eqb ((cond b 1 0 + 2 * m) % 2) 1 ≡ b
+low-bit true m = eq-eqb ((1 + 2 * m) % 2) 1 (omega arith)
+low-bit false m = ne-eqb ((0 + 2 * m) % 2) 1 (λ q. omega arith)
+
+high-bits : (b : Bool) (m : ℕ) → (cond b 1 0 + 2 * m) / 2 ≡ m
+high-bits true m = omega arith
+high-bits false m = omega arith
+
+pub bits-of : (n : ℕ) (bs : List Bool) → length bs ≡ n → bits n (ofBits bs) ≡ bs
+bits-of n [] l = rw (← l)
+bits-of n (b ∷ bs) l = rw (← l) (rw (low-bit b (ofBits bs), high-bits b (ofBits bs), bits-of (length bs) bs refl))
+
+pub of-bits : (n m : ℕ) → m < 2 ^ n → ofBits (bits n m) ≡ m
+of-bits zero m h = omega arith
+of-bits (suc n) m h = rw (of-bits n (m / 2) (omega (arith, pow-suc 2 n))) (go (eqb (m % 2) 1) refl)
+  where
+    go : (b : Bool) → eqb (m % 2) 1 ≡ b → cond b 1 0 + 2 * (m / 2) ≡ m
+    go true q = omega (arith, eqb-true (m % 2) 1 q)
+    go false q = let even : ¬ (m % 2 ≡ 1) = eqb-false (m % 2) 1 q in omega arith
+
+pub of-bits-below : (n : ℕ) (bs : List Bool) → length bs ≡ n → ofBits bs < 2 ^ n
+of-bits-below n [] l = rw (← l) (omega arith)
+of-bits-below n (b ∷ bs) l = rw (← l) (go b (of-bits-below (length bs) bs refl))
+  where
+    go : (b : Bool) → ofBits bs < 2 ^ length bs → cond b 1 0 + 2 * ofBits bs < 2 ^ suc (length bs)
+    go true h = omega (arith, pow-suc 2 (length bs))
+    go false h = omega (arith, pow-suc 2 (length bs))

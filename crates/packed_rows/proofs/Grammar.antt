@@ -1,0 +1,202 @@
+-- The reader and the stream rules say the same. A stream is read whole, as these entries, exactly where it is so many rows of
+-- them, sound, with their row ends; it is refused at a place exactly where it is sound up to there and broken there.
+-- So a stream has one list of entries or one place of its fault, and no accepted stream begins another.
+use Prim.Native.Nat.{ℕ, zero, suc, _+_, _-_, _<_}
+use mathlib.Core.Path.{_≡_, refl, sym, ap, subst, _∙_}
+use mathlib.Core.Logic.{_↔_, _⊎_, inl, inr}
+use mathlib.Core.List.{List, [], _∷_, _++_, map, append-assoc, append-nil}
+use mathlib.Core.Bool.{true}
+use native.Mathlib.Omega.{arith}
+use native.Mathlib.Nat.{zero-add}
+use lib.ListN.{length, length-append}
+use Rattle.cells.specs.Cells.{joined}
+use Rattle.packed_rows.specs.Entries.{Entry, entryBytes, soundEntry, rowStream, streamOf}
+use Rattle.packed_rows.specs.Stream.{Reading, brokenAt, whole, newRow, addEntry, reading, readStream}
+use Rattle.packed_rows.specs.Theorems.{every, allSound, StreamOf, BrokenAt}
+use Rattle.packed_rows.proofs.Reading.{Neither, both-true, true-both, front-entry, reading-end, reading-over, reading-row-end, reading-entry, reading-broken, along}
+
+-- The bytes of entries.
+abbrev run : List Entry → List ℕ
+run es = joined (map entryBytes es)
+
+-- What reading from a place on says of the stream.
+abbrev Told : ℕ → ℕ → ℕ → List ℕ → Reading → Type 0
+Told tracks rows at s (brokenAt p) = (q : ℕ) × (at + q ≡ p) × BrokenAt rows tracks s q
+Told tracks rows at s (whole entries) = StreamOf rows tracks s entries
+
+-- What stands before a broken stream joins the sound bytes before its fault.
+module _ (tracks rows rows′ q : ℕ) (head rest : List ℕ) (b : BrokenAt rows tracks rest q) where
+  broken-behind : (full : List (List Entry)) (unfinished : List Entry) → allSound tracks full ≡ true → every (soundEntry tracks) unfinished ≡ true → streamOf full ++ run unfinished ≡ head ++ (streamOf (b .full) ++ run (b .unfinished)) → (length (b .full) < rows → length full < rows′) → (length (b .full) ≡ rows → b .unfinished ≡ [] → (length full ≡ rows′) × (unfinished ≡ [])) → BrokenAt rows′ tracks (head ++ rest) (length head + q)
+  broken-behind full unfinished s t grown less same = record {
+    full = full;
+    unfinished = unfinished;
+    after = b .after;
+    fullSound = s;
+    unfinishedSound = t;
+    splits = rw (grown, append-assoc) (ap (λ (l : List ℕ). head ++ l) (b .splits));
+    there = rw (grown, length-append) (ap (λ (n : ℕ). length head + n) (b .there));
+    why = elim (b .why) [ inl w ↦ inl (less (w .0), w .1, w .2) | inr w ↦ inr (same (w .0) (w .1) .0, same (w .0) (w .1) .1, w .2) ];
+  }
+
+broken-row-end : (tracks rows q : ℕ) (rest : List ℕ) → BrokenAt rows tracks rest q → BrokenAt (suc rows) tracks (0 ∷ rest) (1 + q)
+broken-row-end tracks rows q rest b =
+    broken-behind tracks rows (suc rows) q (0 ∷ []) rest b ([] ∷ b .full) (b .unfinished) (b .fullSound) (b .unfinishedSound) refl (λ l. omega arith) (λ l u. (ap suc l, u))
+
+-- A sound entry joins the first row of sound ones.
+first-sound : (tracks : ℕ) (e : Entry) (es : List Entry) (rows : List (List Entry)) → soundEntry tracks e ≡ true → allSound tracks (es ∷ rows) ≡ true → allSound tracks ((e ∷ es) ∷ rows) ≡ true
+first-sound tracks e es rows h s =
+    let u = both-true (every (soundEntry tracks) es) (allSound tracks rows) s in
+    true-both (true-both h (u .0)) (u .1)
+
+broken-entry : (tracks rows q : ℕ) (e : Entry) (rest : List ℕ) → soundEntry tracks e ≡ true → BrokenAt (suc rows) tracks rest q → BrokenAt (suc rows) tracks (entryBytes e ++ rest) (length (entryBytes e) + q)
+broken-entry tracks rows q e rest h b = go (b .full) refl
+  where
+    go : (full : List (List Entry)) → b .full ≡ full → BrokenAt (suc rows) tracks (entryBytes e ++ rest) (length (entryBytes e) + q)
+    go [] p =
+        broken-behind tracks (suc rows) (suc rows) q (entryBytes e) rest b [] (e ∷ b .unfinished) refl (true-both h (b .unfinishedSound)) (rw p) (λ l. omega arith)
+        (λ l u. absurd (omega (arith, rw p at l)))
+    go (es ∷ full) p =
+        broken-behind tracks (suc rows) (suc rows) q (entryBytes e) rest b ((e ∷ es) ∷ full) (b .unfinished) (first-sound tracks e es full h (rw p at (b .fullSound))) (b .unfinishedSound)
+        (rw p (simp append-assoc)) (λ l. rw p at l) (λ l u. (rw p at l, u))
+
+-- Broken at its front.
+broken-here : (tracks rows : ℕ) (s : List ℕ) → ((0 < rows) × Neither tracks s) ⊎ ((0 ≡ rows) × (s ≡ [] → ⊥)) → BrokenAt rows tracks s 0
+broken-here tracks rows s why = record {
+  full = [];
+  unfinished = [];
+  after = s;
+  fullSound = refl;
+  unfinishedSound = refl;
+  splits = refl;
+  there = refl;
+  why = elim why [ inl w ↦ inl (w .0, w .1 .0, w .1 .1) | inr w ↦ inr (w .0, refl, w .1) ];
+}
+
+-- What a reading says is so.
+told : (tracks rows at : ℕ) (s : List ℕ) → Told tracks rows at s (reading tracks rows at s)
+told tracks =
+    along tracks (Told tracks) (λ at. record { count = refl; sound = refl; bytes = refl })
+    (λ at b s. (0, omega arith, broken-here tracks 0 (b ∷ s) (inr (refl, λ e. let z : _≡_ {A = ℕ} 0 1 = cc in omega arith))))
+    (λ rows at s n. (0, omega arith, broken-here tracks (suc rows) s (inl (omega arith, n))))
+    row-end-told entry-told
+  where
+    row-end-told : (rows at : ℕ) (rest : List ℕ) (r : Reading) → Told tracks rows (at + 1) rest r → Told tracks (suc rows) at (0 ∷ rest) (newRow r)
+    row-end-told rows at rest (brokenAt p) t = (1 + t .0, omega arith, broken-row-end tracks rows (t .0) rest (t .2))
+    row-end-told rows at rest (whole es) t = record { count = ap suc (t .count); sound = t .sound; bytes = ap (λ (l : List ℕ). 0 ∷ l) (t .bytes) }
+
+    entry-told : (rows at : ℕ) (e : Entry) (rest : List ℕ) (r : Reading) → soundEntry tracks e ≡ true → Told tracks (suc rows) (at + length (entryBytes e)) rest r → Told tracks (suc rows) at (entryBytes e ++ rest) (addEntry e r)
+    entry-told rows at e rest (brokenAt p) h t = (length (entryBytes e) + t .0, omega arith, broken-entry tracks rows (t .0) e rest h (t .2))
+    entry-told rows at e rest (whole []) h t = absurd (omega (arith, t .count))
+    entry-told rows at e rest (whole (es ∷ rows′)) h t =
+        record { count = t .count; sound = first-sound tracks e es rows′ h (t .sound); bytes = rw (t .bytes) (simp append-assoc) }
+
+-- Entries, and rows of them, before what is read behind them.
+addEntries : List Entry → Reading → Reading
+addEntries [] r = r
+addEntries (e ∷ es) r = addEntry e (addEntries es r)
+
+addRows : List (List Entry) → Reading → Reading
+addRows [] r = r
+addRows (es ∷ rows) r = addEntries es (newRow (addRows rows r))
+
+entries-broken : (es : List Entry) (p : ℕ) → addEntries es (brokenAt p) ≡ brokenAt p
+unfolding addEntries
+entries-broken [] p = refl
+entries-broken (e ∷ es) p = rw (entries-broken es p)
+
+rows-broken : (rows : List (List Entry)) (p : ℕ) → addRows rows (brokenAt p) ≡ brokenAt p
+unfolding addRows
+rows-broken [] p = refl
+rows-broken (es ∷ rows) p = rw (rows-broken rows p) (entries-broken es p)
+
+entries-whole : (es : List Entry) (rows : List (List Entry)) → addEntries es (whole ([] ∷ rows)) ≡ whole (es ∷ rows)
+unfolding addEntries
+entries-whole [] rows = refl
+entries-whole (e ∷ es) rows = rw (entries-whole es rows)
+
+rows-whole : (rows : List (List Entry)) → addRows rows (whole []) ≡ whole rows
+unfolding addRows
+rows-whole [] = refl
+rows-whole (es ∷ rows) = rw (rows-whole rows) (entries-whole es rows)
+
+-- Sound entries, and rows of them, are read over.
+past-entries : (tracks rows at to : ℕ) (es : List Entry) (s : List ℕ) → every (soundEntry tracks) es ≡ true → at + length (run es) ≡ to → reading tracks (suc rows) at (run es ++ s) ≡ addEntries es (reading tracks (suc rows) to s)
+unfolding addEntries
+past-entries tracks rows at to [] s h p = let q : at ≡ to = omega arith in rw q
+past-entries tracks rows at to (e ∷ es) s h p =
+    let u = both-true (soundEntry tracks e) (every (soundEntry tracks) es) h in
+    let ih = past-entries tracks rows (at + length (entryBytes e)) to es s (u .1) (omega (arith, length-append (entryBytes e) (run es))) in
+    rw append-assoc (reading-entry tracks rows at _ e _ (front-entry tracks e (run es ++ s) (u .0)) ∙ ap (addEntry e) ih)
+
+past-rows : (tracks left rows at to : ℕ) (full : List (List Entry)) (s : List ℕ) → allSound tracks full ≡ true → length full + left ≡ rows → at + length (streamOf full) ≡ to → reading tracks rows at (streamOf full ++ s) ≡ addRows full (reading tracks left to s)
+unfolding addRows
+past-rows tracks left rows at to [] s h n p = let q : at ≡ to = omega arith in let m : left ≡ rows = omega arith in rw (q, m)
+past-rows tracks left zero at to (es ∷ full) s h n p = absurd (omega arith)
+past-rows tracks left (suc rows) at to (es ∷ full) s h n p =
+    let u = both-true (every (soundEntry tracks) es) (allSound tracks full) h in
+    let mid : ℕ = at + length (run es) in
+    let ih = past-rows tracks left rows (mid + 1) to full s (u .1) (omega arith) (omega (arith, length-append (rowStream es) (streamOf full), length-append (run es) (0 ∷ []))) in
+    simp append-assoc (past-entries tracks rows at mid es (0 ∷ (streamOf full ++ s)) (u .0) refl ∙ ap (addEntries es) (reading-row-end tracks rows mid _ (streamOf full ++ s) refl ∙ ap newRow ih))
+
+-- A fault behind sound rows is the fault of the whole.
+past-fault : (tracks left rows at p : ℕ) (full : List (List Entry)) (s : List ℕ) → allSound tracks full ≡ true → length full + left ≡ rows → reading tracks left (at + length (streamOf full)) s ≡ brokenAt p → reading tracks rows at (streamOf full ++ s) ≡ brokenAt p
+past-fault tracks left rows at p full s h n e = past-rows tracks left rows at _ full s h n refl ∙ ap (addRows full) e ∙ rows-broken full p
+
+-- Bytes left over behind the last row.
+reading-left : (tracks at : ℕ) (s : List ℕ) → (s ≡ [] → ⊥) → reading tracks 0 at s ≡ brokenAt at
+reading-left tracks at [] h = absurd (h refl)
+reading-left tracks at (b ∷ s) h = reading-over tracks at b s
+
+-- Read whole, at any place: exactly the rows of sound entries with their row ends.
+pub reads-from : (rows tracks at : ℕ) (stream : List ℕ) (entries : List (List Entry)) → (reading tracks rows at stream ≡ whole entries) ↔ StreamOf rows tracks stream entries
+reads-from rows tracks at stream entries = (λ e. subst (Told tracks rows at stream) e (told tracks rows at stream), back)
+  where
+    back : StreamOf rows tracks stream entries → reading tracks rows at stream ≡ whole entries
+    back h =
+        rw (h .bytes ∙ sym (append-nil (streamOf entries)))
+        (past-rows tracks 0 rows at _ entries [] (h .sound) (omega (arith, h .count)) refl ∙ ap (addRows entries) (reading-end tracks _) ∙ rows-whole entries)
+
+pub reads-exactly : (rows tracks : ℕ) (stream : List ℕ) (entries : List (List Entry)) → (readStream rows tracks stream ≡ whole entries) ↔ StreamOf rows tracks stream entries
+reads-exactly rows tracks = reads-from rows tracks 0
+
+pub reads-one : (rows tracks : ℕ) (stream : List ℕ) (entries entries′ : List (List Entry)) → StreamOf rows tracks stream entries → StreamOf rows tracks stream entries′ → entries ≡ entries′
+reads-one rows tracks stream entries entries′ h h′ = cc (reads-exactly rows tracks stream entries .1 h, reads-exactly rows tracks stream entries′ .1 h′)
+
+-- Refused, read from any place: exactly the streams broken so many bytes further.
+pub refused-from : (rows tracks at : ℕ) (stream : List ℕ) (p : ℕ) → (reading tracks rows at stream ≡ brokenAt (at + p)) ↔ BrokenAt rows tracks stream p
+refused-from rows tracks at stream p = (forth, back)
+  where
+    forth : reading tracks rows at stream ≡ brokenAt (at + p) → BrokenAt rows tracks stream p
+    forth e =
+        let t : Told tracks rows at stream (brokenAt (at + p)) = subst (Told tracks rows at stream) e (told tracks rows at stream) in
+        let q : t .0 ≡ p = omega arith in
+        rw q at (t .2)
+
+    back : BrokenAt rows tracks stream p → reading tracks rows at stream ≡ brokenAt (at + p)
+    back b =
+        let to : ℕ = at + length (streamOf (b .full)) in
+        let far : to + length (run (b .unfinished)) ≡ at + p = omega (arith, length-append (streamOf (b .full)) (run (b .unfinished)), b .there) in
+        rw (b .splits ∙ append-assoc (streamOf (b .full)) (run (b .unfinished)) (b .after))
+        (elim (b .why) [
+          | inl w ↦
+              let k : ℕ = rows - suc (length (b .full)) in
+              past-fault tracks (suc k) rows at (at + p) (b .full) (run (b .unfinished) ++ b .after) (b .fullSound) (omega (arith, w .0))
+              (past-entries tracks k to (at + p) (b .unfinished) (b .after) (b .unfinishedSound) far ∙ ap (addEntries (b .unfinished)) (reading-broken tracks k (at + p) (b .after) (w .1, w .2)) ∙ entries-broken (b .unfinished) (at + p))
+          | inr w ↦
+              past-fault tracks 0 rows at (at + p) (b .full) (run (b .unfinished) ++ b .after) (b .fullSound) (omega (arith, w .0))
+              (let here : to ≡ at + p = omega (arith, rw (w .1) at far) in rw (w .1, here) (reading-left tracks (at + p) (b .after) (w .2)))
+        ])
+
+pub refused-exactly : (rows tracks : ℕ) (stream : List ℕ) (p : ℕ) → (readStream rows tracks stream ≡ brokenAt p) ↔ BrokenAt rows tracks stream p
+refused-exactly rows tracks stream p = rw zero-add at (refused-from rows tracks 0 stream p)
+
+pub one-place : (rows tracks : ℕ) (stream : List ℕ) (p p′ : ℕ) → BrokenAt rows tracks stream p → BrokenAt rows tracks stream p′ → p ≡ p′
+one-place rows tracks stream p p′ h h′ = cc (refused-exactly rows tracks stream p .1 h, refused-exactly rows tracks stream p′ .1 h′)
+
+pub no-proper-beginning : (rows tracks : ℕ) (a b : List ℕ) (es es′ : List (List Entry)) → readStream rows tracks a ≡ whole es → readStream rows tracks (a ++ b) ≡ whole es′ → b ≡ []
+no-proper-beginning rows tracks a [] es es′ h h′ = refl
+no-proper-beginning rows tracks a (x ∷ b) es es′ h h′ =
+    let s = reads-exactly rows tracks a es .0 h in
+    let broken : readStream rows tracks (a ++ (x ∷ b)) ≡ brokenAt (0 + length (streamOf es)) = rw (s .bytes) (past-fault tracks 0 rows 0 _ es (x ∷ b) (s .sound) (omega (arith, s .count)) (reading-over tracks _ x b)) in
+    let z : _≡_ {A = ℕ} 0 1 = cc in
+    absurd (omega arith)

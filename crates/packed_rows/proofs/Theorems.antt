@@ -1,0 +1,103 @@
+-- The theorems about packed rows. In plain words, for all numbers of rows and tracks, every stream, whoever wrote it, and every
+-- list of rows × tracks × 6 numbers as cells:
+--
+--  1. Packing any cells and reading the stream gives the cells back.
+--  2. The packed length is the rows, and two for each non-empty cell, and one for each field that is not 0. It is at most
+--     rows × (1 + 8 × tracks). The length that packing answers and the place of its refusal 17 are this one.
+--  3. A stream that is accepted as certain cells is never shorter than the packer's stream of these cells.
+--  4. A stream of just that length is accepted as the cells exactly when it is, row by row, the packer's entries for that row,
+--     each once and unchanged, in some order, and then the row end. And unpacking a stream into enough room succeeds with
+--     certain cells exactly when the stream is accepted as these cells.
+--  5. In an accepted stream, what a field of a cell holds is what the last entry of its row and track that names the field
+--     stored there, and 0 where none names it.
+--  6. A stream is read as rows of entries exactly when there are as many of these rows as the pattern has, all of their entries
+--     are sound, and the stream is their bytes, each row with its row end. A stream is so in one way at most. The check accepts
+--     exactly these streams.
+--  7. A stream is refused with 15 at a place exactly when up to the place it is whole rows and entries of an unfinished row, all
+--     sound, and there either rows are left and neither a row end nor a sound entry follows, or the rows are full, no row is
+--     unfinished, and bytes follow. There is one such place. No proper beginning of an accepted stream is accepted with the
+--     same rows and tracks.
+--
+-- The reader is `readStream`, the packer `packedStream`, the length `packedLength`: those that the contracts cite.
+use Prim.Native.Nat.{ℕ, _+_, _-_, _*_, _<_, _≤_}
+use mathlib.Core.Logic.{_↔_}
+use mathlib.Core.Path.{_≡_}
+use mathlib.Core.List.{List, [], _++_}
+use mathlib.Core.Bool.{true}
+use lib.ListN.{length, getD, take}
+use Rattle.refusal.specs.Numbers.{refusal}
+use Rattle.refusal.specs.declared.Cause.the-variants.{Stream, Room}
+use Rattle.refusal.specs.declared.Verdict.the-variants.{Accepted, Refused}
+use Rattle.cells.specs.Cells.{sizesFit, cellBytes, rowsOf, blocksOf, nonZeros, nonEmptyCells}
+use Rattle.packed_rows.specs.Entries.{Entry}
+use Rattle.packed_rows.specs.Stream.{readStream, whole, brokenAt, AcceptedAs}
+use Rattle.packed_rows.specs.Packer.{packedStream, packedLength}
+use Rattle.packed_rows.specs.Answers.{checkAnswer, unpackAnswer, unpackOutput, packAnswer}
+use Rattle.packed_rows.specs.Theorems.{StreamOf, Reordered, LastStored, BrokenAt}
+use Rattle.packed_rows.specs.declared.Unpacking.the-variants.{Unpacked}
+use Rattle.packed_rows.specs.declared.Packing.the-variants.{Packed, Refused as PackingRefused}
+use Rattle.packed_rows.proofs.Grammar as Grammar
+use Rattle.packed_rows.proofs.Shortest as Shortest
+use Rattle.packed_rows.proofs.StreamLength as StreamLength
+use Rattle.packed_rows.proofs.LastEntry as LastEntry
+use Rattle.packed_rows.proofs.Unpacks as Unpacks
+use Rattle.packed_rows.proofs.Verdicts as Verdicts
+
+module _ (rows tracks : ℕ) where
+  -- 1.
+  pub round-trip : (cells : List ℕ) → length cells ≡ cellBytes rows tracks → AcceptedAs rows tracks (packedStream (rowsOf rows tracks cells)) cells
+  round-trip = Shortest.round-trip rows tracks
+
+  -- 2.
+  pub packed-length : (cells : List ℕ) → length (packedStream (rowsOf rows tracks cells)) ≡ packedLength (rowsOf rows tracks cells)
+  packed-length cells = StreamLength.packed-length (rowsOf rows tracks cells)
+
+  pub packed-length-is : (cells : List ℕ) → length cells ≡ cellBytes rows tracks → packedLength (rowsOf rows tracks cells) ≡ rows + (2 * nonEmptyCells (blocksOf (rows * tracks) 6 cells) + length (nonZeros cells))
+  packed-length-is = StreamLength.packed-length-cells rows tracks
+
+  pub packed-length-at-most : (cells : List ℕ) → length cells ≡ cellBytes rows tracks → packedLength (rowsOf rows tracks cells) ≤ rows * (1 + 8 * tracks)
+  packed-length-at-most = StreamLength.packed-length-at-most rows tracks
+
+  pub packed-length-answered : (cells : List ℕ) (room n : ℕ) → packAnswer cells rows tracks room ≡ Packed n → n ≡ packedLength (rowsOf rows tracks cells)
+  packed-length-answered = Verdicts.pack-answers rows tracks
+
+  pub packed-length-needed : (cells : List ℕ) (room n : ℕ) → packAnswer cells rows tracks room ≡ PackingRefused (refusal Room n) → n ≡ packedLength (rowsOf rows tracks cells)
+  packed-length-needed = Verdicts.pack-needs rows tracks
+
+  -- 3.
+  pub none-shorter : (stream cells : List ℕ) → AcceptedAs rows tracks stream cells → packedLength (rowsOf rows tracks cells) ≤ length stream
+  none-shorter = Shortest.none-shorter rows tracks
+
+  -- 4.
+  pub equal-length : (stream cells : List ℕ) → length cells ≡ cellBytes rows tracks → length stream ≡ packedLength (rowsOf rows tracks cells) → AcceptedAs rows tracks stream cells ↔ Reordered (rowsOf rows tracks cells) stream
+  equal-length = Shortest.equal-length rows tracks
+
+  pub unpacks-exactly : (stream cells out : List ℕ) → sizesFit rows tracks ≡ true → cellBytes rows tracks ≤ length out → AcceptedAs rows tracks stream cells ↔ ((unpackAnswer stream rows tracks (length out) ≡ Unpacked (cellBytes rows tracks)) × (take (cellBytes rows tracks) (unpackOutput stream rows tracks out) ≡ cells))
+  unpacks-exactly = Unpacks.unpacks-exactly rows tracks
+
+  -- 5.
+  pub last-stored : (stream cells : List ℕ) (accepted : AcceptedAs rows tracks stream cells) (row track field : ℕ) → row < rows → 1 ≤ track → track ≤ tracks → field < 6 → LastStored track field (getD (accepted .entries) row []) (getD cells (row * (tracks * 6) + ((track - 1) * 6 + field)) 0)
+  last-stored = LastEntry.last-stored rows tracks
+
+  -- 6.
+  pub reads-exactly : (stream : List ℕ) (entries : List (List Entry)) → (readStream rows tracks stream ≡ whole entries) ↔ StreamOf rows tracks stream entries
+  reads-exactly = Grammar.reads-exactly rows tracks
+
+  pub reads-one : (stream : List ℕ) (entries entries′ : List (List Entry)) → StreamOf rows tracks stream entries → StreamOf rows tracks stream entries′ → entries ≡ entries′
+  reads-one = Grammar.reads-one rows tracks
+
+  pub accepts-exactly : (stream : List ℕ) → sizesFit rows tracks ≡ true → (checkAnswer stream rows tracks ≡ Accepted) ↔ ((entries : List (List Entry)) × StreamOf rows tracks stream entries)
+  accepts-exactly = Verdicts.accepts-exactly rows tracks
+
+  -- 7.
+  pub breaks-exactly : (stream : List ℕ) (place : ℕ) → (readStream rows tracks stream ≡ brokenAt place) ↔ BrokenAt rows tracks stream place
+  breaks-exactly = Grammar.refused-exactly rows tracks
+
+  pub refuses-exactly : (stream : List ℕ) (place : ℕ) → sizesFit rows tracks ≡ true → (checkAnswer stream rows tracks ≡ Refused (refusal Stream place)) ↔ BrokenAt rows tracks stream place
+  refuses-exactly = Verdicts.refuses-exactly rows tracks
+
+  pub one-place : (stream : List ℕ) (place place′ : ℕ) → BrokenAt rows tracks stream place → BrokenAt rows tracks stream place′ → place ≡ place′
+  one-place = Grammar.one-place rows tracks
+
+  pub no-proper-beginning : (stream more : List ℕ) (entries entries′ : List (List Entry)) → readStream rows tracks stream ≡ whole entries → readStream rows tracks (stream ++ more) ≡ whole entries′ → more ≡ []
+  no-proper-beginning = Grammar.no-proper-beginning rows tracks

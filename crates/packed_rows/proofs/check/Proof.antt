@@ -1,0 +1,15 @@
+use borrow.Author.Needs.{needs}
+use mathlib.Core.Path.{_∙_, ap, sym}
+use Rattle.refusal.specs.declared.Verdict.the-variants.{Refused}
+use Rattle.packed_rows.proofs.check.Statement.{statement}
+use Rattle.packed_rows.proofs.check.Tie as tie
+
+returns : tie.Need-returns
+returns c = simp (← c .before .before .sizes-fit .ensures, c .before .if1 .taken, c .refuse .ensures)
+
+returns-2 : tie.Need-returns-2
+returns-2 c = simp (← c .before .before .sizes-fit .ensures, c .before .if1 .left, c .check-stream .ensures)
+
+pub check-spec : {M : Type 1} → statement M
+check-spec =
+    tie.close (tie.spec (λ c κs. search needs) (λ c κs. search needs) returns (λ c κs. search needs) returns-2)

@@ -1,0 +1,22 @@
+use borrow.Author.Needs.{needs}
+use Prim.Native.Nat.{ℕ}
+use mathlib.Core.Path.{_≡_, _∙_, ap, sym}
+use mathlib.Core.List.{List}
+use lib.ListN.{length, getD}
+use native.Mathlib.Omega.{arith}
+use Rattle.packed_rows.proofs.Lengths.{length-read, length-unsound, entry-length-most}
+use Rattle.packed_rows.proofs.reader.entry_length.Statement.{statement}
+use Rattle.packed_rows.proofs.reader.entry_length.Tie as tie
+
+shared-slice-read-wide : tie.Need-shared-slice-read-wide
+shared-slice-read-wide c = omega (arith, ap (length {A = ℕ}) (c .before .before .before .before .pre))
+
+returns : tie.Need-returns
+returns c = (length-unsound (c .before .before .args .mask) (c .if1 .taken), omega arith)
+
+returns-2 : tie.Need-returns-2
+returns-2 c = let same = c .wide2 .ensures .0 ∙ ap (λ (m : ℕ). getD (c .before .before .before .before .before .args .lengths .now) m 0) (c .before .before .wide .ensures .0) ∙ length-read (c .before .before .before .before .before .args .lengths .now) (c .before .before .before .before .before .args .mask) (c .before .before .before .before .before .pre) (omega arith) in (same, omega (arith, same, entry-length-most (c .before .before .before .before .before .args .mask)))
+
+pub entry-length-spec : {M : Type 1} → statement M
+entry-length-spec =
+    tie.close (tie.spec (λ c κs. search needs) shared-slice-read-wide (λ c κs. search needs) returns returns-2)

@@ -1,0 +1,14 @@
+use borrow.Author.Needs.{needs}
+use mathlib.Core.Path.{_∙_, ap}
+use Rattle.packed_rows.proofs.CarryingRows.{ahead-of, loaded}
+use Rattle.packed_rows.proofs.reader.load_row.Statement.{statement}
+use Rattle.packed_rows.proofs.reader.load_row.Tie as tie
+
+carry-row-requires : tie.Need-carry-row-requires
+carry-row-requires c κs = ahead-of _ _ _ (c .before .before .before .clear .last .0) (c .before .before .before .clear .kept .0) (c .before .before .before .before .before .before .before .pre)
+
+returns : tie.Need-returns
+returns c = loaded _ _ _ _ _ _ (c .before .before .before .before .before .before .clear .ensures) (c .before .before .carry-row .ensures)
+
+pub load-row-spec : {M : Type 1} → statement M
+load-row-spec = tie.close (tie.spec (λ c κs. search needs) carry-row-requires (λ c. search needs) returns)

@@ -1,0 +1,31 @@
+use Prim.Native.Nat.{ℕ, suc, _-_, _*_}
+use mathlib.Core.Path.{_≡_}
+use borrow.Author.Needs.{needs}
+use native.Mathlib.Omega.{arith}
+use Rattle.packed_rows.specs.Steps.{RowsRead}
+use Rattle.packed_rows.proofs.SkippingRows.{SkippingRows, skips-first, skips-ahead, skips-turn, skips-last}
+use Rattle.packed_rows.proofs.reader.skip_rows.Statement.{statement}
+use Rattle.packed_rows.proofs.reader.skip_rows.Tie as tie
+
+abbrev Inv-loop : tie.InvT-loop
+Inv-loop s n at₀ left₀ at left = (all : RowsRead s n) → SkippingRows s n all at left
+
+abbrev μ-loop : tie.MeasureT-loop
+μ-loop s n at₀ left₀ at left = left
+
+loop-holds : tie.Need-loop-holds Inv-loop μ-loop
+loop-holds c = λ all. skips-first _ _ all
+
+skip-row-requires : tie.Need-skip-row-requires Inv-loop μ-loop
+skip-row-requires c κs = let some : c .before .loop .left ≡ suc (c .before .loop .left - 1) = omega arith in (c .before .before .before .pre .tracks * 6, skips-ahead (c .before .before .before .args .s .now) (c .before .before .before .args .n) (c .before .before .before .pre) (c .before .loop .at) (c .before .loop .left) (c .before .loop .inv (c .before .before .before .pre)) (c .before .loop .left - 1) some)
+
+loop-again : tie.Need-loop-again Inv-loop μ-loop
+loop-again c = λ all. let some : c .before .before .loop .left ≡ suc (c .before .before .loop .left - 1) = omega arith in skips-turn (c .before .before .before .before .args .s .now) (c .before .before .before .before .args .n) all (c .before .before .loop .at) (c .before .before .loop .left) (c .before .before .loop .inv all) (c .before .before .loop .left - 1) some (c .skip-row .result) (c .skip-row .ensures)
+
+returns : tie.Need-returns Inv-loop μ-loop
+returns c = λ all. skips-last (c .before .before .before .args .s .now) (c .before .before .before .args .n) all (c .before .loop .at) (c .before .loop .left) (c .before .loop .inv all) (omega arith)
+
+pub skip-rows-spec : {M : Type 1} → statement M
+skip-rows-spec =
+    tie.close
+    (tie.spec Inv-loop μ-loop loop-holds skip-row-requires (λ c. search needs) (λ c. search needs) loop-again returns)

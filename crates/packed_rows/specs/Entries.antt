@@ -1,0 +1,76 @@
+-- FORMAT.md, R2 to R6 (document 01, "Packed rows"): masks, entries, and what carrying out an entry does.
+-- Source document 000 decides on the order: the track, then the mask (002 has the mask first), and command 1 before command 2
+-- (003 swaps the two).
+use Prim.Native.Nat.{ℕ, zero, suc, _+_, _-_, _/_, _%_}
+use mathlib.Core.List.{List, [], _∷_, _++_, map}
+use mathlib.Core.Bool.{Bool, true, false}
+use lib.ListN.{length, getD, drop, set}
+use lib.Dec.{eqb, leb, ltb}
+use Rattle.cells.specs.Cells.{Cell, Row, both, emptyCell, emptyRow, joined}
+
+-- The lowest n bits of a number, the lowest first.
+abbrev pub bits : ℕ → ℕ → List Bool
+bits zero m = []
+bits (suc n) m = eqb (m % 2) 1 ∷ bits n (m / 2)
+
+-- R3: which of the six fields a mask names, in the order of the cell.
+abbrev pub named : ℕ → List Bool
+named mask = bits 6 mask
+
+-- R3: bits 6 and 7 are 0.
+abbrev pub soundMask : ℕ → Bool
+soundMask mask = ltb mask 64
+
+abbrev pub count : List Bool → ℕ
+count [] = 0
+count (true ∷ bs) = suc (count bs)
+count (false ∷ bs) = count bs
+
+-- How many fields follow a mask.
+abbrev pub fieldsNamed : ℕ → ℕ
+fieldsNamed mask = count (named mask)
+
+-- R4: an entry is a track, its mask and the named fields after it.
+pub record Entry : Type 0 where
+  pub track : ℕ
+  pub mask : ℕ
+  pub fields : List ℕ
+
+abbrev pub entryBytes : Entry → List ℕ
+entryBytes e = e .track ∷ e .mask ∷ e .fields
+
+-- R2 to R4: a track from 1 to the pattern's tracks, a sound mask, and as many fields as it names.
+abbrev pub soundEntry : ℕ → Entry → Bool
+soundEntry tracks e =
+    both (leb 1 (e .track)) (both (leb (e .track) tracks) (both (soundMask (e .mask)) (eqb (length (e .fields)) (fieldsNamed (e .mask)))))
+
+-- R5: the named fields are stored in the cell, the others stay.
+abbrev pub store : List Bool → List ℕ → Cell → Cell
+store [] values cell = cell
+store (n ∷ ns) values [] = []
+store (true ∷ ns) values (f ∷ cell) = getD values 0 0 ∷ store ns (drop 1 values) cell
+store (false ∷ ns) values (f ∷ cell) = f ∷ store ns values cell
+
+-- R5: an entry carried out, on its row.
+abbrev pub carryOut : Entry → Row → Row
+carryOut e row = set row (e .track - 1) (store (named (e .mask)) (e .fields) (getD row (e .track - 1) emptyCell))
+
+-- R6: from the front.
+abbrev pub carryAll : List Entry → Row → Row
+carryAll [] row = row
+carryAll (e ∷ es) row = carryAll es (carryOut e row)
+
+-- R5: the row that entries give. Every cell starts as zeros.
+abbrev pub rowFrom : ℕ → List Entry → Row
+rowFrom tracks entries = carryAll entries (emptyRow tracks)
+
+-- The rows that rows of entries give.
+abbrev pub rowsFrom : ℕ → List (List Entry) → List Row
+rowsFrom tracks rows = map (rowFrom tracks) rows
+
+-- R1, R4: the bytes of a row of entries, with its row end; and of rows of entries.
+abbrev pub rowStream : List Entry → List ℕ
+rowStream entries = joined (map entryBytes entries) ++ (0 ∷ [])
+
+abbrev pub streamOf : List (List Entry) → List ℕ
+streamOf rows = joined (map rowStream rows)

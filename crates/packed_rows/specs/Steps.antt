@@ -1,0 +1,116 @@
+-- Definitions that private functions cite: they follow a loop's steps. The public contracts do not use them, and the proofs
+-- lead each back to the readable definitions.
+use Prim.Native.Nat.{ℕ, zero, suc, _+_, _-_, _*_, _≤_, _<_}
+use mathlib.Core.Path.{_≡_}
+use mathlib.Core.List.{List, [], _∷_, _++_}
+use mathlib.Core.Bool.{Bool, cond}
+use lib.ListN.{length, getD, take, drop}
+use lib.Dec.{eqb}
+use Rattle.cells.specs.Cells.{Cell, Row, joined, rowOf, nonEmpty, emptyCell}
+use Rattle.packed_rows.specs.Entries.{Entry, soundMask, fieldsNamed, named, entryBytes, store, carryAll, rowFrom, rowsFrom}
+use Rattle.packed_rows.specs.Packer.{nonZero, packedEntry}
+use Rattle.packed_rows.specs.Stream.{Front, nothing, rowEnd, entry, fault, reading, whole, readStream, entriesRead}
+
+-- How long an entry with this mask is; 0 where the mask is not sound.
+abbrev pub entryLength : ℕ → ℕ
+entryLength mask = cond (soundMask mask) (2 + fieldsNamed mask) 0
+
+-- The lengths for the sound masks, in their order.
+abbrev pub lengthsFrom : ℕ → ℕ → List ℕ
+lengthsFrom zero mask = []
+lengthsFrom (suc n) mask = entryLength mask ∷ lengthsFrom n (suc mask)
+
+abbrev pub entryLengths : List ℕ
+entryLengths = lengthsFrom 64 0
+
+abbrev pub pieceLength : ℕ → ℕ → ℕ
+pieceLength track mask = cond (eqb track 0) 1 (entryLength mask)
+
+-- How many bytes stand at the front: those of a row end or a sound entry, else none.
+abbrev pub frontLength : Front → ℕ
+frontLength nothing = 0
+frontLength (rowEnd s) = 1
+frontLength (entry e s) = length (entryBytes e)
+frontLength fault = 0
+
+-- A list with the named fields stored from a place on, as far as the names go.
+abbrev pub storedFrom : List Bool → List ℕ → List ℕ → ℕ → List ℕ
+storedFrom names values out to = take to out ++ (store names values (take (length names) (drop to out)) ++ drop (to + length names) out)
+
+-- The cell at a place of a row's bytes, with the fields stored that a mask names.
+abbrev pub storedAt : List ℕ → ℕ → ℕ → List ℕ → ℕ → List ℕ
+storedAt s from mask out to = take to out ++ (store (named mask) (drop from s) (take 6 (drop to out)) ++ drop (to + 6) out)
+
+-- A row of sound entries and its row end stand at a place of an accepted stream, for a row of so many bytes.
+pub record RowAhead (s : List ℕ) (at size : ℕ) : Type 0 where
+  pub tracks : ℕ
+  pub left : ℕ
+  pub entries : List Entry
+  pub later : List (List Entry)
+  pub reads : reading tracks (suc left) at (drop at s) ≡ whole (entries ∷ later)
+  pub fits : size ≡ tracks * 6
+
+-- What carrying out that row does: the later rows stand behind it, and the row holds what its entries give.
+abbrev pub Carried : List ℕ → ℕ → List ℕ → ℕ → List ℕ → Type 0
+Carried s at row after rowAfter =
+    (ahead : RowAhead s at (length row)) →
+    (reading (ahead .tracks) (ahead .left) after (drop after s) ≡ whole (ahead .later))
+    × (rowAfter ≡ joined (carryAll (ahead .entries) (rowOf (ahead .tracks) row)))
+    × (after ≤ length s)
+
+-- The same on zeros: the row then holds what its entries give from empty cells.
+abbrev pub Loaded : List ℕ → ℕ → ℕ → ℕ → List ℕ → Type 0
+Loaded s at size after rowAfter =
+    (ahead : RowAhead s at size) →
+    (reading (ahead .tracks) (ahead .left) after (drop after s) ≡ whole (ahead .later))
+    × (rowAfter ≡ joined (rowFrom (ahead .tracks) (ahead .entries)))
+    × (after ≤ length s)
+
+-- A row passed over: the later rows stand behind it.
+abbrev pub Skipped : List ℕ → ℕ → ℕ → Type 0
+Skipped s at after =
+    (size : ℕ) (ahead : RowAhead s at size) → reading (ahead .tracks) (ahead .left) after (drop after s) ≡ whole (ahead .later)
+
+-- A stream of more than n rows was read whole.
+pub record RowsRead (s : List ℕ) (n : ℕ) : Type 0 where
+  pub rows : ℕ
+  pub tracks : ℕ
+  pub entries : List (List Entry)
+  pub reads : readStream rows tracks s ≡ whole entries
+  pub more : n < rows
+
+-- Behind n rows of it the others stand.
+abbrev pub AfterRows : List ℕ → ℕ → ℕ → Type 0
+AfterRows s n after =
+    (all : RowsRead s n) → reading (all .tracks) (all .rows - n) after (drop after s) ≡ whole (drop n (all .entries))
+
+-- The rows that a stream holds.
+abbrev pub rowsRead : List ℕ → ℕ → ℕ → List Row
+rowsRead s rows tracks = rowsFrom tracks (entriesRead (readStream rows tracks s))
+
+-- A cell of what a stream holds: rows counted from 0, tracks from 1.
+abbrev pub cellRead : List ℕ → ℕ → ℕ → ℕ → ℕ → Cell
+cellRead s rows tracks row track = getD (getD (rowsRead s rows tracks) row []) (track - 1) emptyCell
+
+-- 1 for a number that is not 0, else 0.
+abbrev pub oneIf : ℕ → ℕ
+oneIf b = cond (nonZero b) 1 0
+
+-- The cell at a place of a row's bytes.
+abbrev pub cellAt : List ℕ → ℕ → Cell
+cellAt bytes at = take 6 (drop at bytes)
+
+-- The tracks of the cells that are not empty, counted on from a number.
+abbrev pub filledTracks : ℕ → Row → List ℕ
+filledTracks track [] = []
+filledTracks track (cell ∷ cells) = cond (nonEmpty cell) (track ∷ filledTracks (suc track) cells) (filledTracks (suc track) cells)
+
+-- Each listed track, counted from 0, has its cell in the row.
+abbrev pub Listed : List ℕ → List ℕ → Type 0
+Listed row [] = Unit {0}
+Listed row (track ∷ tracks) = (track * 6 + 6 ≤ length row) × Listed row tracks
+
+-- The bytes of the packer's entries of the listed tracks of a row.
+abbrev pub entriesAt : List ℕ → List ℕ → List ℕ
+entriesAt row [] = []
+entriesAt row (track ∷ tracks) = entryBytes (packedEntry (track + 1) (cellAt row (track * 6))) ++ entriesAt row tracks

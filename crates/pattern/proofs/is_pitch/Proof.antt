@@ -1,9 +1,0 @@
-use borrow.Author.Needs.{needs}
-use Rattle.pattern.proofs.is_pitch.Statement.{statement}
-use Rattle.pattern.proofs.is_pitch.Tie as tie
-
-returns : tie.Need-returns
-returns c = search needs
-
-pub is-pitch-spec : {M : Type 1} → statement M
-is-pitch-spec = tie.close (tie.spec returns)

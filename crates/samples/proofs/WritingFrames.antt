@@ -1,0 +1,76 @@
+-- A loop that writes numbers as 2 bytes each, from the front on.
+--     writing-first   nothing is written yet
+--     writing-length  the length stays
+--     writing-turn    one more number written
+--     writing-last    all are written
+use Prim.Native.Nat.{ℕ, zero, suc, _+_, _*_, _/_, _%_, _<_, _≤_}
+use mathlib.Core.Path.{_≡_, refl, sym, ap, _∙_}
+use mathlib.Core.List.{List, [], _∷_, _++_, append-nil}
+use native.Mathlib.Omega.{arith}
+use native.Mathlib.Numerals.{add-one}
+use lib.ListN.{length, set, length-append}
+use lib.Seq.{set-at, append-snoc}
+use lib.IntN.{ℤ}
+use Rattle.numbers.specs.Numbers.{signed16, eachFrom}
+use Rattle.samples.specs.Shown.{unsigned16, bytes16, joined}
+use Rattle.samples.proofs.SixteenBits.{stored-again}
+
+module _ (f : ℕ → ℤ) where
+  -- The numbers from a number on, so many of them, 2 bytes each.
+  abbrev pub pairs : ℕ → ℕ → List ℕ
+  pairs k n = joined (eachFrom (λ (i : ℕ). bytes16 (f i)) k n)
+
+  pub pairs-length : (n k : ℕ) → length (pairs k n) ≡ 2 * n
+  pairs-length zero k = refl
+  pairs-length (suc n) k = omega (arith, pairs-length n (k + 1))
+
+  -- One more, with what stands behind it.
+  pairs-more : (n k : ℕ) (rest : List ℕ) → pairs k (suc n) ++ rest ≡ pairs k n ++ (bytes16 (f (k + n)) ++ rest)
+  pairs-more zero k rest = ap (λ (i : ℕ). bytes16 (f i) ++ rest) (omega arith)
+  pairs-more (suc n) k rest =
+      let again = pairs-more n (k + 1) rest in
+      ap (λ (t : List ℕ). bytes16 (f k) ++ t) (again ∙ ap (λ (i : ℕ). pairs (k + 1) n ++ (bytes16 (f i) ++ rest)) (omega arith))
+
+-- So many of the numbers are written, and room is left for the others.
+pub record Writing (f : ℕ → ℤ) (n : ℕ) (out : List ℕ) (i : ℕ) : Type 0 where
+  pub rest : List ℕ
+  pub same : out ≡ pairs f 0 i ++ rest
+  pub room : 2 * i + length rest ≡ 2 * n
+
+module _ (f : ℕ → ℤ) (n : ℕ) where
+  pub writing-first : (out : List ℕ) → length out ≡ 2 * n → Writing f n out 0
+  writing-first out h = record { rest = out; same = refl; room = omega (arith, h) }
+
+  pub writing-length : (out : List ℕ) (i : ℕ) → Writing f n out i → length out ≡ 2 * n
+  writing-length out i h =
+      let joint : length out ≡ length (pairs f 0 i) + length (h .rest) = ap length (h .same) ∙ length-append (pairs f 0 i) (h .rest) in
+      omega (arith, pairs-length f i 0, h .room)
+
+  pub writing-turn : (out : List ℕ) (i v : ℕ) → Writing f n out i → i < n → v < 65536 → signed16 v ≡ f i → Writing f n (set (set out (2 * i) (v / 256)) (2 * i + 1) (v % 256)) (i + 1)
+  writing-turn out i v h less small e = go (h .rest) (h .same) (h .room)
+    where
+      bytes : (rest : List ℕ) → v / 256 ∷ v % 256 ∷ rest ≡ bytes16 (f (0 + i)) ++ rest
+      bytes rest = ap (λ (s : ℕ). s / 256 ∷ s % 256 ∷ rest) (sym (stored-again v small) ∙ ap unsigned16 e ∙ ap (λ (k : ℕ). unsigned16 (f k)) (omega arith))
+
+      go : (rest : List ℕ) → out ≡ pairs f 0 i ++ rest → 2 * i + length rest ≡ 2 * n → Writing f n (set (set out (2 * i) (v / 256)) (2 * i + 1) (v % 256)) (i + 1)
+      go [] s r = absurd (omega (arith, r, less))
+      go (x ∷ []) s r = absurd (omega (arith, r, less))
+      go (x ∷ y ∷ rest) s r =
+          let front = pairs f 0 i in
+          let long : length (front ++ (v / 256 ∷ [])) ≡ 2 * i + 1 = length-append front (v / 256 ∷ []) ∙ omega (arith, pairs-length f i 0) in
+          let first : set out (2 * i) (v / 256) ≡ front ++ (v / 256 ∷ []) ++ (y ∷ rest) =
+          ap (λ (t : List ℕ). set t (2 * i) (v / 256)) s ∙ set-at front x (y ∷ rest) (v / 256) (2 * i) (pairs-length f i 0) ∙ sym (append-snoc front (v / 256) (y ∷ rest)) in
+          let second : set (front ++ (v / 256 ∷ []) ++ (y ∷ rest)) (2 * i + 1) (v % 256) ≡ front ++ (v / 256 ∷ v % 256 ∷ rest) =
+          set-at (front ++ (v / 256 ∷ [])) y rest (v % 256) (2 * i + 1) long ∙ append-snoc front (v / 256) (v % 256 ∷ rest) in
+          record {
+            rest = rest;
+            same = ap (λ (t : List ℕ). set t (2 * i + 1) (v % 256)) first ∙ second ∙ ap (λ (t : List ℕ). front ++ t) (bytes rest) ∙ sym (pairs-more f i 0 rest) ∙ ap (λ (k : ℕ). pairs f 0 k ++ rest) (sym (add-one i));
+            room = omega (arith, r);
+          }
+
+  pub writing-last : (out : List ℕ) (i : ℕ) → Writing f n out i → n ≤ i → out ≡ pairs f 0 n
+  writing-last out i h over = go (h .rest) (h .same) (h .room)
+    where
+      go : (rest : List ℕ) → out ≡ pairs f 0 i ++ rest → 2 * i + length rest ≡ 2 * n → out ≡ pairs f 0 n
+      go [] s r = let all : i ≡ n = omega (arith, r) in s ∙ append-nil (pairs f 0 i) ∙ ap (pairs f 0) all
+      go (x ∷ rest) s r = absurd (omega (arith, r, over))

@@ -1,0 +1,17 @@
+use borrow.Author.Needs.{needs}
+use native.Mathlib.Omega.{arith}
+use native.Mathlib.Nat.{mul-le-mul}
+use Prim.Native.Nat.{_≤_}
+use Rattle.samples.proofs.frames_at.Statement.{statement}
+use Rattle.samples.proofs.frames_at.Tie as tie
+
+mul-t8 : tie.Need-mul-t8
+mul-t8 c = let many : c .before .number32 .result ≤ 4294967295 = omega arith in let wide : c .frame-bytes .result ≤ 4 = omega (arith, c .frame-bytes .ensures .1) in record { fits = omega (arith, mul-le-mul many wide) }
+
+returns : tie.Need-returns
+returns c = simp (c .before .number32 .ensures, c .frame-bytes .ensures .0)
+
+pub frames-at-spec : {M : Type 1} → statement M
+frames-at-spec =
+    tie.close
+    (tie.spec (λ c. search needs) (λ c. search needs) (λ c κs. search needs) (λ c. search needs) (λ c κs. search needs) mul-t8 returns)

@@ -1,0 +1,21 @@
+use borrow.Author.Needs.{needs}
+use mathlib.Core.Path.{subst}
+use Prim.Native.Nat.{_<_}
+use Rattle.queries.specs.Finding.{placeIn}
+use Rattle.queries.specs.declared.Found.{Found}
+use Rattle.samples.proofs.sample.Statement.{statement}
+use Rattle.samples.proofs.sample.Tie as tie
+
+sample-at-requires : tie.Need-sample-at-requires
+sample-at-requires c κs = subst (λ (f : Found). placeIn f < 0x10000000000000) (c .before .b .given .1) (c .before .before .before .find .ensures .1)
+
+returns : tie.Need-returns
+returns c = simp (← c .before .before .before .before .find .ensures .0, c .before .before .b .given .1, c .sample-at .ensures)
+
+returns-2 : tie.Need-returns-2
+returns-2 c = simp (← c .before .before .before .before .find .ensures .0, c .before .before .r .given .1, c .no-sample .ensures)
+
+pub sample-spec : {M : Type 1} → statement M
+sample-spec =
+    tie.close
+    (tie.spec (λ c κs. search needs) (λ c. search needs) sample-at-requires (λ c. search needs) (λ c κs. search needs) returns returns-2)

@@ -1,0 +1,27 @@
+//! Modules as large as they may be.
+
+use reference::chunks::Name;
+use reference::draft::{Chunk, Draft, Tune};
+
+/// A module has at most this many bytes.
+pub const MOST: usize = 16_777_216;
+
+/// The bytes of a module, brought to a length by another chunk in front of all others.
+pub fn filled_up(mut draft: Draft, length: usize) -> Vec<u8> {
+    let data = length - draft.bytes().len() - 8;
+    draft
+        .chunks
+        .insert(0, Chunk::new(b"FILL", vec![0xA5; data]));
+    let module = draft.bytes();
+    assert_eq!(module.len(), length);
+    module
+}
+
+/// The same module with one chunk behind all others.
+pub fn with_last(tune: &Tune, name: &Name) -> Draft {
+    let mut draft = tune.draft();
+    let index = draft.index(name);
+    let last = draft.chunks.remove(index);
+    draft.chunks.push(last);
+    draft
+}

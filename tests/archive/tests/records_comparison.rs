@@ -1,0 +1,410 @@
+//! The comparison of the queries itself: it finds nothing between the reference and the reference, and it notices each of these
+//! wrong queries.
+
+use archive::compare::Lent;
+use archive::interface::{Answer, Envelope, Told};
+use archive::queries::{refused, shown, Queries, REFERENCE};
+use archive::records::all;
+use reference::draft::{Sample, Tune};
+use reference::generate::{damage, module, Most, Random};
+use reference::tunes::files;
+
+/// The files of the folder `samples`, and modules made from seeds; every fourth of these is damaged.
+fn modules() -> Vec<Vec<u8>> {
+    let mut modules: Vec<Vec<u8>> = files().into_iter().map(|(_, module)| module).collect();
+    for seed in 0..60 {
+        let random = &mut Random::new(seed);
+        let mut draft = module(random, &Most::SMALL);
+        if seed % 4 == 0 {
+            damage(random, &mut draft);
+        }
+        modules.push(draft.bytes());
+    }
+    modules
+}
+
+/// How many of these modules show a difference.
+fn differences(library: Queries) -> usize {
+    modules()
+        .iter()
+        .filter(|module| all(&library, module, &mut Random::new(1)).is_err())
+        .count()
+}
+
+#[track_caller]
+fn noticed(library: Queries) {
+    let differences = differences(library);
+    assert!(differences >= 3, "only {differences}");
+}
+
+#[test]
+fn nothing_between_the_reference_and_itself() {
+    assert_eq!(differences(REFERENCE), 0);
+}
+
+/// A query that refuses everything, and one that shows a record of zeros for everything.
+#[test]
+fn one_record_for_everything() {
+    macro_rules! always {
+        ($query:ident, |$($asked:tt),*|) => {
+            noticed(Queries { $query: |$($asked),*| refused(18, 0), ..REFERENCE });
+            noticed(Queries { $query: |$($asked),*| shown(Default::default()), ..REFERENCE });
+        };
+    }
+    always!(version, |_|);
+    always!(name, |_|);
+    always!(info, |_|);
+    always!(song, |_, _|);
+    always!(entry, |_, _, _|);
+    always!(instrument, |_, _|);
+    always!(volume_envelopes, |_|);
+    always!(panning_envelopes, |_|);
+    always!(volume_envelope, |_, _|);
+    always!(panning_envelope, |_, _|);
+    always!(rows, |_, _|);
+    always!(cell, |_, _, _, _|);
+    always!(sample, |_, _|);
+    always!(frames, |_, _|);
+    always!(frame, |_, _, _|);
+}
+
+type Filling = fn(&[u8], usize, &mut Lent) -> Answer;
+
+/// Each of the three queries that fill an output, done wrongly in the same way.
+macro_rules! noticed_in_outputs {
+    ($wrong:ident) => {
+        noticed(Queries {
+            playlist: |module, song, lent| $wrong(REFERENCE.playlist, module, song, lent),
+            ..REFERENCE
+        });
+        noticed(Queries {
+            cells: |module, pattern, lent| $wrong(REFERENCE.cells, module, pattern, lent),
+            ..REFERENCE
+        });
+        noticed(Queries {
+            all_frames: |module, sample, lent| $wrong(REFERENCE.all_frames, module, sample, lent),
+            ..REFERENCE
+        });
+    };
+}
+
+#[test]
+fn outputs_with_nothing_written() {
+    fn wrong(right: Filling, module: &[u8], number: usize, lent: &mut Lent) -> Answer {
+        let room = lent.out().len();
+        right(module, number, &mut Lent::new(room))
+    }
+    noticed_in_outputs!(wrong);
+}
+
+#[test]
+fn outputs_with_the_first_bytes_only() {
+    fn wrong(right: Filling, module: &[u8], number: usize, lent: &mut Lent) -> Answer {
+        let answer = right(module, number, lent);
+        lent.out()[..answer.length as usize]
+            .iter_mut()
+            .skip(2)
+            .for_each(|byte| *byte = 0);
+        answer
+    }
+    noticed_in_outputs!(wrong);
+}
+
+#[test]
+fn outputs_with_a_byte_behind() {
+    fn wrong(right: Filling, module: &[u8], number: usize, lent: &mut Lent) -> Answer {
+        let answer = right(module, number, lent);
+        if let Some(byte) = lent.out().get_mut(answer.length as usize) {
+            *byte ^= 1;
+        }
+        answer
+    }
+    noticed_in_outputs!(wrong);
+}
+
+/// The guards stand before and behind what is lent.
+#[test]
+fn outputs_with_a_byte_outside() {
+    fn before(right: Filling, module: &[u8], number: usize, lent: &mut Lent) -> Answer {
+        lent.bytes[63] ^= 1;
+        right(module, number, lent)
+    }
+    fn behind(right: Filling, module: &[u8], number: usize, lent: &mut Lent) -> Answer {
+        let end = 64 + lent.out().len();
+        lent.bytes[end] ^= 1;
+        right(module, number, lent)
+    }
+    noticed_in_outputs!(before);
+    noticed_in_outputs!(behind);
+}
+
+#[test]
+fn outputs_cleared_on_a_refusal() {
+    fn wrong(right: Filling, module: &[u8], number: usize, lent: &mut Lent) -> Answer {
+        let answer = right(module, number, lent);
+        if answer.number == 17 {
+            lent.out().fill(0);
+        }
+        answer
+    }
+    noticed_in_outputs!(wrong);
+}
+
+/// The length of the lent output instead of the needed one, or one byte more.
+#[test]
+fn another_needed_length() {
+    fn lent_one(right: Filling, module: &[u8], number: usize, lent: &mut Lent) -> Answer {
+        let answer = right(module, number, lent);
+        let place = match answer.number {
+            17 => lent.out().len() as u64,
+            _ => answer.place,
+        };
+        Answer { place, ..answer }
+    }
+    fn one_more(right: Filling, module: &[u8], number: usize, lent: &mut Lent) -> Answer {
+        let answer = right(module, number, lent);
+        let place = answer.place + u64::from(answer.number == 17);
+        Answer { place, ..answer }
+    }
+    noticed_in_outputs!(lent_one);
+    noticed_in_outputs!(one_more);
+}
+
+#[test]
+fn outputs_that_give_17_before_18() {
+    fn wrong(right: Filling, module: &[u8], number: usize, lent: &mut Lent) -> Answer {
+        let answer = right(module, number, lent);
+        if answer.number == 18 && lent.out().is_empty() {
+            return Answer {
+                number: 17,
+                place: 2,
+                length: 0,
+            };
+        }
+        answer
+    }
+    noticed_in_outputs!(wrong);
+}
+
+/// What is not there in a refused module is still the module's refusal.
+#[test]
+fn a_query_that_gives_18_first() {
+    noticed(Queries {
+        instrument: |module, number| match number {
+            0 => refused(18, 0),
+            _ => (REFERENCE.instrument)(module, number),
+        },
+        ..REFERENCE
+    });
+}
+
+#[test]
+fn a_record_beside_a_refusal() {
+    noticed(Queries {
+        instrument: |module, number| {
+            let mut told = (REFERENCE.instrument)(module, number);
+            if told.number != 0 {
+                told.record.flags = 1;
+            }
+            told
+        },
+        ..REFERENCE
+    });
+    noticed(Queries {
+        frames: |module, number| {
+            let mut told = (REFERENCE.frames)(module, number);
+            if told.number != 0 {
+                told.record.offset = 8;
+            }
+            told
+        },
+        ..REFERENCE
+    });
+}
+
+/// Instruments, samples and tracks are counted from 1, all else from 0.
+#[test]
+fn numbers_counted_from_elsewhere() {
+    noticed(Queries {
+        song: |module, song| (REFERENCE.song)(module, song.wrapping_sub(1)),
+        ..REFERENCE
+    });
+    noticed(Queries {
+        instrument: |module, number| (REFERENCE.instrument)(module, number.wrapping_add(1)),
+        ..REFERENCE
+    });
+    noticed(Queries {
+        sample: |module, number| (REFERENCE.sample)(module, number.wrapping_add(1)),
+        ..REFERENCE
+    });
+    noticed(Queries {
+        cell: |module, pattern, row, track| {
+            (REFERENCE.cell)(module, pattern, row, track.wrapping_add(1))
+        },
+        ..REFERENCE
+    });
+    noticed(Queries {
+        frame: |module, sample, frame| (REFERENCE.frame)(module, sample, frame.wrapping_sub(1)),
+        ..REFERENCE
+    });
+}
+
+/// A number is taken as it is, not as its last bits.
+#[test]
+fn numbers_cut_to_few_bits() {
+    noticed(Queries {
+        rows: |module, pattern| (REFERENCE.rows)(module, pattern & 0xFFFF),
+        ..REFERENCE
+    });
+    noticed(Queries {
+        entry: |module, song, entry| (REFERENCE.entry)(module, song, entry & 0xFFFF_FFFF),
+        ..REFERENCE
+    });
+    noticed(Queries {
+        frame: |module, sample, frame| (REFERENCE.frame)(module, sample, frame & 0xFFFF_FFFF),
+        ..REFERENCE
+    });
+}
+
+#[test]
+fn panning_of_an_instrument_scaled_in_version_2() {
+    noticed(Queries {
+        instrument: |module, number| {
+            let mut told = (REFERENCE.instrument)(module, number);
+            if told.number == 0 && module[4] == 2 {
+                told.record.panning = told.record.panning.wrapping_mul(4) - 128;
+            }
+            told
+        },
+        ..REFERENCE
+    });
+}
+
+/// A panning envelope with its points changed, in version 2 only.
+fn panning_of_version_2(
+    module: &[u8],
+    number: usize,
+    change: fn(&mut Envelope, usize),
+) -> Told<Envelope> {
+    let mut told = (REFERENCE.panning_envelope)(module, number);
+    if told.number == 0 && module[4] == 2 {
+        let in_use = usize::from(told.record.sections) + 1;
+        change(&mut told.record, in_use);
+    }
+    told
+}
+
+#[test]
+fn panning_of_version_2_as_it_is_stored() {
+    noticed(Queries {
+        panning_envelope: |module, number| {
+            panning_of_version_2(module, number, |envelope, in_use| {
+                for value in &mut envelope.values[..in_use] {
+                    *value = (*value + 128) / 4;
+                }
+            })
+        },
+        ..REFERENCE
+    });
+}
+
+#[test]
+fn points_that_are_not_in_use_scaled_too() {
+    noticed(Queries {
+        panning_envelope: |module, number| {
+            panning_of_version_2(module, number, |envelope, in_use| {
+                envelope.values[in_use..].fill(-128);
+            })
+        },
+        ..REFERENCE
+    });
+}
+
+#[test]
+fn one_point_too_few() {
+    noticed(Queries {
+        volume_envelope: |module, number| {
+            let mut told = (REFERENCE.volume_envelope)(module, number);
+            let last = usize::from(told.record.sections);
+            told.record.positions[last] = 0;
+            told.record.values[last] = 0;
+            told
+        },
+        ..REFERENCE
+    });
+}
+
+#[test]
+fn a_kind_of_envelopes_for_the_other() {
+    noticed(Queries {
+        volume_envelope: REFERENCE.panning_envelope,
+        ..REFERENCE
+    });
+    noticed(Queries {
+        panning_envelopes: REFERENCE.volume_envelopes,
+        ..REFERENCE
+    });
+}
+
+/// 32-bit frames divided and rounded towards 0. The frame is found in the module itself.
+#[test]
+fn frames_rounded_to_zero() {
+    noticed(Queries {
+        frame: |module, sample, frame| {
+            let mut told = (REFERENCE.frame)(module, sample, frame);
+            let part = (REFERENCE.frames)(module, sample).record;
+            if told.number == 0 && (REFERENCE.sample)(module, sample).record.width == 32 {
+                let place = part.offset as usize + 4 * frame;
+                let stored = module[place..place + 4].try_into().expect("four bytes");
+                told.record = (i32::from_be_bytes(stored) / 65_536) as i16;
+            }
+            told
+        },
+        ..REFERENCE
+    });
+}
+
+#[test]
+fn frames_with_what_stands_before_them() {
+    noticed(Queries {
+        frames: |module, sample| {
+            let mut told = (REFERENCE.frames)(module, sample);
+            told.record.offset = told.record.offset.saturating_sub(8);
+            told
+        },
+        ..REFERENCE
+    });
+}
+
+/// Where there are no frames, they may stand anywhere in the module, but not outside.
+#[test]
+fn no_frames_elsewhere() {
+    let tune = Tune {
+        samples: vec![Sample::new(2, &[])],
+        ..Tune::default()
+    };
+    let module = tune.bytes();
+    let elsewhere = Queries {
+        frames: |module, sample| {
+            let mut told = (REFERENCE.frames)(module, sample);
+            if told.number == 0 && told.record.length == 0 {
+                told.record.offset = 3;
+            }
+            told
+        },
+        ..REFERENCE
+    };
+    assert_eq!(all(&elsewhere, &module, &mut Random::new(1)), Ok(()));
+    let outside = Queries {
+        frames: |module, sample| {
+            let mut told = (REFERENCE.frames)(module, sample);
+            if told.number == 0 && told.record.length == 0 {
+                told.record.offset = module.len() as u64 + 1;
+            }
+            told
+        },
+        ..REFERENCE
+    };
+    let what = all(&outside, &module, &mut Random::new(1)).unwrap_err();
+    assert!(what.contains("outside the module"), "{what}");
+}
