@@ -4,8 +4,8 @@
  *
  * Link with libdbm0.a (x86-64, System V calling convention). The calls of
  * dbm0_pattern.h, which this header includes, are in libpattern.a: a program
- * that wants both links both. libdbm0.a needs memset of a C library, or one
- * of the program's own.
+ * that wants both links both. libdbm0.a needs memcpy and memset of a C library,
+ * or the program's own.
  *
  * A module is a header of 8 bytes ("DBM0", version, revision, two reserved
  * bytes) and chunks: an identifier of four letters, the length of the data in
@@ -32,7 +32,7 @@
  *   goes through the calls that fill an output.
  * - No call keeps any state, allocates, or waits. They may run on any thread
  *   and at the same time.
- * - A call needs less than 1,024 bytes of stack.
+ * - A call needs less than 2,560 bytes of stack.
  */
 
 #ifndef DBM0_H

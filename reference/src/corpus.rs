@@ -5,12 +5,29 @@
 //! - kind 1, a stream: rows (8), tracks (8), row (8), track (8), room (4), length (4), the stream;
 //! - kind 2, cells: rows (8), tracks (8), room (4), length (4), the cells;
 //! - kind 3, a cell to show: six bytes;
-//! - kind 4, a module: room (4), length (4), the module.
+//! - kind 4, a module: room (4), length (4), the module;
+//! - kind 5, the records of a module: song, entry, instrument, envelope, pattern, row, track, sample and frame (8 each), room (4),
+//!   length (4), the module.
 
 mod modules;
+mod records;
 
 use crate::generate::{bytes, cells, damaged, entry, likely_bytes, sound_stream, Random};
 use crate::pattern::{pack, repack, FIELDS};
+
+/// What a case of records asks for.
+#[derive(Clone, Copy, Debug, PartialEq, Eq)]
+pub struct Asked {
+    pub song: u64,
+    pub entry: u64,
+    pub instrument: u64,
+    pub envelope: u64,
+    pub pattern: u64,
+    pub row: u64,
+    pub track: u64,
+    pub sample: u64,
+    pub frame: u64,
+}
 
 /// One case. `row` and `track` are those of the asked cell; `room` is how many bytes each output has.
 #[derive(Clone, Debug, PartialEq, Eq)]
@@ -34,6 +51,43 @@ pub enum Case {
         room: u32,
         module: Vec<u8>,
     },
+    Records {
+        asked: Asked,
+        room: u32,
+        module: Vec<u8>,
+    },
+}
+
+impl Asked {
+    /// The numbers in the order of a case.
+    fn numbers(self) -> [u64; 9] {
+        [
+            self.song,
+            self.entry,
+            self.instrument,
+            self.envelope,
+            self.pattern,
+            self.row,
+            self.track,
+            self.sample,
+            self.frame,
+        ]
+    }
+
+    fn of(numbers: [u64; 9]) -> Asked {
+        let [song, entry, instrument, envelope, pattern, row, track, sample, frame] = numbers;
+        Asked {
+            song,
+            entry,
+            instrument,
+            envelope,
+            pattern,
+            row,
+            track,
+            sample,
+            frame,
+        }
+    }
 }
 
 /// The bytes of the cases.
@@ -81,6 +135,19 @@ pub fn encoded(cases: &[Case]) -> Vec<u8> {
                 corpus.extend((module.len() as u32).to_be_bytes());
                 corpus.extend(module);
             }
+            Case::Records {
+                asked,
+                room,
+                module,
+            } => {
+                corpus.push(5);
+                for number in asked.numbers() {
+                    corpus.extend(number.to_be_bytes());
+                }
+                corpus.extend(room.to_be_bytes());
+                corpus.extend((module.len() as u32).to_be_bytes());
+                corpus.extend(module);
+            }
         }
     }
     corpus
@@ -120,6 +187,16 @@ pub fn take(corpus: &[u8]) -> Option<(Case, &[u8])> {
             let module = take_bytes(&mut left, length)?.to_vec();
             Case::Module { room, module }
         }
+        5 => {
+            let asked = Asked::of(take_numbers(&mut left)?);
+            let [room, length] = take_lengths(&mut left)?;
+            let module = take_bytes(&mut left, length)?.to_vec();
+            Case::Records {
+                asked,
+                room,
+                module,
+            }
+        }
         _ => return None,
     };
     Some((case, left))
@@ -147,11 +224,17 @@ fn take_lengths<const N: usize>(left: &mut &[u8]) -> Option<[u32; N]> {
     Some(numbers)
 }
 
-/// All cases: first those of packed rows, then those of modules.
+/// All cases: first those of packed rows, then those of modules, then those of records.
 pub fn cases() -> Vec<Case> {
     let mut cases = pattern_cases();
     cases.extend(module_cases());
+    cases.extend(record_cases());
     cases
+}
+
+/// The cases of kind 5.
+pub fn record_cases() -> Vec<Case> {
+    records::cases()
 }
 
 /// The cases of kind 4.

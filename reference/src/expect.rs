@@ -1,5 +1,7 @@
 //! What is expected of each case of a corpus, as text.
 
+mod records;
+
 use std::fmt::Write;
 
 use crate::corpus::{take, Case};
@@ -44,13 +46,7 @@ fn lines(case: &Case, text: &mut String) {
             written(text, "repack", *room, |out| {
                 repack(stream, *rows, *tracks, out)
             });
-            let answer = cell(stream, *rows, *tracks, *row, *track);
-            let (number, place) = numbers(answer.err());
-            let values = answer.map_or([0; 8], values);
-            line(
-                text,
-                format_args!("cell {number} {place} {}", spaced(values)),
-            );
+            asked_cell(text, cell(stream, *rows, *tracks, *row, *track));
         }
         Case::Cells {
             rows,
@@ -71,6 +67,11 @@ fn lines(case: &Case, text: &mut String) {
             line(text, format_args!("module {number} {place}"));
             written(text, "lines", *room, |out| listing::write(module, out));
         }
+        Case::Records {
+            asked,
+            room,
+            module,
+        } => records::lines(text, module, asked, *room),
     }
 }
 
@@ -85,11 +86,26 @@ fn written(
     let answer = call(&mut out);
     let (number, place) = numbers(answer.err());
     let length = answer.unwrap_or(0);
+    let out = hex(&out);
+    line(text, format_args!("{name} {number} {place} {length} {out}"));
+}
+
+/// The line of a cell that was asked for.
+fn asked_cell(text: &mut String, answer: Result<Cell, Refusal>) {
+    let (number, place) = numbers(answer.err());
+    let values = answer.map_or([0; 8], values);
+    line(
+        text,
+        format_args!("cell {number} {place} {}", spaced(values)),
+    );
+}
+
+fn hex(bytes: &[u8]) -> String {
     let mut hex = String::new();
-    for byte in out {
+    for byte in bytes {
         write!(hex, "{byte:02x}").expect("a string takes every write");
     }
-    line(text, format_args!("{name} {number} {place} {length} {hex}"));
+    hex
 }
 
 fn numbers(refusal: Option<Refusal>) -> (u64, u64) {

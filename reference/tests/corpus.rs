@@ -2,7 +2,9 @@
 
 use std::collections::BTreeSet;
 
-use reference::corpus::{cases, encoded, module_cases, pattern_cases, take, Case};
+use reference::corpus::{
+    cases, encoded, module_cases, pattern_cases, record_cases, take, Asked, Case,
+};
 use reference::expect::expected;
 
 fn stream(rows: u64, tracks: u64, row: u64, track: u64, room: u32, stream: &[u8]) -> Case {
@@ -124,12 +126,174 @@ fn the_lines_of_modules() {
     );
 }
 
+/// The first of everything, but for the track.
+const ASKED: Asked = Asked {
+    song: 0,
+    entry: 0,
+    instrument: 1,
+    envelope: 0,
+    pattern: 0,
+    row: 0,
+    track: 2,
+    sample: 1,
+    frame: 0,
+};
+
+fn records(asked: Asked, room: u32, module: &[u8]) -> Case {
+    Case::Records {
+        asked,
+        room,
+        module: module.to_vec(),
+    }
+}
+
+/// A module of version 2 with one of everything but a name and a volume envelope. INFO stands at 8, the sample's frames at 320.
+#[rustfmt::skip]
+fn one_of_each() -> Vec<u8> {
+    [
+        &b"DBM0\x02\x15\x00\x00"[..],
+        b"INFO\x00\x00\x00\x0A", &[0, 1, 0, 1, 0, 1, 0, 1, 0, 4],
+        b"PENV\x00\x00\x00\x8A", &[0, 1], &[0, 1, 5, 1, 7, 0, 1, 9], &[0, 3, 0, 0, 1, 44, 0, 64], &[0xFF; 120],
+        b"SONG\x00\x00\x00\x30", b"S", &[0; 43], &[0, 1], &[0, 0],
+        b"INST\x00\x00\x00\x32", b"I", &[0; 29], &[0, 1, 0, 64], &[0, 0, 0x20, 0xAB], &[0, 0, 0, 1], &[0, 0, 0, 1],
+        &[0xFF, 0xD8], &[0, 2],
+        b"PATT\x00\x00\x00\x0A", &[0, 1, 0, 0, 0, 4], &[2, 1, 0x1F, 0],
+        b"SMPL\x00\x00\x00\x0C", &[0, 0, 0, 2, 0, 0, 0, 2], &[0x80, 0x00, 0x7F, 0xFF],
+    ]
+    .concat()
+}
+
+/// So many times " 0".
+fn zeros(count: usize) -> String {
+    " 0".repeat(count)
+}
+
+#[test]
+fn the_lines_of_records() {
+    let corpus = encoded(&[records(ASKED, 5, &one_of_each())]);
+    assert_eq!(corpus.len(), 81 + 324);
+    assert_eq!(
+        corpus[..17],
+        [5, 0, 0, 0, 0, 0, 0, 0, 0, 0, 0, 0, 0, 0, 0, 0, 0]
+    );
+    assert_eq!(corpus[17..25], [0, 0, 0, 0, 0, 0, 0, 1]);
+    assert_eq!(corpus[49..57], [0, 0, 0, 0, 0, 0, 0, 2]);
+    assert_eq!(corpus[73..85], *b"\x00\x00\x00\x05\x00\x00\x01\x44DBM0");
+    assert_eq!(
+        expected(&corpus),
+        format!(
+            "version 0 0 2 21\n\
+             name 0 0 {}\n\
+             info 0 0 1 1 1 1 4\n\
+             song 0 0 1 53{}\n\
+             entry 0 0 0\n\
+             playlist 0 0 2 0000aaaaaa\n\
+             instrument 0 0 1 64 8363 1 1 2 -40 49{}\n\
+             volume_envelopes 0 0 0\n\
+             panning_envelopes 0 0 1\n\
+             volume_envelope 18 0{}\n\
+             panning_envelope 0 0 1 5 1 7 0 1 9 3 300{} -128 128{}\n\
+             rows 0 0 1\n\
+             cell 0 0 1 0 0 0 0 0 0 0\n\
+             unpack 17 24 0 aaaaaaaaaa\n\
+             sample 0 0 16 2\n\
+             frames 0 0 320 4 80007fff\n\
+             frame 0 0 -32768\n\
+             all_frames 0 0 4 80007fffaa\n\
+             cases 1\n",
+            "00".repeat(44),
+            "00".repeat(43),
+            "00".repeat(29),
+            zeros(71),
+            zeros(30),
+            zeros(30),
+        )
+    );
+}
+
+/// The lines of a module that refuses all that depends on an index with one refusal, and all else with another or not at all.
+fn refused_records(summary: &str, counts: &str, refusal: &str, out: &str) -> String {
+    format!(
+        "{summary}\
+         song {refusal} 0 {}\n\
+         entry {refusal} 0\n\
+         playlist {refusal} 0 {out}\n\
+         instrument {refusal}{} {}\n\
+         {counts}\
+         volume_envelope {refusal}{}\n\
+         panning_envelope {refusal}{}\n\
+         rows {refusal} 0\n\
+         cell {refusal}{}\n\
+         unpack {refusal} 0 {out}\n\
+         sample {refusal} 0 0\n\
+         frames {refusal} 0 0 \n\
+         frame {refusal} 0\n\
+         all_frames {refusal} 0 {out}\n\
+         cases 1\n",
+        "00".repeat(44),
+        zeros(7),
+        "00".repeat(30),
+        zeros(71),
+        zeros(71),
+        zeros(8),
+    )
+}
+
+#[test]
+fn the_lines_of_refused_records() {
+    let module = one_of_each();
+    let name = "00".repeat(44);
+    let summary = format!("version 0 0 2 21\nname 0 0 {name}\ninfo 0 0 1 1 1 1 4\n");
+    let counts = "volume_envelopes 0 0 0\npanning_envelopes 0 0 1\n";
+    // 18 comes before 17.
+    let past = Asked {
+        song: 1,
+        entry: 1,
+        instrument: 2,
+        envelope: 1,
+        pattern: 1,
+        row: 1,
+        track: 5,
+        sample: 2,
+        frame: 2,
+    };
+    assert_eq!(
+        expected(&encoded(&[records(past, 1, &module)])),
+        refused_records(&summary, counts, "18 0", "aa")
+    );
+    // The data of INFO are cut; this comes before 18.
+    let summary = format!("version 4 8 0 0\nname 4 8 {name}\ninfo 4 8 0 0 0 0 0\n");
+    let counts = "volume_envelopes 4 8 0\npanning_envelopes 4 8 0\n";
+    for asked in [ASKED, past] {
+        assert_eq!(
+            expected(&encoded(&[records(asked, 2, &module[..20])])),
+            refused_records(&summary, counts, "4 8", "aaaa")
+        );
+    }
+}
+
+#[test]
+fn at_most_65536_bytes_of_a_part_are_told() {
+    let mut module = b"DBM0\x03\x00\x00\x00INFO\x00\x00\x00\x0A".to_vec();
+    module.extend([0, 0, 0, 1, 0, 0, 0, 0, 0, 4]);
+    for name in [b"SONG", b"INST", b"PATT"] {
+        module.extend(name);
+        module.extend([0; 4]);
+    }
+    module.extend(b"SMPL\x00\x01\x00\x09\x00\x00\x00\x01\x00\x01\x00\x01");
+    module.extend([0x11; 65_536]);
+    module.push(0x22);
+    let text = expected(&encoded(&[records(ASKED, 0, &module)]));
+    let line = format!("\nframes 0 0 66 65537 {}\nframe", "11".repeat(65_536));
+    assert!(text.contains(&line));
+}
+
 #[test]
 fn a_cut_case_or_an_unknown_kind_ends_the_run() {
     assert_eq!(expected(&[]), "cases 0\n");
     assert_eq!(expected(&[0]), "cases 0\n");
     assert_eq!(expected(&[4, 0, 0]), "cases 0\n");
-    assert_eq!(expected(&[5, 0, 0, 0, 0, 0, 0, 0, 0]), "cases 0\n");
+    assert_eq!(expected(&[6, 0, 0, 0, 0, 0, 0, 0, 0]), "cases 0\n");
     let shown = encoded(&[Case::Shown([0; 6])]);
     let line = "shown 0 0 0 0 0 0 0 0\n";
     assert_eq!(
@@ -149,6 +313,7 @@ fn a_cut_case_or_an_unknown_kind_ends_the_run() {
             room: 20,
             module: vec![b'D'; 9],
         },
+        records(ASKED, 3, &[b'D'; 9]),
     ];
     for case in whole {
         let case = encoded(&[case]);
@@ -220,7 +385,10 @@ fn the_cases_of_packed_rows_stay_as_they_are_and_stand_first() {
     assert_eq!(hash(&patterns), 0x9BEA_592E_846C_7DC2);
     let all = encoded(&cases());
     assert_eq!(all[..230_736], patterns);
-    assert_eq!(all[230_736..], encoded(&module_cases()));
+    let modules = encoded(&module_cases());
+    let behind = 230_736 + modules.len();
+    assert_eq!(all[230_736..behind], modules);
+    assert_eq!(all[behind..], encoded(&record_cases()));
 }
 
 #[test]
@@ -235,6 +403,56 @@ fn the_modules_are_small_and_many() {
     assert!(modules.iter().all(|module| module.len() <= 1_200));
     let different: BTreeSet<_> = modules.iter().collect();
     assert!(different.len() >= 1_700, "{} modules", different.len());
+}
+
+/// The words of the lines of a case of records, and whether the query can give 18 and 17.
+const QUERIES: [(&str, bool, bool); 18] = [
+    ("version", false, false),
+    ("name", false, false),
+    ("info", false, false),
+    ("song", true, false),
+    ("entry", true, false),
+    ("playlist", true, true),
+    ("instrument", true, false),
+    ("volume_envelopes", false, false),
+    ("panning_envelopes", false, false),
+    ("volume_envelope", true, false),
+    ("panning_envelope", true, false),
+    ("rows", true, false),
+    ("cell", true, false),
+    ("unpack", true, true),
+    ("sample", true, false),
+    ("frames", true, false),
+    ("frame", true, false),
+    ("all_frames", true, true),
+];
+
+#[test]
+fn the_records_have_every_kind_of_answer() {
+    let cases = record_cases();
+    let text = expected(&encoded(&cases));
+    let lines: Vec<Vec<&str>> = text.lines().map(|line| line.split(' ').collect()).collect();
+    assert_eq!(lines.len(), 18 * cases.len() + 1);
+    for (place, (word, index, room)) in QUERIES.into_iter().enumerate() {
+        let lines: Vec<_> = lines[..18 * cases.len()]
+            .iter()
+            .skip(place)
+            .step_by(18)
+            .collect();
+        assert!(lines.iter().all(|line| line[0] == word), "{word}");
+        let numbers: BTreeSet<u64> = lines.iter().map(|line| line[1].parse().unwrap()).collect();
+        let expected = [0]
+            .into_iter()
+            .chain(2..=15)
+            .chain(room.then_some(17))
+            .chain(index.then_some(18));
+        assert_eq!(numbers, expected.collect(), "{word}");
+        // Every field has several values.
+        for field in 0..lines[0].len() {
+            let values: BTreeSet<_> = lines.iter().map(|line| line[field]).collect();
+            assert!(field == 0 || values.len() > 1, "{word}, field {field}");
+        }
+    }
 }
 
 #[test]

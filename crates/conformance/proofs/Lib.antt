@@ -1,1 +1,2 @@
+pub mod AboveLeast
 pub mod Pasting

@@ -1,125 +1,20 @@
 // One case after the other.
+use crate::answers::note_numbers;
+use crate::answers::of_listing;
+use crate::answers::of_packing;
+use crate::answers::of_unpacking;
+use crate::answers::of_verdict;
+use crate::answers::print_cell_answer;
 use crate::numbers::be32;
 use crate::numbers::be64;
+use crate::records::Asked;
+use crate::records::print_records;
 use crate::text::fill;
 use crate::text::print_bytes;
 use crate::text::print_numbers;
 use crate::text::within;
-use cells::Cell;
-use cells::Note;
-use listing_text::Listing;
-use packed_rows::CellAnswer;
-use packed_rows::Packing;
-use packed_rows::Unpacking;
-use refusal::Refusal;
-use refusal::Verdict;
 ghost use Prim.Native.Nat.{_≤_};
 ghost use lib.ListN.{length};
-
-// An answer as it is printed: 0 for each number that it does not have.
-struct Answer {
-    number: usize,
-    place: usize,
-    length: usize,
-}
-
-// A note as it is printed: 0 none, 1 key off, 2 a pitch, 3 unknown, with octave and semitone, or the byte.
-struct NoteNumbers {
-    kind: u8,
-    a: u8,
-    b: u8,
-}
-
-fn of_refusal(r: Refusal) -> Answer {
-    Answer {
-        number: r.number as usize,
-        place: r.place,
-        length: 0,
-    }
-}
-
-fn of_length(length: usize) -> Answer {
-    Answer {
-        number: 0,
-        place: 0,
-        length,
-    }
-}
-
-fn of_verdict(v: Verdict) -> Answer {
-    match v {
-        Verdict::Accepted => of_length(0),
-        Verdict::Refused(r) => of_refusal(r),
-    }
-}
-
-fn of_unpacking(u: Unpacking) -> Answer {
-    match u {
-        Unpacking::Unpacked(n) => of_length(n),
-        Unpacking::Refused(r) => of_refusal(r),
-    }
-}
-
-fn of_packing(p: Packing) -> Answer {
-    match p {
-        Packing::Packed(n) => of_length(n),
-        Packing::Refused(r) => of_refusal(r),
-    }
-}
-
-fn of_listing(l: Listing) -> Answer {
-    match l {
-        Listing::Written(n) => of_length(n),
-        Listing::Refused(r) => of_refusal(r),
-    }
-}
-
-fn of_cell(c: CellAnswer) -> Answer {
-    match c {
-        CellAnswer::Found(_) => of_length(0),
-        CellAnswer::Refused(r) => of_refusal(r),
-    }
-}
-
-// The cell found, or an empty one.
-fn found(c: CellAnswer) -> Cell {
-    match c {
-        CellAnswer::Found(cell) => cell,
-        CellAnswer::Refused(_) => Cell {
-            note: Note::None,
-            instrument: 0,
-            command1: 0,
-            parameter1: 0,
-            command2: 0,
-            parameter2: 0,
-        },
-    }
-}
-
-fn note_numbers(note: Note) -> NoteNumbers {
-    match note {
-        Note::None => NoteNumbers {
-            kind: 0,
-            a: 0,
-            b: 0,
-        },
-        Note::KeyOff => NoteNumbers {
-            kind: 1,
-            a: 0,
-            b: 0,
-        },
-        Note::Pitch { octave, semitone } => NoteNumbers {
-            kind: 2,
-            a: octave,
-            b: semitone,
-        },
-        Note::Unknown(byte) => NoteNumbers {
-            kind: 3,
-            a: byte,
-            b: 0,
-        },
-    }
-}
 
 fn print_check(stream: &[u8], rows: usize, tracks: usize, line: &mut [u8]) {
     let a = of_verdict(packed_rows::check(stream, rows, tracks));
@@ -152,24 +47,7 @@ fn print_cell(
     track: usize,
     line: &mut [u8],
 ) {
-    let answer = packed_rows::cell(stream, rows, tracks, row, track);
-    let a = of_cell(answer);
-    let c = found(answer);
-    let note = c.note;
-    let p = note_numbers(note);
-    let numbers = [
-        a.number,
-        a.place,
-        p.kind as usize,
-        p.a as usize,
-        p.b as usize,
-        c.instrument as usize,
-        c.command1 as usize,
-        c.parameter1 as usize,
-        c.command2 as usize,
-        c.parameter2 as usize,
-    ];
-    print_numbers(b"cell", &numbers, line);
+    print_cell_answer(packed_rows::cell(stream, rows, tracks, row, track), line);
 }
 
 fn print_stream(
@@ -280,6 +158,40 @@ fn module_case(s: &[u8], out: &mut [u8], line: &mut [u8]) -> usize
     end
 }
 
+// The indices of a case of records.
+fn asked(s: &[u8]) -> Asked
+    requires { ⌜ 81 ≤ length (now s) ⌝ }
+{
+    Asked {
+        song: be64(s, 1),
+        entry: be64(s, 9),
+        instrument: be64(s, 17),
+        envelope: be64(s, 25),
+        pattern: be64(s, 33),
+        row: be64(s, 41),
+        track: be64(s, 49),
+        sample: be64(s, 57),
+        frame: be64(s, 65),
+    }
+}
+
+fn records_case(s: &[u8], out: &mut [u8], line: &mut [u8]) -> usize
+    ensures { λ r. ⌜ r ≤ length (now (s .entry)) ⌝ }
+{
+    if s.len() < 81 {
+        return 0;
+    }
+    let length = be32(s, 77);
+    if s.len() - 81 < length {
+        return 0;
+    }
+    let end = 81 + length;
+    let a = asked(s);
+    let room = within(be32(s, 73), out);
+    print_records(&s[81..end], a, &mut out[..room], line);
+    end
+}
+
 fn case(s: &[u8], out: &mut [u8], line: &mut [u8]) -> usize
     ensures { λ r. ⌜ r ≤ length (now (s .entry)) ⌝ }
 {
@@ -298,6 +210,9 @@ fn case(s: &[u8], out: &mut [u8], line: &mut [u8]) -> usize
     }
     if kind == 4 {
         return module_case(s, out, line);
+    }
+    if kind == 5 {
+        return records_case(s, out, line);
     }
     0
 }

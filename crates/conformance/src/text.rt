@@ -34,15 +34,47 @@ pub fn put(line: &mut [u8], at: usize, xs: &[u8]) -> usize
     at + n
 }
 
-// Puts a space and a number in decimal.
-pub fn put_number(line: &mut [u8], at: usize, number: usize) -> usize
+// Puts a word and a number in decimal.
+fn put_digits(line: &mut [u8], at: usize, word: &[u8], number: usize) -> usize
     requires { ⌜ at ≤ length (now line) ⌝ }
     ensures { λ r. ⌜ r ≤ length (now (line .entry)) ⌝ }
 {
     let mut digits = [0u8; 20];
     let k = io::decimal(number as u64, &mut digits);
-    let next = put(line, at, b" ");
+    let next = put(line, at, word);
     put(line, next, &digits[..k])
+}
+
+// Puts a space and a number in decimal.
+pub fn put_number(line: &mut [u8], at: usize, number: usize) -> usize
+    requires { ⌜ at ≤ length (now line) ⌝ }
+    ensures { λ r. ⌜ r ≤ length (now (line .entry)) ⌝ }
+{
+    put_digits(line, at, b" ", number)
+}
+
+// A number of two bytes in four.
+pub fn wider(x: i16) -> i32 {
+    x as i32
+}
+
+// How far a number is above the least one.
+fn above_least(x: i32) -> usize
+    ensures { λ r. ⌜ r < 4294967296 ⌝ }
+{
+    (x as i64 + 2147483648) as usize
+}
+
+// Puts a space and a number in decimal, with its sign where it is negative.
+pub fn put_signed(line: &mut [u8], at: usize, x: i32) -> usize
+    requires { ⌜ at ≤ length (now line) ⌝ }
+    ensures { λ r. ⌜ r ≤ length (now (line .entry)) ⌝ }
+{
+    let n = above_least(x);
+    if n < 2147483648 {
+        return put_digits(line, at, b" -", 2147483648 - n);
+    }
+    put_digits(line, at, b" ", n - 2147483648)
 }
 
 // Puts each number with a space before it.
@@ -54,6 +86,35 @@ pub fn put_numbers(line: &mut [u8], at: usize, numbers: &[usize]) -> usize
     let mut i = 0;
     while i < numbers.len() {
         next = put_number(line, next, numbers[i]);
+        i += 1;
+    }
+    next
+}
+
+// The same for numbers of two bytes.
+pub fn put_words(line: &mut [u8], at: usize, numbers: &[u16]) -> usize
+    requires { ⌜ at ≤ length (now line) ⌝ }
+    ensures { λ r. ⌜ r ≤ length (now (line .entry)) ⌝ }
+{
+    let mut next = at;
+    let mut i = 0;
+    while i < numbers.len() {
+        next = put_number(line, next, numbers[i] as usize);
+        i += 1;
+    }
+    next
+}
+
+// The same for numbers with a sign.
+pub fn put_all_signed(line: &mut [u8], at: usize, numbers: &[i32]) -> usize
+    requires { ⌜ at ≤ length (now line) ⌝ }
+    ensures { λ r. ⌜ r ≤ length (now (line .entry)) ⌝ }
+{
+    let mut next = at;
+    let mut i = 0;
+    while i < numbers.len() {
+        let x = numbers[i];
+        next = put_signed(line, next, x);
         i += 1;
     }
     next
@@ -94,22 +155,40 @@ pub fn fill(out: &mut [u8])
     }
 }
 
+// Puts a word and numbers at a line's start.
+pub fn begin(line: &mut [u8], word: &[u8], numbers: &[usize]) -> usize
+    ensures { λ r. ⌜ r ≤ length (now (line .entry)) ⌝ }
+{
+    let at = put(line, 0, word);
+    put_numbers(line, at, numbers)
+}
+
+// Ends a line, and prints it.
+pub fn finish(line: &mut [u8], at: usize)
+    requires { ⌜ at ≤ length (now line) ⌝ }
+{
+    let end = put(line, at, b"\n");
+    let n = within(end, line);
+    io::write_all(1, &line[..n]);
+}
+
+// Ends a line with bytes in hexadecimal, and prints it.
+pub fn finish_bytes(line: &mut [u8], at: usize, bytes: &[u8])
+    requires { ⌜ at ≤ length (now line) ⌝ }
+{
+    let start = put(line, at, b" ");
+    let end = put_hex(line, start, bytes);
+    finish(line, end);
+}
+
 // Prints a line of a word and numbers.
 pub fn print_numbers(word: &[u8], numbers: &[usize], line: &mut [u8]) {
-    let mut at = put(line, 0, word);
-    at = put_numbers(line, at, numbers);
-    at = put(line, at, b"\n");
-    let n = within(at, line);
-    io::write_all(1, &line[..n]);
+    let at = begin(line, word, numbers);
+    finish(line, at);
 }
 
 // Prints a line of a word, numbers and bytes in hexadecimal.
 pub fn print_bytes(word: &[u8], numbers: &[usize], bytes: &[u8], line: &mut [u8]) {
-    let mut at = put(line, 0, word);
-    at = put_numbers(line, at, numbers);
-    at = put(line, at, b" ");
-    at = put_hex(line, at, bytes);
-    at = put(line, at, b"\n");
-    let n = within(at, line);
-    io::write_all(1, &line[..n]);
+    let at = begin(line, word, numbers);
+    finish_bytes(line, at, bytes);
 }

@@ -1,15 +1,14 @@
 -- Values of panning in 4 bytes: a stored v as 4v − 128, and a signed number of 2 bytes.
-use Prim.Native.Nat.{ℕ, suc, _-_, _*_, _<_, _≤_}
+use Prim.Native.Nat.{ℕ, _*_, _<_}
 use mathlib.Core.Path.{_≡_, refl, ap, _∙_}
 use mathlib.Core.Bool.{Bool, true, false}
 use native.Mathlib.Omega.{arith}
 use lib.Dec.{ltb}
-use lib.IntN.{ℤ, pos, negsuc, _-ℤ_, _*ℤ_}
+use lib.IntN.{ℤ, pos, _-ℤ_, _*ℤ_}
 use lib.Signed.{mag}
 use mir.Syntax.{w16, w32}
 use mir.Val.{SFits, toZ, ofZ}
 use mir.ValLaws.{toZ-pos, toZ-ofZ}
-use borrow.Author.Tests.{ltb-true, ltb-false}
 
 times : (v : ℕ) → v < 65536 → pos 4 *ℤ toZ w32 v ≡ pos (4 * v)
 times v h = ap (λ (z : ℤ). pos 4 *ℤ z) (toZ-pos w32 v (omega arith))

@@ -13,6 +13,7 @@ use refusal::Refusal;
 ghost use mathlib.Core.Path.{_≡_};
 ghost use mathlib.Core.Bool.{Bool};
 ghost use Prim.Native.Nat.{_<_};
+ghost use lib.Dec.{leb};
 ghost use lib.ListN.{length};
 ghost use Rattle.numbers.specs.Numbers.{eachFrom};
 ghost use Rattle.envelopes.specs.Shown.{thingOf, chunkOf, noCount, countAnswer, positionShown, valueOf, valueShown, noEnvelope, shownEnvelope, envelopeAnswer};
@@ -90,15 +91,22 @@ pub fn count(m: &[u8], kind: EnvelopeKind) -> CountAnswer
     }
 }
 
+// Whether a point is in use: there is one more of these than there are sections.
+fn in_use(sections: u8, point: usize) -> bool
+    ensures { λ r. ⌜ r ≡ leb point sections ⌝ }
+{
+    point <= (sections as usize)
+}
+
 // The position of a point of the envelope at a place.
 fn position(m: &[u8], at: usize, sections: u8, point: usize) -> u16
     requires { ⌜ (at < 0x10000000000000) × (point < 32) ⌝ }
     ensures { λ r. ⌜ r ≡ positionShown (now (m .entry)) at sections point ⌝ }
 {
-    if (sections as usize) < point {
-        return 0;
+    if in_use(sections, point) {
+        return number16(m, at + 8 + 4 * point);
     }
-    number16(m, at + 8 + 4 * point)
+    0
 }
 
 // A value as it is shown.
@@ -121,10 +129,10 @@ fn value(m: &[u8], kind: EnvelopeKind, version: u8, at: usize, sections: u8, poi
     requires { ⌜ (at < 0x10000000000000) × (point < 32) ⌝ }
     ensures { λ r. ⌜ r ≡ valueShown (now (m .entry)) kind version at sections point ⌝ }
 {
-    if (sections as usize) < point {
-        return 0;
+    if in_use(sections, point) {
+        return value_of(kind, version, number16(m, at + 10 + 4 * point));
     }
-    value_of(kind, version, number16(m, at + 10 + 4 * point))
+    0
 }
 
 // Fills in the positions of all points.

@@ -1,2 +1,3 @@
+pub mod FramePlaces
 pub mod SixteenBits
 pub mod WritingFrames

@@ -18,7 +18,7 @@ const DRAWN: usize = 235;
 const USUAL_ROOM: u32 = 100;
 
 /// An order in which the chunks stand quite otherwise than they are checked.
-const REVERSED: [Name; 8] = [
+pub(super) const REVERSED: [Name; 8] = [
     *b"PENV", *b"VENV", *b"NAME", *b"INFO", *b"SMPL", *b"PATT", *b"INST", *b"SONG",
 ];
 

@@ -86,7 +86,8 @@ pub fn module_answer(result: Result<(), Refusal>) -> ModuleAnswer {
     }
 }
 
-/// A case of the corpus. A cell to show is no call of the archives.
+/// A case of the corpus. A cell to show is no call of the archives, and of records only the module is checked: `records::all` asks for
+/// them.
 pub fn case(library: Library, case: &Case) -> Result<(), String> {
     let lent = |room: u32| room.min(MOST_ROOM) as usize;
     match case {
@@ -104,7 +105,7 @@ pub fn case(library: Library, case: &Case) -> Result<(), String> {
             cells,
         } => self::cells(library, cells, *rows, *tracks, lent(*room)),
         Case::Shown(_) => Ok(()),
-        Case::Module { module, .. } => self::module(library, module),
+        Case::Module { module, .. } | Case::Records { module, .. } => self::module(library, module),
     }
 }
 

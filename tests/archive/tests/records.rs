@@ -6,7 +6,7 @@ use archive::interface::{self, Answer};
 use archive::queries::ARCHIVE;
 use archive::records::all;
 use archive::seeds::for_seeds;
-use reference::corpus::{module_cases, Case};
+use reference::corpus::{cases, Case};
 use reference::draft::Draft;
 use reference::generate::{damage, damaged, module, Most, Random};
 use reference::module::check;
@@ -34,17 +34,18 @@ fn file(wanted: &str) -> Vec<u8> {
     found.expect("there is such a file").1
 }
 
+/// The modules of all cases.
 #[test]
 fn the_corpus() {
     let mut count = 0;
-    for (index, case) in module_cases().iter().enumerate() {
-        if let Case::Module { module, .. } = case {
+    for (index, case) in cases().iter().enumerate() {
+        if let Case::Module { module, .. } | Case::Records { module, .. } = case {
             agrees(module, &mut Random::new(index as u64))
-                .unwrap_or_else(|what| panic!("case {index} of the modules of the corpus: {what}"));
+                .unwrap_or_else(|what| panic!("case {index} of the corpus: {what}"));
             count += 1;
         }
     }
-    assert!(count > 500, "only {count} cases");
+    assert!(count > 600, "only {count} cases");
 }
 
 #[test]

@@ -1,7 +1,7 @@
 use native.Mathlib.Nat.{zero-add}
 use native.Mathlib.Omega.{arith}
 use borrow.Author.Needs.{needs}
-use mathlib.Core.Path.{_≡_, ap, sym, _∙_}
+use mathlib.Core.Path.{ap, sym, _∙_}
 use Prim.Native.Nat.{ℕ, _-_}
 use lib.ListN.{length}
 use Rattle.numbers.specs.Numbers.{eachFrom}
@@ -9,9 +9,6 @@ use Rattle.numbers.proofs.Each.{Filling, filling-first, filling-length, filling
 use Rattle.envelopes.specs.Shown.{positionShown}
 use Rattle.envelopes.proofs.fill_positions.Statement.{statement}
 use Rattle.envelopes.proofs.fill_positions.Tie as tie
-use Rattle.envelopes.proofs.fill_positions.Reads as reads
-use Rattle.envelopes.proofs.fill_positions.Lts as lts
-use Rattle.envelopes.proofs.position.Reads as position-reads
 
 abbrev Inv-loop : tie.InvT-loop
 Inv-loop m at sections out₀ i₀ out i = Filling (positionShown m at sections) 0 out₀ out i
@@ -19,54 +16,25 @@ Inv-loop m at sections out₀ i₀ out i = Filling (positionShown m at sections)
 abbrev μ-loop : tie.MeasureT-loop
 μ-loop m at sections out₀ i₀ out i = length out₀ - i
 
--- src/lib.rt:136:5
 loop-holds : tie.Need-loop-holds Inv-loop μ-loop
 loop-holds c = filling-first _ _ _
 
--- src/lib.rt:137:18
 position-requires : tie.Need-position-requires Inv-loop μ-loop
 position-requires c κs = let kept = filling-length _ _ _ _ _ (c .before .loop .inv) in (c .before .before .before .before .pre .0, omega (arith, kept, c .loop-test .taken, c .before .before .before .before .pre .1))
 
--- src/lib.rt:137:9
-mul-out : tie.Need-mul-out Inv-loop μ-loop
-mul-out c = search needs
-
--- src/lib.rt:137:9
-slice-write-out : tie.Need-slice-write-out Inv-loop μ-loop
-slice-write-out c = search needs
-
--- src/lib.rt:138:13
-add-i : tie.Need-add-i Inv-loop μ-loop
-add-i c = search needs
-
--- src/lib.rt:136:5
 loop-less : tie.Need-loop-less Inv-loop μ-loop
 loop-less c = let kept = filling-length _ _ _ _ _ (c .before .before .loop .inv) in omega (arith, kept, c .before .loop-test .taken)
 
--- src/lib.rt:136:5
 loop-again : tie.Need-loop-again Inv-loop μ-loop
 loop-again c = filling-turn _ _ _ _ _ _ (c .before .before .loop .inv) (c .before .loop-test .taken) (c .position .ensures ∙ ap (positionShown (c .before .before .before .before .before .args .m .now) (c .before .before .before .before .before .args .at) (c .before .before .before .before .before .args .sections)) (sym (zero-add _)))
 
--- src/lib.rt:131:1
 same-length : tie.Need-same-length Inv-loop μ-loop
 same-length c = filling-length _ _ _ _ _ (c .before .loop .inv)
 
--- src/lib.rt:131:1
 returns : tie.Need-returns Inv-loop μ-loop
 returns c = filling-last _ _ _ _ _ (c .before .loop .inv) (c .loop-test .left) ∙ ap (λ (n : ℕ). eachFrom (positionShown (c .before .before .before .before .args .m .now) (c .before .before .before .before .args .at) (c .before .before .before .before .args .sections)) 0 n) (c .before .before .before .before .pre .1)
 
 pub fill-positions-spec : {M : Type 1} → statement M
 fill-positions-spec =
     tie.close
-    (tie.spec
-    Inv-loop
-    μ-loop
-    loop-holds
-    position-requires
-    mul-out
-    slice-write-out
-    add-i
-    loop-less
-    loop-again
-    same-length
-    returns)
+    (tie.spec Inv-loop μ-loop loop-holds position-requires (λ c. search needs) (λ c. search needs) (λ c. search needs) loop-less loop-again same-length returns)

@@ -3,7 +3,7 @@ use mir.ValLaws.{toZ-ofZ}
 use native.Mathlib.Nat.{zero-add}
 use native.Mathlib.Omega.{arith}
 use borrow.Author.Needs.{needs}
-use mathlib.Core.Path.{_≡_, ap, sym, _∙_}
+use mathlib.Core.Path.{ap, sym, _∙_}
 use Prim.Native.Nat.{ℕ, _-_}
 use lib.ListN.{length}
 use Rattle.numbers.specs.Numbers.{eachFrom}
@@ -11,9 +11,6 @@ use Rattle.numbers.proofs.Each.{Filling, filling-first, filling-length, filling
 use Rattle.envelopes.specs.Shown.{valueShown}
 use Rattle.envelopes.proofs.fill_values.Statement.{statement}
 use Rattle.envelopes.proofs.fill_values.Tie as tie
-use Rattle.envelopes.proofs.fill_values.Reads as reads
-use Rattle.envelopes.proofs.fill_values.Lts as lts
-use Rattle.envelopes.proofs.value.Reads as value-reads
 
 abbrev Inv-loop : tie.InvT-loop
 Inv-loop m kind version at sections out₀ i₀ out i = Filling (valueShown m kind version at sections) 0 out₀ out i
@@ -21,54 +18,25 @@ Inv-loop m kind version at sections out₀ i₀ out i = Filling (valueShown m ki
 abbrev μ-loop : tie.MeasureT-loop
 μ-loop m kind version at sections out₀ i₀ out i = length out₀ - i
 
--- src/lib.rt:148:5
 loop-holds : tie.Need-loop-holds Inv-loop μ-loop
 loop-holds c = filling-first _ _ _
 
--- src/lib.rt:149:13
 value-requires : tie.Need-value-requires Inv-loop μ-loop
 value-requires c κs = let kept = filling-length _ _ _ _ _ (c .before .loop .inv) in (c .before .before .before .pre .0, omega (arith, kept, c .loop-test .taken, c .before .before .before .pre .1))
 
--- src/lib.rt:150:9
-mul-v : tie.Need-mul-v Inv-loop μ-loop
-mul-v c = search needs
-
--- src/lib.rt:150:9
-slice-set-from-v : tie.Need-slice-set-from-v Inv-loop μ-loop
-slice-set-from-v c = search needs
-
--- src/lib.rt:151:13
-add-i : tie.Need-add-i Inv-loop μ-loop
-add-i c = search needs
-
--- src/lib.rt:148:5
 loop-less : tie.Need-loop-less Inv-loop μ-loop
 loop-less c = let kept = filling-length _ _ _ _ _ (c .before .before .loop .inv) in omega (arith, kept, c .before .loop-test .taken)
 
--- src/lib.rt:148:5
 loop-again : tie.Need-loop-again Inv-loop μ-loop
 loop-again c = filling-turn _ _ _ _ _ _ (c .before .before .loop .inv) (c .before .loop-test .taken) (toZ-ofZ w32 (c .value .result) (record { sfits = c .value .ok }) ∙ c .value .ensures ∙ ap (valueShown (c .before .before .before .before .args .m .now) (c .before .before .before .before .args .kind) (c .before .before .before .before .args .version) (c .before .before .before .before .args .at) (c .before .before .before .before .args .sections)) (sym (zero-add _)))
 
--- src/lib.rt:143:1
 same-length : tie.Need-same-length Inv-loop μ-loop
 same-length c = filling-length _ _ _ _ _ (c .before .loop .inv)
 
--- src/lib.rt:143:1
 returns : tie.Need-returns Inv-loop μ-loop
 returns c = filling-last _ _ _ _ _ (c .before .loop .inv) (c .loop-test .left) ∙ ap (λ (n : ℕ). eachFrom (valueShown (c .before .before .before .args .m .now) (c .before .before .before .args .kind) (c .before .before .before .args .version) (c .before .before .before .args .at) (c .before .before .before .args .sections)) 0 n) (c .before .before .before .pre .1)
 
 pub fill-values-spec : {M : Type 1} → statement M
 fill-values-spec =
     tie.close
-    (tie.spec
-    Inv-loop
-    μ-loop
-    loop-holds
-    value-requires
-    mul-v
-    slice-set-from-v
-    add-i
-    loop-less
-    loop-again
-    same-length
-    returns)
+    (tie.spec Inv-loop μ-loop loop-holds value-requires (λ c. search needs) (λ c. search needs) (λ c. search needs) loop-less loop-again same-length returns)

@@ -1,9 +1,7 @@
 use borrow.Author.Needs.{needs}
-use mathlib.Core.Path.{_≡_, _∙_, ap, sym}
-use mathlib.Core.List.{List, _++_}
+use mathlib.Core.Path.{sym}
 use borrow.Author.Tests.{lt-ltb, le-ltb}
-use Prim.Native.Nat.{ℕ, _*_}
-use lib.ListN.{drop}
+use Prim.Native.Nat.{_*_}
 use lib.Seq.{length-take-le}
 use Rattle.samples.proofs.WritingFrames.{pairs-length}
 use Rattle.samples.proofs.all_frames_in.Statement.{statement}

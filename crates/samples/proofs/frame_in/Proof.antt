@@ -1,11 +1,11 @@
 use borrow.Author.Needs.{needs}
 use mir.Syntax.{w16}
 use mir.ValLaws.{toZ-ofZ}
+use Rattle.samples.proofs.FramePlaces.{frames-reach}
 use Rattle.samples.proofs.SixteenBits.{frame-shown}
 use native.Mathlib.Omega.{arith}
-use native.Mathlib.Nat.{mul-le-mul}
-use borrow.Author.Tests.{lt-ltb, le-ltb}
-use Prim.Native.Nat.{_≤_}
+use borrow.Author.Tests.{le-ltb}
+use Prim.Native.Nat.{_<_}
 use mathlib.Core.Path.{_∙_}
 use Rattle.samples.proofs.frame_in.Statement.{statement}
 use Rattle.samples.proofs.frame_in.Tie as tie
@@ -14,10 +14,10 @@ returns : tie.Need-returns
 returns c = simp (← c .before .before .before .number32 .ensures, le-ltb _ _ (c .before .before .if1 .taken), c .no-frame .ensures, c .before .refuse .ensures)
 
 mul-at-16-bits : tie.Need-mul-at-16-bits
-mul-at-16-bits c = let many : c .before .before .before .before .args .frame ≤ 4294967295 = omega (arith, c .before .if1 .left) in let wide : c .frame-bytes .result ≤ 4 = omega (arith, c .frame-bytes .ensures .1) in record { fits = omega (arith, mul-le-mul many wide) }
+mul-at-16-bits c = let few : c .before .before .before .before .args .frame < 4294967296 = omega (arith, c .before .if1 .left) in let reach = frames-reach _ _ few (c .frame-bytes .ensures .1) in record { fits = omega arith }
 
 add-at-16-bits-2 : tie.Need-add-at-16-bits-2
-add-at-16-bits-2 c = let many : c .before .before .before .before .args .frame ≤ 4294967295 = omega (arith, c .before .if1 .left) in let wide : c .frame-bytes .result ≤ 4 = omega (arith, c .frame-bytes .ensures .1) in record { fits = omega (arith, mul-le-mul many wide) }
+add-at-16-bits-2 c = let few : c .before .before .before .before .args .frame < 4294967296 = omega (arith, c .before .if1 .left) in let reach = frames-reach _ _ few (c .frame-bytes .ensures .1) in record { fits = omega arith }
 
 returns-2 : tie.Need-returns-2
 returns-2 c = frame-shown _ _ _ _ _ _ (c .before .before .before .before .number32 .ensures) (c .before .before .before .if1 .left) (c .before .before .frame-bytes .ensures .0) (toZ-ofZ w16 (c .signed .result) (record { sfits = c .signed .ok }) ∙ c .signed .ensures ∙ c .before .at-16-bits .ensures)

@@ -1,12 +1,11 @@
 use borrow.Author.Needs.{needs}
 use native.Mathlib.Omega.{arith}
-use native.Mathlib.Nat.{mul-le-mul}
-use Prim.Native.Nat.{_≤_}
+use Rattle.samples.proofs.FramePlaces.{frames-reach}
 use Rattle.samples.proofs.frames_at.Statement.{statement}
 use Rattle.samples.proofs.frames_at.Tie as tie
 
 mul-t8 : tie.Need-mul-t8
-mul-t8 c = let many : c .before .number32 .result ≤ 4294967295 = omega arith in let wide : c .frame-bytes .result ≤ 4 = omega (arith, c .frame-bytes .ensures .1) in record { fits = omega (arith, mul-le-mul many wide) }
+mul-t8 c = let reach = frames-reach _ _ (c .before .number32 .ok) (c .frame-bytes .ensures .1) in record { fits = omega arith }
 
 returns : tie.Need-returns
 returns c = simp (c .before .number32 .ensures, c .frame-bytes .ensures .0)

@@ -1,11 +1,10 @@
 use native.Mathlib.Omega.{arith}
-use native.Mathlib.Nat.{mul-le-mul}
 use borrow.Author.Needs.{needs}
-use lib.ListN.{length}
-use lib.Seq.{lt-length-set}
+use lib.ListN.{length, length-set}
 use mathlib.Core.Path.{_∙_, sym}
-use Prim.Native.Nat.{ℕ, _+_, _-_, _*_, _/_, _≤_, _<_}
+use Prim.Native.Nat.{ℕ, _+_, _-_, _*_, _<_}
 use Rattle.samples.specs.Shown.{frame16}
+use Rattle.samples.proofs.FramePlaces.{frames-reach}
 use Rattle.samples.proofs.WritingFrames.{Writing, writing-first, writing-length, writing-turn, writing-last}
 use Rattle.samples.proofs.write_frames.Statement.{statement}
 use Rattle.samples.proofs.write_frames.Tie as tie
@@ -20,16 +19,16 @@ loop-holds : tie.Need-loop-holds Inv-loop μ-loop
 loop-holds c = writing-first _ _ _ (c .before .before .pre .1 .1 .1)
 
 mul-at-16-bits : tie.Need-mul-at-16-bits Inv-loop μ-loop
-mul-at-16-bits c = let many : c .before .loop .i ≤ 4294967295 = omega (arith, c .before .before .before .before .pre .1 .1 .0) in let wide : c .before .before .before .before .args .bytes ≤ 4 = omega (arith, c .before .before .before .before .pre .1 .0) in record { fits = omega (arith, mul-le-mul many wide) }
+mul-at-16-bits c = let few : c .before .loop .i < 4294967296 = omega arith in let reach = frames-reach _ _ few (c .before .before .before .before .pre .1 .0) in record { fits = omega arith }
 
 add-at-16-bits : tie.Need-add-at-16-bits Inv-loop μ-loop
-add-at-16-bits c = let many : c .before .loop .i ≤ 4294967295 = omega (arith, c .before .before .before .before .pre .1 .1 .0) in let wide : c .before .before .before .before .args .bytes ≤ 4 = omega (arith, c .before .before .before .before .pre .1 .0) in record { fits = omega (arith, mul-le-mul many wide, c .before .before .before .before .pre .0) }
+add-at-16-bits c = let few : c .before .loop .i < 4294967296 = omega arith in let reach = frames-reach _ _ few (c .before .before .before .before .pre .1 .0) in record { fits = omega arith }
 
 slice-write-out : tie.Need-slice-write-out Inv-loop μ-loop
 slice-write-out c = let kept = writing-length _ _ _ _ (c .before .before .loop .inv) in omega (arith, kept, c .before .loop-test .taken)
 
 slice-write-out-2 : tie.Need-slice-write-out-2 Inv-loop μ-loop
-slice-write-out-2 c = let kept = writing-length _ _ _ _ (c .before .before .loop .inv) in let inside : 2 * c .before .before .loop .i + 1 < length (c .before .before .loop .out) = omega (arith, kept, c .before .loop-test .taken) in lt-length-set (c .before .before .loop .out) (2 * c .before .before .loop .i) (c .at-16-bits .result / 256) inside
+slice-write-out-2 c = let kept = writing-length _ _ _ _ (c .before .before .loop .inv) in let inside : 2 * c .before .before .loop .i + 1 < length (c .before .before .loop .out) = omega (arith, kept, c .before .loop-test .taken) in simp length-set inside
 
 loop-again : tie.Need-loop-again Inv-loop μ-loop
 loop-again c = writing-turn _ _ _ _ _ (c .before .before .loop .inv) (c .before .loop-test .taken) (c .at-16-bits .ok) (c .at-16-bits .ensures)
