@@ -1,13 +1,10 @@
 use borrow.Author.Needs.{needs}
-use mathlib.Core.Path.{subst}
-use Prim.Native.Nat.{_<_}
-use Rattle.queries.specs.Finding.{placeIn}
-use Rattle.queries.specs.declared.Found.{Found}
+use Rattle.queries.proofs.Answering.{placed}
 use Rattle.envelopes.proofs.envelope.Statement.{statement}
 use Rattle.envelopes.proofs.envelope.Tie as tie
 
 envelope-at-requires : tie.Need-envelope-at-requires
-envelope-at-requires c κs = subst (λ (f : Found). placeIn f < 0x10000000000000) (c .before .b .given .1) (c .before .before .before .find .ensures .1)
+envelope-at-requires c κs = placed _ _ (c .before .b .given .1) (c .before .before .before .find .ensures .1)
 
 returns : tie.Need-returns
 returns c = simp (← c .before .before .before .before .before .thing-of .ensures, ← c .before .before .before .before .find .ensures .0, c .before .before .b .given .1, c .envelope-at .ensures)

@@ -1,13 +1,10 @@
 use borrow.Author.Needs.{needs}
-use mathlib.Core.Path.{subst}
-use Prim.Native.Nat.{_<_}
-use Rattle.queries.specs.Finding.{placeIn}
-use Rattle.queries.specs.declared.Found.{Found}
+use Rattle.queries.proofs.Answering.{placed}
 use Rattle.samples.proofs.all_frames.Statement.{statement}
 use Rattle.samples.proofs.all_frames.Tie as tie
 
 all-frames-in-requires : tie.Need-all-frames-in-requires
-all-frames-in-requires c κs = subst (λ (f : Found). placeIn f < 0x10000000000000) (c .before .before .b .given .1) (c .before .before .before .before .find .ensures .1)
+all-frames-in-requires c κs = placed _ _ (c .before .before .b .given .1) (c .before .before .before .before .find .ensures .1)
 
 returns : tie.Need-returns
 returns c = (simp (← c .before .before .before .before .before .before .before .find .ensures .0, c .before .before .before .before .before .b .given .1, c .before .before .all-frames-in .ensures .0), simp (← c .before .before .before .before .before .before .before .find .ensures .0, c .before .before .before .before .before .b .given .1, c .before .before .all-frames-in .ensures .1))

@@ -1,13 +1,10 @@
 use borrow.Author.Needs.{needs}
-use mathlib.Core.Path.{subst}
-use Prim.Native.Nat.{_<_}
-use Rattle.queries.specs.Finding.{placeIn}
-use Rattle.queries.specs.declared.Found.{Found}
+use Rattle.queries.proofs.Answering.{placed}
 use Rattle.samples.proofs.frame.Statement.{statement}
 use Rattle.samples.proofs.frame.Tie as tie
 
 frame-in-requires : tie.Need-frame-in-requires
-frame-in-requires c κs = subst (λ (f : Found). placeIn f < 0x10000000000000) (c .before .b .given .1) (c .before .before .before .find .ensures .1)
+frame-in-requires c κs = placed _ _ (c .before .b .given .1) (c .before .before .before .find .ensures .1)
 
 returns : tie.Need-returns
 returns c = simp (← c .before .before .before .before .find .ensures .0, c .before .before .b .given .1, c .frame-in .ensures)

@@ -1,13 +1,10 @@
 use borrow.Author.Needs.{needs}
-use mathlib.Core.Path.{subst}
-use Prim.Native.Nat.{_<_}
-use Rattle.queries.specs.Finding.{placeIn}
-use Rattle.queries.specs.declared.Found.{Found}
+use Rattle.queries.proofs.Answering.{placed}
 use Rattle.samples.proofs.frames_place.Statement.{statement}
 use Rattle.samples.proofs.frames_place.Tie as tie
 
 frames-at-requires : tie.Need-frames-at-requires
-frames-at-requires c κs = subst (λ (f : Found). placeIn f < 0x10000000000000) (c .before .b .given .1) (c .before .before .before .find .ensures .1)
+frames-at-requires c κs = placed _ _ (c .before .b .given .1) (c .before .before .before .find .ensures .1)
 
 returns : tie.Need-returns
 returns c = simp (← c .before .before .before .before .find .ensures .0, c .before .before .b .given .1, c .frames-at .ensures)

@@ -1,13 +1,10 @@
 use borrow.Author.Needs.{needs}
-use mathlib.Core.Path.{subst}
-use Prim.Native.Nat.{_<_}
-use Rattle.queries.specs.Finding.{placeIn}
-use Rattle.queries.specs.declared.Found.{Found}
+use Rattle.queries.proofs.Answering.{placed}
 use Rattle.samples.proofs.sample.Statement.{statement}
 use Rattle.samples.proofs.sample.Tie as tie
 
 sample-at-requires : tie.Need-sample-at-requires
-sample-at-requires c κs = subst (λ (f : Found). placeIn f < 0x10000000000000) (c .before .b .given .1) (c .before .before .before .find .ensures .1)
+sample-at-requires c κs = placed _ _ (c .before .b .given .1) (c .before .before .before .find .ensures .1)
 
 returns : tie.Need-returns
 returns c = simp (← c .before .before .before .before .find .ensures .0, c .before .before .b .given .1, c .sample-at .ensures)
