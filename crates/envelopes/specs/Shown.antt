@@ -8,13 +8,11 @@ use lib.Dec.{eqb, leb}
 use lib.IntN.{ℤ, pos, _-ℤ_}
 use Rattle.refusal.specs.declared.Refusal.{Refusal}
 use Rattle.numbers.specs.Numbers.{byteAt, number16, signed16, eachFrom}
-use Rattle.layout.specs.declared.Layout.{Layout}
 use Rattle.layout.specs.declared.Outline.{Outline}
 use Rattle.layout.specs.declared.Outline.the-variants.{Found as Opened, Refused as OpeningRefused}
-use Rattle.layout.specs.declared.Place.{Place}
 use Rattle.blocks.specs.Sizes.{envelopeCount}
 use Rattle.module.specs.Verdicts.{opened}
-use Rattle.queries.specs.Finding.{found}
+use Rattle.queries.specs.Finding.{chunkOf, found}
 use Rattle.queries.specs.declared.Found.{Found}
 use Rattle.queries.specs.declared.Found.the-variants.{At, Refused}
 use Rattle.queries.specs.declared.Thing.{Thing}
@@ -29,15 +27,11 @@ abbrev pub thingOf : EnvelopeKind → Thing
 thingOf Volume = VolumeEnvelope
 thingOf Panning = PanningEnvelope
 
-abbrev pub chunkOf : Layout → EnvelopeKind → Place
-chunkOf l Volume = l .places .venv
-chunkOf l Panning = l .places .penv
-
 abbrev pub noCount : Refusal → CountAnswer
 noCount r = record { number = r .number; place = r .place; count = 0 }
 
 abbrev pub countIf : List ℕ → EnvelopeKind → Outline → CountAnswer
-countIf m kind (Opened l) = record { number = 0; place = 0; count = envelopeCount m (chunkOf l kind) }
+countIf m kind (Opened l) = record { number = 0; place = 0; count = envelopeCount m (chunkOf l (thingOf kind)) }
 countIf m kind (OpeningRefused r) = noCount r
 
 -- Q9: how many envelopes there are: the count of their chunk, and none where it is missing.

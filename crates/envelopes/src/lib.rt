@@ -16,7 +16,8 @@ ghost use Prim.Native.Nat.{_<_};
 ghost use lib.Dec.{leb};
 ghost use lib.ListN.{length};
 ghost use Rattle.numbers.specs.Numbers.{eachFrom};
-ghost use Rattle.envelopes.specs.Shown.{thingOf, chunkOf, noCount, countAnswer, positionShown, valueOf, valueShown, noEnvelope, shownEnvelope, envelopeAnswer};
+ghost use Rattle.queries.specs.Finding.{chunkOf};
+ghost use Rattle.envelopes.specs.Shown.{thingOf, noCount, countAnswer, positionShown, valueOf, valueShown, noEnvelope, shownEnvelope, envelopeAnswer};
 
 // The two kinds of envelopes.
 pub enum EnvelopeKind {
@@ -58,7 +59,7 @@ fn thing_of(kind: EnvelopeKind) -> Thing
 }
 
 fn chunk_of(l: Layout, kind: EnvelopeKind) -> Place
-    ensures { λ r. ⌜ r ≡ chunkOf l kind ⌝ }
+    ensures { λ r. ⌜ r ≡ chunkOf l (thingOf kind) ⌝ }
 {
     let p = l.places;
     match kind {

@@ -11,8 +11,9 @@ use native.Mathlib.Numerals.{add-one}
 use lib.ListN.{length, set, length-append}
 use lib.Seq.{set-at, append-snoc}
 use lib.IntN.{ℤ}
+use Rattle.cells.specs.Cells.{joined}
 use Rattle.numbers.specs.Numbers.{signed16, eachFrom}
-use Rattle.samples.specs.Shown.{unsigned16, bytes16, joined}
+use Rattle.samples.specs.Shown.{unsigned16, bytes16}
 use Rattle.samples.proofs.SixteenBits.{stored-again}
 
 module _ (f : ℕ → ℤ) where

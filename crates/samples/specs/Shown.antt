@@ -1,7 +1,7 @@
 -- FORMAT.md, B5 and Q11 to Q13 (document 01, "Layout"): a sample and its frames as they are shown. Each answer begins with the
 -- refusal's number and place, 0 and 0 where there is none; on a refusal all else is 0.
 use Prim.Native.Nat.{ℕ, _+_, _-_, _*_, _/_, _%_}
-use mathlib.Core.List.{List, [], _∷_, _++_}
+use mathlib.Core.List.{List, [], _∷_}
 use mathlib.Core.Bool.{cond}
 use lib.ListN.{length}
 use lib.Dec.{eqb, ltb}
@@ -9,6 +9,7 @@ use lib.IntN.{ℤ, pos, negsuc, _*ℤ_}
 use Rattle.refusal.specs.Numbers.{refusal}
 use Rattle.refusal.specs.declared.Cause.the-variants.{NotThere}
 use Rattle.refusal.specs.declared.Refusal.{Refusal}
+use Rattle.cells.specs.Cells.{joined}
 use Rattle.numbers.specs.Numbers.{byteAt, number16, number32, partOf, signedBy, signed16, eachFrom}
 use Rattle.blocks.specs.Sizes.{widthOf}
 use Rattle.queries.specs.Finding.{found}
@@ -103,10 +104,6 @@ unsigned16 (negsuc n) = 65535 - n
 
 abbrev pub bytes16 : ℤ → List ℕ
 bytes16 z = unsigned16 z / 256 ∷ unsigned16 z % 256 ∷ []
-
-abbrev pub joined : List (List ℕ) → List ℕ
-joined [] = []
-joined (xs ∷ xss) = xs ++ joined xss
 
 -- Q13: all frames of the sample at a place at 16 bits, 2 bytes each.
 abbrev pub allFrames : List ℕ → ℕ → List ℕ

@@ -1,8 +1,9 @@
 -- A definition that private functions cite: so many frames at 16 bits from a place on, 2 bytes each.
 use Prim.Native.Nat.{ℕ, _+_, _*_}
 use mathlib.Core.List.{List}
+use Rattle.cells.specs.Cells.{joined}
 use Rattle.numbers.specs.Numbers.{eachFrom}
-use Rattle.samples.specs.Shown.{frame16, bytes16, joined}
+use Rattle.samples.specs.Shown.{frame16, bytes16}
 
 abbrev pub framesFrom : List ℕ → ℕ → ℕ → ℕ → List ℕ
 framesFrom m bytes start n = joined (eachFrom (λ frame. bytes16 (frame16 m bytes (start + frame * bytes))) 0 n)
