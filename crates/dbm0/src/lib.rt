@@ -1,4 +1,4 @@
-// The C entry points of the module reader: the check of a module and every query about it. An answer begins with the refusal's number
+// The C entry points of the module reader: the check of a module, every query about it, and its repacking. An answer begins with the refusal's number
 // (0: none) and place.
 use cells::Cell;
 use cells::Note;
@@ -29,6 +29,7 @@ ghost use Rattle.envelopes.specs.Shown.{countAnswer, envelopeAnswer};
 ghost use Rattle.envelopes.specs.declared.EnvelopeKind.the-variants.{Volume, Panning};
 ghost use Rattle.patterns.specs.Shown.{rowsAnswer, cellAnswer, unpackAnswer, unpackOutput};
 ghost use Rattle.samples.specs.Shown.{sampleAnswer, framesAnswer, frameAnswer, allFramesAnswer, allFramesOutput};
+ghost use Rattle.repack.specs.Repacked.{repackAnswer, repackOutput};
 ghost use Rattle.dbm0.specs.Answers.{told, toldModule, noteNumbers, noCell, foundCell, toldCell};
 
 // The answer of the check.
@@ -298,4 +299,12 @@ pub extern "C" fn dbm0_all_frames(m: &[u8], sample: usize, out: &mut [u8]) -> Le
     ensures { λ r. ⌜ (r ≡ allFramesAnswer (now (m .entry)) sample (length (now (out .entry)))) × (now (out .exit) ≡ allFramesOutput (now (m .entry)) sample (now (out .entry))) ⌝ }
 {
     samples::all_frames(m, sample, out)
+}
+
+// A module repacked.
+#[no_mangle]
+pub extern "C" fn dbm0_repack(m: &[u8], out: &mut [u8]) -> LengthAnswer
+    ensures { λ r. ⌜ (r ≡ repackAnswer (now (m .entry)) (length (now (out .entry)))) × (now (out .exit) ≡ repackOutput (now (m .entry)) (now (out .entry))) ⌝ }
+{
+    repack::repack(m, out)
 }

@@ -77,17 +77,20 @@ module _ {m header : List ℕ} {all : List (List ℕ)} (rules : ChunkRules m hea
   found-of : {letters : List ℕ} (covers : Covered letters) → Found m all letters (placeOf (identifierOf covers) (recordsFrom 8 all))
   found-of covers = record {
     stands = λ chunk a. stands-of a covers;
+    begins = λ chunk a. ap (λ (p : Place). p .at) (place-is a covers);
     chunk = λ present. occurs-says covers 8 (rules .whole) .0 (sym (present-occurs (identifierOf covers) (recordsFrom 8 all)) ∙ present);
   }
 
   layout-of : LayoutOf m header all (layoutWith m (placesOf (recordsFrom 8 all)))
   layout-of = record {
     version = header-byte m header (joined all) (rules .bytes) (rules .headerSize) 4 (omega arith);
+    revision = header-byte m header (joined all) (rules .bytes) (rules .headerSize) 5 (omega arith);
     counts = λ info a. (
         let part = stands-part (stands-of a Covered.info) in
         let long = rules .info info a .size in
         (number16-at part 8 (omega arith), number16-at part 10 (omega arith), number16-at part 12 (omega arith), number16-at part 14 (omega arith), number16-at part 16 (omega arith))
         );
+    name = found-of Covered.name;
     song = found-of Covered.song;
     inst = found-of Covered.inst;
     patt = found-of Covered.patt;
@@ -126,7 +129,7 @@ module _ {m header : List ℕ} {all : List (List ℕ)} (rules : ChunkRules m hea
   header-part : HeaderFits m header
   header-part = record { limit = rules .limit; begins = rules .begins; version = rules .version; revision = rules .revision }
 
-  chunks-part : ChunksFit all
+  pub chunks-part : ChunksFit all
   chunks-part = record { whole = rules .whole; once = rules .once; behindInfo = rules .behindInfo; name = rules .name; info = rules .info }
 
 -- Found, so the rules hold.

@@ -47,7 +47,7 @@ module _ (stream : List ℕ) (rows tracks : ℕ) (accepted : checkAnswer stream 
   read : (entries : List (List Entry)) × (readStream rows tracks stream ≡ whole entries)
   read = let r = accepts-exactly rows tracks stream fits .0 accepted in (r .0, reads-exactly rows tracks stream (r .0) .1 (r .1))
 
-  holds : AcceptedAs rows tracks stream (cellsRead rows tracks stream)
+  pub holds : AcceptedAs rows tracks stream (cellsRead rows tracks stream)
   holds = record { entries = read .0; read = read .1; gives = rw (read .1) }
 
   -- 17 at the most.

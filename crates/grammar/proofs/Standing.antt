@@ -4,10 +4,11 @@ use mathlib.Core.Path.{_≡_}
 use mathlib.Core.List.{List, _++_}
 use mathlib.Core.Bool.{true}
 use lib.ListN.{length}
+use Rattle.cells.specs.Cells.{joined}
 use Rattle.numbers.specs.Numbers.{byteAt, number16}
 use Rattle.layout.specs.declared.Place.{Place}
 use Rattle.layout.specs.declared.Layout.{Layout}
-use Rattle.grammar.specs.Rules.{Among, infoLetters, songLetters, instLetters, pattLetters, smplLetters, venvLetters, penvLetters}
+use Rattle.grammar.specs.Rules.{Among, nameLetters, infoLetters, songLetters, instLetters, pattLetters, smplLetters, venvLetters, penvLetters}
 
 -- The chunk's bytes stand in the module where the place says.
 pub record Stands (m : List ℕ) (place : Place) (chunk : List ℕ) : Type 0 where
@@ -18,15 +19,19 @@ pub record Stands (m : List ℕ) (place : Place) (chunk : List ℕ) : Type 0 whe
   pub starts : length before ≡ place .at
   pub size : length chunk ≡ 8 + place .length
 
--- The place of the chunk with these letters: it stands there, where there is one; and there is one, where it is present.
+-- The place of the chunk with these letters: it stands there, where there is one, behind the header and the chunks before it; and there
+-- is one, where it is present.
 pub record Found (m : List ℕ) (chunks : List (List ℕ)) (letters : List ℕ) (place : Place) : Type 0 where
   pub stands : (chunk : List ℕ) → Among chunks letters chunk → Stands m place chunk
+  pub begins : (chunk : List ℕ) (a : Among chunks letters chunk) → place .at ≡ 8 + length (joined (a .before))
   pub chunk : place .present ≡ true → (chunk : List ℕ) × Among chunks letters chunk
 
 -- The layout is that of these chunks.
 pub record LayoutOf (m header : List ℕ) (chunks : List (List ℕ)) (l : Layout) : Type 0 where
   pub version : l .version ≡ byteAt header 4
+  pub revision : l .revision ≡ byteAt header 5
   pub counts : (info : List ℕ) → Among chunks infoLetters info → (l .instruments ≡ number16 info 8) × (l .samples ≡ number16 info 10) × (l .songs ≡ number16 info 12) × (l .patterns ≡ number16 info 14) × (l .tracks ≡ number16 info 16)
+  pub name : Found m chunks nameLetters (l .places .name)
   pub song : Found m chunks songLetters (l .places .song)
   pub inst : Found m chunks instLetters (l .places .inst)
   pub patt : Found m chunks pattLetters (l .places .patt)

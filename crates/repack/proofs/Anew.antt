@@ -1,0 +1,106 @@
+-- The packer's stream of a pattern whose stream is sound, and the pattern's block anew: what repacking the stream answers and writes, how
+-- long they are, and that they are no longer than what stands there.
+use Prim.Native.Nat.{ℕ, _+_, _%_, _≤_, _<_}
+use mathlib.Core.Path.{_≡_, refl, sym, ap, _∙_}
+use mathlib.Core.List.{List, _++_}
+use mathlib.Core.Bool.{Bool, true, false, cond}
+use native.Mathlib.Omega.{arith}
+use lib.ListN.{length, drop, replicate, length-append, length-drop, length-take, length-replicate}
+use lib.Dec.{ltb}
+use borrow.Author.Tests.{le-ltb}
+use Rattle.refusal.specs.Numbers.{refusal}
+use Rattle.refusal.specs.declared.Cause.the-variants.{Room}
+use Rattle.refusal.specs.declared.Verdict.the-variants.{Accepted}
+use Rattle.cells.specs.Cells.{sizesFit, Row, rowsOf}
+use Rattle.packed_rows.specs.Entries.{rowsFrom}
+use Rattle.packed_rows.specs.Stream.{Reading, readStream, entriesRead, cellsRead, AcceptedAs}
+use Rattle.packed_rows.specs.Packer.{packedStream, packedLength}
+use Rattle.packed_rows.specs.Answers.{verdictOf, packedIf, repackAnswer, repackOutput}
+use Rattle.packed_rows.specs.declared.Packing.{Packing}
+use Rattle.packed_rows.specs.declared.Packing.the-variants.{Packed, Refused}
+use Rattle.packed_rows.proofs.StreamLength.{packed-length}
+use Rattle.packed_rows.proofs.Repacking.{repack-found}
+use Rattle.packed_rows.proofs.Accepted.{accepted-rows}
+use Rattle.packed_rows.proofs.Theorems.{none-shorter}
+use Rattle.numbers.specs.Numbers.{number16, number32, partOf}
+use Rattle.blocks.specs.Sizes.{sizeOf}
+use Rattle.blocks.specs.declared.Kind.the-variants.{Pattern}
+use Rattle.module.specs.Streams.{packedBytes, streamVerdict}
+use Rattle.grammar.proofs.Locating.{part-length}
+use Rattle.grammar.proofs.BlockStreams.{accepted-sizes}
+use Rattle.grammar.proofs.FoundPatterns.{holds}
+use Rattle.repack.specs.Repacked.{bytes32, packed, repackedStream, repackedBlock}
+
+-- A stream with its length and its filler.
+pub packed-size : (stream : List ℕ) → length (packed stream) ≡ 4 + length stream + length stream % 2
+packed-size stream =
+    omega (arith, length-append stream (replicate (length stream % 2) 0), length-replicate {A = ℕ} (length stream % 2) 0)
+
+-- A shorter stream makes no longer block.
+filled-shorter : (n k : ℕ) → n ≤ k → n + n % 2 ≤ k + k % 2
+filled-shorter n k h = omega arith
+
+module _ (m : List ℕ) (tracks at : ℕ) (sound : streamVerdict m tracks at ≡ Accepted) where
+  fits : sizesFit (number16 m at) tracks ≡ true
+  fits = accepted-sizes (packedBytes m at) (number16 m at) tracks sound
+
+  read : Reading
+  read = readStream (number16 m at) tracks (packedBytes m at)
+
+  read-sound : verdictOf (readStream (number16 m at) tracks (packedBytes m at)) ≡ Accepted
+  read-sound = simp fits at sound
+
+  stream-length : length (repackedStream m tracks at) ≡ packedLength (rowsFrom tracks (entriesRead (readStream (number16 m at) tracks (packedBytes m at))))
+  stream-length = packed-length (rowsFrom tracks (entriesRead (readStream (number16 m at) tracks (packedBytes m at))))
+
+  pub stream-answer : (room : ℕ) → repackAnswer (packedBytes m at) (number16 m at) tracks room ≡ packedIf (length (repackedStream m tracks at)) room
+  stream-answer room = rw stream-length (simp fits (sym (repack-found (readStream (number16 m at) tracks (packedBytes m at)) tracks room read-sound)))
+
+  pub stream-output : (out : List ℕ) → length (repackedStream m tracks at) ≤ length out → repackOutput (packedBytes m at) (number16 m at) tracks out ≡ repackedStream m tracks at ++ drop (length (repackedStream m tracks at)) out
+  stream-output out h = simp (stream-answer (length out), le-ltb (length out) (length (repackedStream m tracks at)) h)
+
+  pub stream-shorter : length (repackedStream m tracks at) ≤ length (packedBytes m at)
+  stream-shorter =
+      let accepted = holds (packedBytes m at) (number16 m at) tracks sound in
+      let least = none-shorter (number16 m at) tracks (packedBytes m at) (cellsRead (number16 m at) tracks (packedBytes m at)) accepted in
+      let same : packedLength (rowsOf (number16 m at) tracks (cellsRead (number16 m at) tracks (packedBytes m at))) ≡ packedLength (rowsFrom tracks (entriesRead (readStream (number16 m at) tracks (packedBytes m at)))) = ap packedLength (accepted-rows accepted ∙ ap (λ (r : Reading). rowsFrom tracks (entriesRead r)) (sym (accepted .read))) in
+      omega (arith, stream-length, least, same)
+
+  pub stream-least : length (repackedStream m tracks at) ≤ number32 m (at + 2)
+  stream-least = omega (arith, stream-shorter, length-take (number32 m (at + 2)) (drop (at + 6) m))
+
+  module _ (inside : at + 2 ≤ length m) where
+    pub block-size : length (repackedBlock m tracks at) ≡ 6 + length (repackedStream m tracks at) + length (repackedStream m tracks at) % 2
+    block-size = omega (arith, length-append (partOf m at 2) (packed (repackedStream m tracks at)), part-length m at 2 inside, packed-size (repackedStream m tracks at))
+
+    pub block-shorter : length (repackedBlock m tracks at) ≤ sizeOf Pattern m at
+    unfolding sizeOf
+    block-shorter = omega (arith, block-size, filled-shorter (length (repackedStream m tracks at)) (number32 m (at + 2)) stream-least)
+
+-- The length that repacking a stream answers, whether there is room or not.
+abbrev pub lengthTold : Packing → ℕ
+lengthTold (Packed n) = n
+lengthTold (Refused r) = r .place
+
+told-needed : (needed room : ℕ) → lengthTold (packedIf needed room) ≡ needed
+told-needed needed room = go (ltb room needed)
+  where
+    go : (lacks : Bool) → lengthTold (cond lacks (Refused (refusal Room needed)) (Packed needed)) ≡ needed
+    go true = refl
+    go false = refl
+
+-- What repacking the stream of a pattern leaves, by what its call was given and answered.
+pub stream-done : (m : List ℕ) (tracks at : ℕ) → streamVerdict m tracks at ≡ Accepted → (p : Packing) (stream out out′ : List ℕ) (rows size n : ℕ) → size ≡ number32 m (at + 2) → size < 0x100000000 → stream ≡ partOf m (at + 6) size → rows ≡ number16 m at → p ≡ repackAnswer stream rows tracks (length out) → out′ ≡ repackOutput stream rows tracks out → n ≡ lengthTold p → (n ≡ length (repackedStream m tracks at)) × (n ≤ number32 m (at + 2)) × (n < 0x100000000) × (n ≤ length out → out′ ≡ repackedStream m tracks at ++ drop n out)
+stream-done m tracks at sound p stream out out′ rows size n sized below s r answered written told =
+    (is, omega (arith, is, least), omega (arith, is, least, sized, below), λ h. rw is (written ∙ rw (same, r) (stream-output m tracks at sound out (rw is at h))))
+  where
+    same : stream ≡ packedBytes m at
+    same = rw sized at s
+
+    is : n ≡ length (repackedStream m tracks at)
+    is =
+        let answer : p ≡ packedIf (length (repackedStream m tracks at)) (length out) = answered ∙ rw (same, r) (stream-answer m tracks at sound (length out)) in
+        told ∙ ap lengthTold answer ∙ told-needed (length (repackedStream m tracks at)) (length out)
+
+    least : length (repackedStream m tracks at) ≤ number32 m (at + 2)
+    least = stream-least m tracks at sound

@@ -1,0 +1,7 @@
+pub mod Anew
+pub mod Ends
+pub mod WritingBlock
+pub mod PassingPatterns
+pub mod WritingModule
+pub mod ChunksAnew
+pub mod Accepting

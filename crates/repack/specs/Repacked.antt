@@ -1,0 +1,83 @@
+-- FORMAT.md, X1 to X4 (document 01, "Repacking a module keeps .."): a module repacked. Its header and its chunks stand in order and byte
+-- for byte, except that PATT holds the packer's streams and the lengths that follow.
+use Prim.Native.Nat.{ℕ, _+_, _/_, _%_}
+use mathlib.Core.List.{List, [], _∷_, _++_, map}
+use mathlib.Core.Bool.{cond}
+use lib.ListN.{length, replicate}
+use lib.Dec.{eqb}
+use Rattle.cells.specs.Cells.{joined}
+use Rattle.packed_rows.specs.Entries.{rowsFrom}
+use Rattle.packed_rows.specs.Stream.{readStream, entriesRead}
+use Rattle.packed_rows.specs.Packer.{packedStream}
+use Rattle.numbers.specs.Numbers.{number16, partOf}
+use Rattle.layout.specs.Chunks.{PATT, Chunk, Walk, whole, stopped, chunks}
+use Rattle.layout.specs.declared.Layout.{Layout}
+use Rattle.layout.specs.declared.Outline.{Outline}
+use Rattle.layout.specs.declared.Outline.the-variants.{Found, Refused}
+use Rattle.blocks.specs.Sizes.{patternBlocks}
+use Rattle.module.specs.Streams.{packedBytes}
+use Rattle.module.specs.Verdicts.{opened}
+use Rattle.queries.specs.Lengths.{refusedLength, lengthIf, outputIf}
+use Rattle.queries.specs.declared.LengthAnswer.{LengthAnswer}
+
+-- M1: a number as 4 bytes, big-endian.
+abbrev pub bytes32 : ℕ → List ℕ
+bytes32 n = n / 16777216 ∷ n / 65536 % 256 ∷ n / 256 % 256 ∷ n % 256 ∷ []
+
+-- X3: the packer's stream (W1 to W3) of the cells of the pattern at a place, with its rows and the module's tracks.
+abbrev pub repackedStream : List ℕ → ℕ → ℕ → List ℕ
+repackedStream m tracks at = packedStream (rowsFrom tracks (entriesRead (readStream (number16 m at) tracks (packedBytes m at))))
+
+-- X3: a stream as it stands in a block: its length in 4 bytes, the stream, and a filler, 0, if its length is odd.
+abbrev pub packed : List ℕ → List ℕ
+packed stream = bytes32 (length stream) ++ (stream ++ replicate (length stream % 2) 0)
+
+-- X3: the block of the pattern at a place, anew: its rows as stored, and the packer's stream.
+abbrev pub repackedBlock : List ℕ → ℕ → ℕ → List ℕ
+repackedBlock m tracks at = partOf m at 2 ++ packed (repackedStream m tracks at)
+
+-- X2: the data of PATT, anew: the blocks of the patterns, in order.
+abbrev pub repackedPatterns : List ℕ → Layout → List ℕ
+repackedPatterns m l = joined (map (repackedBlock m (l .tracks)) (patternBlocks m l))
+
+-- X2: PATT, anew: its identifier, the length of its data, and the data.
+abbrev pub repackedPatt : List ℕ → Layout → Chunk → List ℕ
+repackedPatt m l c = partOf m (c .at) 4 ++ (bytes32 (length (repackedPatterns m l)) ++ repackedPatterns m l)
+
+-- X1: every other chunk byte for byte: its header of 8 bytes, and its data.
+abbrev pub repackedChunk : List ℕ → Layout → Chunk → List ℕ
+repackedChunk m l c = cond (eqb (c .identifier) PATT) (repackedPatt m l c) (partOf m (c .at) (8 + c .length))
+
+-- The chunks that were read.
+abbrev pub chunksRead : Walk → List Chunk
+chunksRead (whole cs) = cs
+chunksRead (stopped r) = []
+
+-- X1: the header, and the chunks in order.
+abbrev pub repackedModule : List ℕ → Layout → List ℕ
+repackedModule m l = partOf m 0 8 ++ joined (map (repackedChunk m l) (chunksRead (chunks m)))
+
+-- The module repacked; nothing of a module that is refused.
+abbrev pub repackedIf : List ℕ → Outline → List ℕ
+repackedIf m (Found l) = repackedModule m l
+repackedIf m (Refused r) = []
+
+abbrev pub repacked : List ℕ → List ℕ
+repacked m = repackedIf m (opened m)
+
+-- X4: 17, else the length of the module repacked.
+abbrev pub repackAnswerIf : List ℕ → ℕ → Outline → LengthAnswer
+repackAnswerIf m room (Found l) = lengthIf (length (repackedModule m l)) room
+repackAnswerIf m room (Refused r) = refusedLength r
+
+-- X4: the module's own refusal, then 17.
+abbrev pub repackAnswer : List ℕ → ℕ → LengthAnswer
+repackAnswer m room = repackAnswerIf m room (opened m)
+
+-- F8: what the output then holds.
+abbrev pub repackOutputIf : List ℕ → List ℕ → Outline → List ℕ
+repackOutputIf m out (Found l) = outputIf (lengthIf (length (repackedModule m l)) (length out)) (repackedModule m l) out
+repackOutputIf m out (Refused r) = out
+
+abbrev pub repackOutput : List ℕ → List ℕ → List ℕ
+repackOutput m out = repackOutputIf m out (opened m)

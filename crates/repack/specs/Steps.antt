@@ -1,0 +1,37 @@
+-- Definitions that private functions cite: the module repacked as its bytes up to PATT's length, that length and the data anew, and its
+-- bytes behind PATT; and what is known of the patterns of an accepted module.
+use Prim.Native.Nat.{ℕ, zero, suc, _+_, _≤_}
+use mathlib.Core.Path.{_≡_}
+use mathlib.Core.List.{List, [], _∷_, _++_, map}
+use lib.ListN.{length, take, drop}
+use Rattle.refusal.specs.declared.Verdict.the-variants.{Accepted}
+use Rattle.cells.specs.Cells.{joined}
+use Rattle.layout.specs.declared.Place.{Place}
+use Rattle.blocks.specs.Sizes.{sizeOf, placeAfter, placesFrom, firstBlock}
+use Rattle.blocks.specs.Filling.{dataEnd}
+use Rattle.blocks.specs.declared.Kind.the-variants.{Pattern}
+use Rattle.module.specs.Streams.{streamVerdict}
+use Rattle.repack.specs.Repacked.{bytes32, repackedBlock}
+
+-- The blocks anew of so many patterns from a place on.
+abbrev pub blocksAnew : List ℕ → ℕ → ℕ → ℕ → List ℕ
+blocksAnew m tracks n at = joined (map (repackedBlock m tracks) (placesFrom (sizeOf Pattern m) n at))
+
+-- PATT's data put in the place of those that stand there.
+abbrev pub replaced : List ℕ → Place → List ℕ → List ℕ
+replaced m chunk anew = take (chunk .at + 4) m ++ (bytes32 (length anew) ++ (anew ++ drop (dataEnd chunk) m))
+
+-- So many patterns from a place on have sound streams.
+abbrev pub AllSound : List ℕ → ℕ → ℕ → ℕ → Type 0
+AllSound m tracks zero at = Unit {0}
+AllSound m tracks (suc n) at = (streamVerdict m tracks at ≡ Accepted) × AllSound m tracks n (at + sizeOf Pattern m at)
+
+-- So many patterns from a place on end at another, inside the module, and have sound streams.
+pub record PatternsTo (m : List ℕ) (tracks n at end : ℕ) : Type 0 where
+  pub sound : AllSound m tracks n at
+  pub ends : placeAfter (sizeOf Pattern m) n at ≡ end
+  pub inside : end ≤ length m
+
+-- The patterns of a chunk fill it, and have sound streams.
+abbrev pub PatternsIn : List ℕ → Place → ℕ → ℕ → Type 0
+PatternsIn m chunk n tracks = PatternsTo m tracks n (firstBlock Pattern chunk) (dataEnd chunk)

@@ -1,0 +1,154 @@
+// Repacking a whole module: the packer's streams in the place of those that PATT holds, with the lengths that follow; all else byte for
+// byte. Of the packed rows only the promises of `packed_rows` are used. The module is read in place, and no memory is needed beyond one
+// row.
+use blocks::Kind;
+use blocks::block_at;
+use blocks::size;
+use layout::Layout;
+use layout::Outline;
+use layout::Place;
+use numbers::number16;
+use numbers::number32;
+use numbers::part;
+use packed_rows::Packing;
+use queries::LengthAnswer;
+use queries::refused;
+use queries::written;
+use refusal::Cause;
+use refusal::refuse;
+ghost use mathlib.Core.Path.{_≡_};
+ghost use mathlib.Core.List.{_++_};
+ghost use Prim.Native.Nat.{_+_, _<_, _≤_};
+ghost use lib.ListN.{length, drop};
+ghost use Rattle.refusal.specs.declared.Verdict.the-variants.{Accepted};
+ghost use Rattle.numbers.specs.Numbers.{number32 as number32At};
+ghost use Rattle.layout.specs.declared.Outline.the-variants.{Found};
+ghost use Rattle.blocks.specs.Sizes.{sizeOf, firstBlock};
+ghost use Rattle.blocks.specs.declared.Kind.the-variants.{Pattern};
+ghost use Rattle.module.specs.Streams.{streamVerdict};
+ghost use Rattle.module.specs.Verdicts.{opened};
+ghost use Rattle.repack.specs.Repacked.{bytes32, repackedStream, repackedBlock, repackAnswerIf, repackAnswer, repackOutputIf, repackOutput};
+ghost use Rattle.repack.specs.Steps.{blocksAnew, replaced, PatternsIn};
+
+// Writes the packer's stream of the pattern at a place to the front of an output that has room for it, and answers its length, also
+// where there is no room.
+fn repack_stream(m: &[u8], tracks: u16, at: usize, out: &mut [u8]) -> usize
+    requires { ⌜ (at + 6 ≤ length (now m)) × (streamVerdict (now m) tracks at ≡ Accepted) ⌝ }
+    ensures { λ r. ⌜ (r ≡ length (repackedStream (now (m .entry)) tracks at)) × (r ≤ number32At (now (m .entry)) (at + 2)) × (r < 0x100000000) × (r ≤ length (now (out .entry)) → now (out .exit) ≡ repackedStream (now (m .entry)) tracks at ++ drop r (now (out .entry))) ⌝ }
+{
+    let packed = number32(m, at + 2) as usize;
+    let stream = part(m, at + 6, packed);
+    match packed_rows::repack(stream, number16(m, at) as usize, tracks as usize, out) {
+        Packing::Packed(n) => n,
+        Packing::Refused(r) => r.place,
+    }
+}
+
+// The length of a pattern's block anew.
+fn block_length(m: &[u8], tracks: u16, at: usize) -> usize
+    requires { ⌜ (at + 6 ≤ length (now m)) × (streamVerdict (now m) tracks at ≡ Accepted) ⌝ }
+    ensures { λ r. ⌜ (r ≡ length (repackedBlock (now (m .entry)) tracks at)) × (r ≤ sizeOf Pattern (now (m .entry)) at) ⌝ }
+{
+    let mut none = [0u8; 0];
+    let n = repack_stream(m, tracks, at, &mut none);
+    6 + n + n % 2
+}
+
+// The length of PATT's data anew: no more than it was.
+fn data_length(m: &[u8], chunk: Place, patterns: u16, tracks: u16) -> usize
+    requires { ⌜ PatternsIn (now m) chunk patterns tracks ⌝ }
+    ensures { λ r. ⌜ (r ≡ length (blocksAnew (now (m .entry)) tracks patterns (firstBlock Pattern chunk))) × (r ≤ chunk .length) ⌝ }
+{
+    let mut at = block_at(m, Kind::Pattern, chunk, 0);
+    let mut length: usize = 0;
+    let mut left = patterns;
+    while 0 < left {
+        length = length + block_length(m, tracks, at);
+        at = at + size(m, Kind::Pattern, at);
+        left = left - 1;
+    }
+    length
+}
+
+// Writes a number in 4 bytes to the front of an output.
+fn put32(n: u32, out: &mut [u8])
+    requires { ⌜ 4 ≤ length (now out) ⌝ }
+    ensures { λ r. ⌜ now (out .exit) ≡ bytes32 n ++ drop 4 (now (out .entry)) ⌝ }
+{
+    out[0] = (n / 16777216) as u8;
+    out[1] = (n / 65536 % 256) as u8;
+    out[2] = (n / 256 % 256) as u8;
+    out[3] = (n % 256) as u8;
+}
+
+// Writes a pattern's block anew to the front of an output, and answers its length.
+fn write_block(m: &[u8], tracks: u16, at: usize, out: &mut [u8]) -> usize
+    requires { ⌜ (at + 6 ≤ length (now m)) × (streamVerdict (now m) tracks at ≡ Accepted) × (length (repackedBlock (now m) tracks at) ≤ length (now out)) ⌝ }
+    ensures { λ r. ⌜ (r ≡ length (repackedBlock (now (m .entry)) tracks at)) × (now (out .exit) ≡ repackedBlock (now (m .entry)) tracks at ++ drop r (now (out .entry))) ⌝ }
+{
+    bytes::copy(part(m, at, 2), out);
+    let n = repack_stream(m, tracks, at, &mut out[6..]);
+    put32(n as u32, &mut out[2..]);
+    let end = 6 + n;
+    if n % 2 == 0 {
+        return end;
+    }
+    out[end] = 0;
+    end + 1
+}
+
+// Writes PATT's data anew into an output of just their length.
+fn write_data(m: &[u8], chunk: Place, patterns: u16, tracks: u16, out: &mut [u8])
+    requires { ⌜ PatternsIn (now m) chunk patterns tracks × (length (now out) ≡ length (blocksAnew (now m) tracks patterns (firstBlock Pattern chunk))) ⌝ }
+    ensures { λ r. ⌜ now (out .exit) ≡ blocksAnew (now (m .entry)) tracks patterns (firstBlock Pattern chunk) ⌝ }
+{
+    let mut at = block_at(m, Kind::Pattern, chunk, 0);
+    let mut to: usize = 0;
+    let mut left = patterns;
+    while 0 < left {
+        to = to + write_block(m, tracks, at, &mut out[to..]);
+        at = at + size(m, Kind::Pattern, at);
+        left = left - 1;
+    }
+}
+
+// Writes the module with PATT's data anew, so many bytes, into an output of just the length of all.
+fn write_module(m: &[u8], chunk: Place, patterns: u16, tracks: u16, anew: usize, out: &mut [u8])
+    requires { ⌜ PatternsIn (now m) chunk patterns tracks × (anew ≡ length (blocksAnew (now m) tracks patterns (firstBlock Pattern chunk))) × (anew ≤ chunk .length) × (length (now out) + chunk .length ≡ length (now m) + anew) ⌝ }
+    ensures { λ r. ⌜ now (out .exit) ≡ replaced (now (m .entry)) chunk (blocksAnew (now (m .entry)) tracks patterns (firstBlock Pattern chunk)) ⌝ }
+{
+    let front = (chunk.at as usize) + 4;
+    bytes::copy(&m[..front], out);
+    put32(anew as u32, &mut out[front..]);
+    let start = front + 4;
+    let end = start + anew;
+    write_data(m, chunk, patterns, tracks, &mut out[start..end]);
+    let behind = start + (chunk.length as usize);
+    bytes::copy(&m[behind..], &mut out[end..]);
+}
+
+// Repacks a module that is accepted: 17.
+fn repack_opened(m: &[u8], l: Layout, out: &mut [u8]) -> LengthAnswer
+    requires { ⌜ opened (now m) ≡ Found l ⌝ }
+    ensures { λ r. ⌜ (r ≡ repackAnswerIf (now (m .entry)) (length (now (out .entry))) (Found l)) × (now (out .exit) ≡ repackOutputIf (now (m .entry)) (now (out .entry)) (Found l)) ⌝ }
+{
+    let p = l.places;
+    let chunk = p.patt;
+    let anew = data_length(m, chunk, l.patterns, l.tracks);
+    let needed = m.len() - (chunk.length as usize) + anew;
+    if out.len() < needed {
+        return refused(refuse(Cause::Room, needed));
+    }
+    write_module(m, chunk, l.patterns, l.tracks, anew, &mut out[..needed]);
+    written(needed)
+}
+
+// Repacks a module: its own refusal, then 17.
+pub fn repack(m: &[u8], out: &mut [u8]) -> LengthAnswer
+    ensures { λ r. ⌜ (r ≡ repackAnswer (now (m .entry)) (length (now (out .entry)))) × (now (out .exit) ≡ repackOutput (now (m .entry)) (now (out .entry))) ⌝ }
+{
+    match module::open(m) {
+        Outline::Found(l) => repack_opened(m, l, out),
+        Outline::Refused(r) => refused(r),
+    }
+}

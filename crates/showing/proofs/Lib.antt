@@ -1,0 +1,10 @@
+pub mod Alike
+pub mod AlikeAnswers
+pub mod SameBytes
+pub mod SameSummary
+pub mod SameSongs
+pub mod SameInstruments
+pub mod SameEnvelopes
+pub mod SamePatterns
+pub mod SameSamples
+pub mod Theorems

@@ -1,0 +1,81 @@
+-- Samples: the bits and the number of the frames, and the frames themselves, stand in the sample's block. A sample that is found
+-- is that of an accepted module, so a frame has 1, 2 or 4 bytes, and each lies within the block.
+use Prim.Native.Nat.{ℕ, _+_, _*_, _≤_, _<_}
+use mathlib.Core.Path.{_≡_, refl, ap}
+use mathlib.Core.Logic.{_⊎_, inl, inr}
+use mathlib.Core.List.{List}
+use native.Mathlib.Omega.{arith}
+use native.Mathlib.Nat.{add-assoc, mul-le-mul-right}
+use lib.Dec.{ltb}
+use borrow.Author.Tests.{ltb-true}
+use Rattle.cells.specs.Cells.{joined}
+use Rattle.numbers.specs.Numbers.{number32, partOf}
+use Rattle.blocks.specs.Sizes.{sizeOf}
+use Rattle.blocks.specs.declared.Kind.the-variants.{Sample as SampleKind}
+use Rattle.queries.specs.declared.Thing.the-variants.{Sample}
+use Rattle.samples.specs.Shown.{frameBytes, frameCount, shownSample, sampleIf, sampleAnswer, framesIf, frame16, frameOf, frameIn, frameIf, frameAnswer, bytes16, allFrames, allFramesIf, allFramesAnswer, allFramesOutputIn, allFramesOutputIf, allFramesOutput}
+use Rattle.grammar.proofs.SampleFrames.{frames-in}
+use Rattle.showing.specs.Showing.{SameFrames}
+use Rattle.showing.proofs.Alike.{SameBlock, Alike}
+use Rattle.showing.proofs.SameBytes.{each-same, same-if, same-byte, same-16, same-32, same-first32, same-part}
+use Rattle.showing.proofs.AlikeAnswers.{by-finding}
+
+module _ {m n : List ℕ} {at to : ℕ} (s : SameBlock SampleKind m n at to) where
+  flags-same : number32 n to ≡ number32 m at
+  unfolding sizeOf
+  flags-same = same-first32 s (omega arith)
+
+  count-same : frameCount n to ≡ frameCount m at
+  unfolding sizeOf
+  count-same = same-32 s 4 (omega arith)
+
+  sample-same : shownSample n to ≡ shownSample m at
+  sample-same = rw (flags-same, count-same)
+
+  -- The part that is handed out.
+  part-same : partOf n (to + 8) (frameCount n to * frameBytes n to) ≡ partOf m (at + 8) (frameCount m at * frameBytes m at)
+  unfolding sizeOf
+  part-same = rw (count-same, flags-same) (same-part s 8 (frameCount m at * frameBytes m at) (omega arith))
+
+  -- A frame of 1, 2 or 4 bytes within the block.
+  frame16-same : (bytes k : ℕ) → (bytes ≡ 1) ⊎ ((bytes ≡ 2) ⊎ (bytes ≡ 4)) → k + bytes ≤ sizeOf SampleKind m at → frame16 n bytes (to + k) ≡ frame16 m bytes (at + k)
+  frame16-same bytes k (inl e) h = rw e (rw (same-byte s k (omega arith)))
+  frame16-same bytes k (inr (inl e)) h = rw e (rw (same-16 s k (omega arith)))
+  frame16-same bytes k (inr (inr e)) h = rw e (rw (same-32 s k (omega arith)))
+
+  module _ (width : (frameBytes m at ≡ 1) ⊎ ((frameBytes m at ≡ 2) ⊎ (frameBytes m at ≡ 4))) where
+    frameOf-same : (frame : ℕ) → frame < frameCount m at → frameOf n to frame ≡ frameOf m at frame
+    unfolding sizeOf
+    frameOf-same frame h =
+        rw flags-same (simp add-assoc (frame16-same (frameBytes m at) (8 + frame * frameBytes m at) width (omega (arith, mul-le-mul-right (frameBytes m at) h))))
+
+    frame-same : (frame : ℕ) → frameIn n to frame ≡ frameIn m at frame
+    frame-same frame = rw count-same (same-if (ltb frame (frameCount m at)) _ (λ h. rw (frameOf-same frame (ltb-true frame _ h))))
+
+    allFrames-same : allFrames n to ≡ allFrames m at
+    allFrames-same = rw count-same (ap joined (each-same (λ frame. bytes16 (frameOf n to frame)) (λ frame. bytes16 (frameOf m at frame)) (frameCount m at) 0 0 (λ i h. ap bytes16 (frameOf-same (0 + i) (omega arith)))))
+
+    output-same : (out : List ℕ) → allFramesOutputIn n to out ≡ allFramesOutputIn m at out
+    output-same out = rw (allFrames-same, count-same)
+
+module _ {m n : List ℕ} (a : Alike m n) (sample : ℕ) where
+  pub same-sample : sampleAnswer n sample ≡ sampleAnswer m sample
+  same-sample = by-finding a Sample sample (sampleIf m) (sampleIf n) (λ r. refl) (λ b c e v t s. sample-same s)
+
+  pub same-frames : SameFrames m n sample
+  same-frames = record {
+    number = by-finding a Sample sample (λ f. framesIf m f .number) (λ f. framesIf n f .number) (λ r. refl) (λ b c e v t s. refl);
+    place = by-finding a Sample sample (λ f. framesIf m f .place) (λ f. framesIf n f .place) (λ r. refl) (λ b c e v t s. refl);
+    length = by-finding a Sample sample (λ f. framesIf m f .length) (λ f. framesIf n f .length) (λ r. refl) (λ b c e v t s. rw (count-same s, flags-same s));
+    bytes = by-finding a Sample sample (λ f. partOf m (framesIf m f .offset) (framesIf m f .length)) (λ f. partOf n (framesIf n f .offset) (framesIf n f .length)) (λ r. refl) (λ b c e v t s. part-same s);
+  }
+
+  pub same-frame : (frame : ℕ) → frameAnswer n sample frame ≡ frameAnswer m sample frame
+  same-frame frame = by-finding a Sample sample (frameIf m frame) (frameIf n frame) (λ r. refl) (λ b c e v t s. frame-same s (frames-in m sample b e .width) frame)
+
+  pub same-all-frames : (room : ℕ) → allFramesAnswer n sample room ≡ allFramesAnswer m sample room
+  same-all-frames room = by-finding a Sample sample (allFramesIf m room) (allFramesIf n room) (λ r. refl) (λ b c e v t s. rw (count-same s))
+
+  pub same-all-frames-output : (out : List ℕ) → allFramesOutput n sample out ≡ allFramesOutput m sample out
+  same-all-frames-output out =
+      by-finding a Sample sample (allFramesOutputIf m out) (allFramesOutputIf n out) (λ r. refl) (λ b c e v t s. output-same s (frames-in m sample b e .width) out)
