@@ -1,6 +1,7 @@
 /*
- * dbm0.h: DBM0 modules. The check of a whole module, and every query about
- * one: version, name, INFO, songs, instruments, envelopes, patterns, samples.
+ * dbm0.h: DBM0 modules. The check of a whole module, every query about one
+ * (version, name, INFO, songs, instruments, envelopes, patterns, samples), and
+ * the repacking of one.
  *
  * Link with libdbm0.a (x86-64, System V calling convention). The calls of
  * dbm0_pattern.h, which this header includes, are in libpattern.a: a program
@@ -24,7 +25,7 @@
  * - A query gives, the first that applies: the module's own refusal (1 to 15,
  *   as dbm0_check_module), then 18, then 17 where an output is lent. Instruments,
  *   samples and tracks are counted from 1, all else from 0.
- * - A query that fills an output tells the needed length as the place of 17:
+ * - A call that fills an output tells the needed length as the place of 17:
  *   call it with an output of length 0 to ask for it. On success, bytes behind
  *   the written length stay as they were.
  * - Every query checks the module first; that is most of its time. What comes
@@ -48,7 +49,7 @@ extern "C" {
 #endif
 
 /* The version of this interface: major x 10000 + minor x 100 + patch. */
-#define DBM0_VERSION 10100
+#define DBM0_VERSION 10200
 
 /* The most bytes that a module may have. */
 #define DBM0_MODULE_MOST_BYTES 16777216
@@ -109,7 +110,7 @@ extern "C" {
 /* A packed stream is broken. The place is the pattern's block. */
 #define DBM0_MODULE_STREAM_BROKEN 15
 
-/* A query's output is shorter than needed. The place is the needed length. */
+/* An output is shorter than needed. The place is the needed length. */
 #define DBM0_MODULE_ROOM 17
 
 /* There is no such song, entry, instrument, envelope, pattern, sample, frame,
@@ -207,7 +208,7 @@ typedef struct {
 dbm0_entry_answer dbm0_entry(
     const uint8_t *module, size_t module_length, size_t song, size_t entry);
 
-/* The answer of a query that fills an output: how many bytes it has written,
+/* The answer of a call that fills an output: how many bytes it has written,
  * 0 on a refusal. */
 typedef struct {
     uint64_t number;
@@ -392,6 +393,27 @@ dbm0_frame_answer dbm0_frame(
  * grows with the samples before it and the frames. */
 dbm0_length_answer dbm0_all_frames(
     const uint8_t *module, size_t module_length, size_t sample,
+    uint8_t *out, size_t out_length);
+
+/*
+ * Writes the module repacked: header and chunks in order and byte for byte,
+ * except that PATT holds, for each pattern, its rows, the packer's stream of
+ * its cells (as dbm0_pack_pattern writes it) with the length of that stream,
+ * and a filler byte of 0 where that length is odd; and PATT's own length is
+ * what follows. The output is a module that is accepted, shows the same
+ * records, cells and frames, and repacks to itself. It is the module's own
+ * bytes just where every stream was the packer's and every filler 0.
+ *
+ * The needed length is never more than the module's, so an output as long as
+ * the module is always enough. The output must not overlap the module.
+ *
+ * Refusals: the module's own, 17. Time beside the check: the packed streams
+ * are gone over twice for the needed length and three times more to be
+ * written, and the rest of the module is copied. No memory is needed beyond
+ * one row of cells, which stands on the stack.
+ */
+dbm0_length_answer dbm0_repack(
+    const uint8_t *module, size_t module_length,
     uint8_t *out, size_t out_length);
 
 #ifdef __cplusplus

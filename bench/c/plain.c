@@ -3,6 +3,7 @@
  */
 
 #include "plain_check.h"
+#include "plain_rows.h"
 
 #include <string.h>
 
@@ -21,39 +22,6 @@ static void carry_out(
         for (int field = 0; field < 6; field++)
             if (mask >> field & 1)
                 cell[field] = stream[at++];
-    }
-}
-
-static size_t packed_length(const uint8_t *cells, uint64_t rows, uint64_t tracks)
-{
-    size_t length = rows;
-    for (size_t left = rows * tracks; left > 0; left--, cells += 6) {
-        unsigned fields = 0;
-        for (int field = 0; field < 6; field++)
-            fields += cells[field] != 0;
-        if (fields)
-            length += 2 + fields;
-    }
-    return length;
-}
-
-static void write_rows(
-    const uint8_t *cells, uint64_t rows, uint64_t tracks, uint8_t *out)
-{
-    for (uint64_t row = 0; row < rows; row++) {
-        for (uint64_t track = 1; track <= tracks; track++, cells += 6) {
-            unsigned mask = 0;
-            for (int field = 0; field < 6; field++)
-                mask |= (unsigned)(cells[field] != 0) << field;
-            if (mask == 0)
-                continue;
-            *out++ = (uint8_t)track;
-            *out++ = (uint8_t)mask;
-            for (int field = 0; field < 6; field++)
-                if (cells[field])
-                    *out++ = cells[field];
-        }
-        *out++ = 0;
     }
 }
 
@@ -89,9 +57,9 @@ baseline_answer plain_pack_pattern(
 {
     if (!sizes_fit(rows, tracks) || cells_length != rows * tracks * 6)
         return out_of_range();
-    size_t needed = packed_length(cells, rows, tracks);
+    size_t needed = plain_packed_length(cells, rows, tracks);
     if (out_length < needed)
         return too_short(needed);
-    write_rows(cells, rows, tracks, out);
+    plain_write_rows(cells, rows, tracks, out);
     return written(needed);
 }

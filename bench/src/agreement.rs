@@ -201,6 +201,48 @@ pub fn compare_modules(modules: &[Module]) -> Result<usize, String> {
     }
 }
 
+/// How many calls that repack were compared, or the first difference. The outputs have no bytes, too few, just enough and more.
+pub fn compare_repacked(modules: &[Module]) -> Result<usize, String> {
+    let mut random = Random(9);
+    let mut faults = generate::Random::new(10);
+    let mut calls = 0;
+    for module in modules {
+        calls += same_repacked(module.name, &module.bytes, &mut random)?;
+        for turn in 0..DAMAGED_MODULES / 10 {
+            let what = format!("{}, damaged, turn {turn}", module.name);
+            let damaged = damaged_draft(&module.draft, &mut faults);
+            calls += same_repacked(&what, &damaged, &mut random)?;
+        }
+    }
+    for most in [Most::SMALL, Most::USUAL] {
+        for turn in 0..SMALL_MODULES {
+            let what = format!("small module, turn {turn}");
+            let draft = generate::module(&mut faults, &most);
+            calls += same_repacked(&what, &draft.bytes(), &mut random)?;
+            let damaged = damaged_draft(&draft, &mut faults);
+            calls += same_repacked(&what, &damaged, &mut random)?;
+        }
+    }
+    calls += same_repacked("longest module", &longest_module(), &mut random)?;
+    Ok(calls)
+}
+
+fn same_repacked(what: &str, module: &[u8], random: &mut Random) -> Result<usize, String> {
+    let asked = (IMPLEMENTATIONS[0].repack_module)(module, &mut []);
+    let needed = match asked.number {
+        17 => asked.place as usize,
+        _ => module.len(),
+    };
+    let short = random.below(needed as u64 + 1) as usize;
+    let mut calls = 0;
+    for room in [0, short, needed.saturating_sub(1), needed, module.len() + 1] {
+        calls += same(what, |one| {
+            into(room, |out| (one.repack_module)(module, out))
+        })?;
+    }
+    Ok(calls)
+}
+
 /// The calls so far, and the numbers that they answered.
 #[derive(Default)]
 struct Compared {

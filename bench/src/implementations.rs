@@ -1,8 +1,8 @@
 //! The four implementations under one interface.
 
-use reference::{module, pattern};
+use reference::{module, pattern, repack};
 
-/// Of a pattern's call. `number` 0: no refusal.
+/// Of a pattern's call, and of repacking a module. `number` 0: no refusal.
 #[repr(C)]
 #[derive(Clone, Copy, Debug, PartialEq, Eq)]
 pub struct Answer {
@@ -22,6 +22,7 @@ pub struct Verdict {
 pub type Check = fn(&[u8], u64, u64) -> Answer;
 pub type Fill = fn(&[u8], u64, u64, &mut [u8]) -> Answer;
 pub type CheckModule = fn(&[u8]) -> Verdict;
+pub type RepackModule = fn(&[u8], &mut [u8]) -> Answer;
 
 pub struct Implementation {
     pub name: &'static str,
@@ -29,6 +30,7 @@ pub struct Implementation {
     pub unpack: Fill,
     pub pack: Fill,
     pub check_module: CheckModule,
+    pub repack_module: RepackModule,
 }
 
 pub const OURS: usize = 0;
@@ -43,6 +45,7 @@ pub const IMPLEMENTATIONS: [Implementation; COUNT] = [
         unpack: ours::unpack,
         pack: ours::pack,
         check_module: ours::check_module,
+        repack_module: ours::repack_module,
     },
     Implementation {
         name: "plain C",
@@ -50,6 +53,7 @@ pub const IMPLEMENTATIONS: [Implementation; COUNT] = [
         unpack: plain::unpack,
         pack: plain::pack,
         check_module: plain::check_module,
+        repack_module: plain::repack_module,
     },
     Implementation {
         name: "expert C",
@@ -57,6 +61,7 @@ pub const IMPLEMENTATIONS: [Implementation; COUNT] = [
         unpack: expert::unpack,
         pack: expert::pack,
         check_module: expert::check_module,
+        repack_module: expert::repack_module,
     },
     Implementation {
         name: "Rust",
@@ -64,12 +69,13 @@ pub const IMPLEMENTATIONS: [Implementation; COUNT] = [
         unpack: rust_unpack,
         pack: rust_pack,
         check_module: rust_check_module,
+        repack_module: rust_repack_module,
     },
 ];
 
-/// Safe functions over four C functions. A slice passes as a pointer and a length; the C functions read and write only there.
+/// Safe functions over five C functions. A slice passes as a pointer and a length; the C functions read and write only there.
 macro_rules! over_c {
-    ($name:ident, $check:ident, $unpack:ident, $pack:ident, $check_module:ident) => {
+    ($name:ident, $check:ident, $unpack:ident, $pack:ident, $check_module:ident, $repack_module:ident) => {
         mod $name {
             use super::{Answer, Verdict};
 
@@ -92,6 +98,12 @@ macro_rules! over_c {
                     out_length: usize,
                 ) -> Answer;
                 fn $check_module(module: *const u8, length: usize) -> Verdict;
+                fn $repack_module(
+                    module: *const u8,
+                    length: usize,
+                    out: *mut u8,
+                    out_length: usize,
+                ) -> Answer;
             }
 
             pub fn check(stream: &[u8], rows: u64, tracks: u64) -> Answer {
@@ -131,6 +143,13 @@ macro_rules! over_c {
                 // SAFETY: the pointer and the length are those of one slice.
                 unsafe { $check_module(module.as_ptr(), module.len()) }
             }
+
+            pub fn repack_module(module: &[u8], out: &mut [u8]) -> Answer {
+                // SAFETY: each pointer and length are those of one slice, and the two do not overlap.
+                unsafe {
+                    $repack_module(module.as_ptr(), module.len(), out.as_mut_ptr(), out.len())
+                }
+            }
         }
     };
 }
@@ -140,21 +159,24 @@ over_c!(
     dbm0_check_pattern,
     dbm0_unpack_pattern,
     dbm0_pack_pattern,
-    dbm0_check_module
+    dbm0_check_module,
+    dbm0_repack
 );
 over_c!(
     plain,
     plain_check_pattern,
     plain_unpack_pattern,
     plain_pack_pattern,
-    plain_check_module
+    plain_check_module,
+    plain_repack_module
 );
 over_c!(
     expert,
     expert_check_pattern,
     expert_unpack_pattern,
     expert_pack_pattern,
-    expert_check_module
+    expert_check_module,
+    expert_repack_module
 );
 
 fn answer(result: Result<u64, pattern::Refusal>) -> Answer {
@@ -195,4 +217,8 @@ fn rust_check_module(module: &[u8]) -> Verdict {
             place: refusal.place,
         },
     }
+}
+
+fn rust_repack_module(module: &[u8], out: &mut [u8]) -> Answer {
+    answer(repack::repack(module, out))
 }

@@ -3,7 +3,7 @@
 use std::hint::black_box;
 
 use crate::corpus::{Corpus, Pattern, Random};
-use crate::implementations::{Answer, Implementation, COUNT, IMPLEMENTATIONS};
+use crate::implementations::{Answer, Implementation, COUNT, IMPLEMENTATIONS, OURS};
 use crate::modules::Module;
 
 #[derive(Clone, Copy)]
@@ -46,12 +46,12 @@ impl Times {
 /// The times of one function on one corpus or module, for each implementation.
 pub struct Line {
     pub corpus: &'static str,
-    pub function: Function,
+    pub function: &'static str,
     pub times: [Times; COUNT],
 }
 
 impl Line {
-    fn new(corpus: &'static str, function: Function, rounds: usize) -> Line {
+    fn new(corpus: &'static str, function: &'static str, rounds: usize) -> Line {
         Line {
             corpus,
             function,
@@ -60,10 +60,11 @@ impl Line {
     }
 }
 
-/// Nanoseconds per cell for the patterns, microseconds per module for the modules.
+/// Nanoseconds per cell for the patterns, microseconds per module for the check and the repacking of modules.
 pub struct Measured {
     pub patterns: Vec<Line>,
     pub modules: Vec<Line>,
+    pub repacked: Vec<Line>,
 }
 
 /// The outputs of a corpus: one buffer of just the needed length for each pattern, used by every implementation.
@@ -82,11 +83,19 @@ pub fn measure(corpora: &[Corpus], modules: &[Module], rounds: usize) -> Measure
         .collect();
     let mut lines: Vec<Line> = corpora
         .iter()
-        .flat_map(|corpus| FUNCTIONS.map(|function| Line::new(corpus.name, function, rounds)))
+        .flat_map(|corpus| {
+            FUNCTIONS.map(|function| Line::new(corpus.name, function.name(), rounds))
+        })
         .collect();
     let mut module_lines: Vec<Line> = modules
         .iter()
-        .map(|module| Line::new(module.name, Function::Check, rounds))
+        .map(|module| Line::new(module.name, "check", rounds))
+        .collect();
+    let repacked: Vec<&Module> = modules.iter().filter(|module| module.of_corpus).collect();
+    let mut repacked_outputs: Vec<Vec<u8>> = repacked.iter().map(|module| room(module)).collect();
+    let mut repacked_lines: Vec<Line> = repacked
+        .iter()
+        .map(|module| Line::new(module.name, "repack", rounds))
         .collect();
 
     let mut random = Random(6);
@@ -111,8 +120,21 @@ pub fn measure(corpora: &[Corpus], modules: &[Module], rounds: usize) -> Measure
                 }
             }
         }
+        let outputs = repacked.iter().zip(&mut repacked_outputs);
+        for ((module, out), line) in outputs.zip(&mut repacked_lines) {
+            for which in shuffled(&mut random) {
+                let time = repack_pass(module, out, &IMPLEMENTATIONS[which]);
+                if round > 0 {
+                    line.times[which].0.push(time / 1e3);
+                }
+            }
+        }
     }
-    for line in lines.iter_mut().chain(&mut module_lines) {
+    let all = lines
+        .iter_mut()
+        .chain(&mut module_lines)
+        .chain(&mut repacked_lines);
+    for line in all {
         for times in &mut line.times {
             times.0.sort_by(f64::total_cmp);
         }
@@ -120,6 +142,7 @@ pub fn measure(corpora: &[Corpus], modules: &[Module], rounds: usize) -> Measure
     Measured {
         patterns: lines,
         modules: module_lines,
+        repacked: repacked_lines,
     }
 }
 
@@ -191,6 +214,22 @@ fn module_pass(module: &Module, implementation: &Implementation) -> f64 {
         assert_eq!(verdict.number, 0, "a module is refused");
     }
     cpu_time() - start
+}
+
+/// An output of just the length that the module needs.
+fn room(module: &Module) -> Vec<u8> {
+    let answer = (IMPLEMENTATIONS[OURS].repack_module)(&module.bytes, &mut []);
+    assert_eq!(answer.number, 17, "no room is too short");
+    vec![0; answer.place as usize]
+}
+
+/// The nanoseconds that one implementation takes to repack a module.
+fn repack_pass(module: &Module, out: &mut [u8], implementation: &Implementation) -> f64 {
+    let start = cpu_time();
+    let answer = (implementation.repack_module)(black_box(&module.bytes), black_box(out));
+    let time = cpu_time() - start;
+    assert_eq!(answer.number, 0, "a module is refused");
+    time
 }
 
 fn expect_success(answer: Answer) {

@@ -1,4 +1,4 @@
-//! The modules whose check is measured, the same on every run.
+//! The modules whose check and repacking are measured, the same on every run.
 
 use reference::chunks::{Name, COVERED};
 use reference::draft::{Chunk, Draft, Envelope, Instrument, Pattern, Sample, Song, Tune};
@@ -13,6 +13,8 @@ pub struct Module {
     pub bytes: Vec<u8>,
     /// How often a pass checks it, so that the clock's own time does not show.
     pub repeats: usize,
+    /// Whether its patterns are those of a corpus, so that repacking it is measured too.
+    pub of_corpus: bool,
 }
 
 impl Module {
@@ -23,6 +25,7 @@ impl Module {
             bytes: draft.bytes(),
             draft,
             repeats: 1,
+            of_corpus: false,
         }
     }
 }
@@ -78,7 +81,10 @@ fn of_corpus(corpus: &Corpus) -> Module {
         "the corpus's {} patterns, {SMALL_SAMPLES} instruments, half of them looped, {SMALL_SAMPLES} samples, 2 songs",
         corpus.patterns.len()
     );
-    Module::new(corpus.name, holds, tune.draft())
+    Module {
+        of_corpus: true,
+        ..Module::new(corpus.name, holds, tune.draft())
+    }
 }
 
 fn playlists() -> Module {

@@ -66,6 +66,11 @@ fn lines(case: &Case, text: &mut String) {
             let (number, place) = numbers(module::check(module).err());
             line(text, format_args!("module {number} {place}"));
             written(text, "lines", *room, |out| listing::write(module, out));
+            for room in [*room, module.len() as u32] {
+                written(text, "repacked", room, |out| {
+                    crate::repack::repack(module, out)
+                });
+            }
         }
         Case::Records {
             asked,

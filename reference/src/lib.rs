@@ -18,5 +18,6 @@ pub mod part;
 pub mod pattern;
 pub mod records;
 pub mod refusal;
+pub mod repack;
 pub mod rules;
 pub mod tunes;

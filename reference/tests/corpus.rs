@@ -5,7 +5,10 @@ use std::collections::BTreeSet;
 use reference::corpus::{
     cases, encoded, module_cases, pattern_cases, record_cases, take, Asked, Case,
 };
+use reference::draft::{Pattern, Tune};
 use reference::expect::expected;
+use reference::module::read;
+use reference::repack::repack;
 
 fn stream(rows: u64, tracks: u64, row: u64, track: u64, room: u32, stream: &[u8]) -> Case {
     Case::Stream {
@@ -110,20 +113,79 @@ fn the_lines_of_modules() {
             .iter()
             .map(|byte| format!("{byte:02x}"))
             .collect();
+    let smallest: String = smallest.iter().map(|byte| format!("{byte:02x}")).collect();
+    let filled = |count| "aa".repeat(count);
     assert_eq!(
         expected(&corpus),
         format!(
-            "module 0 0\nlines 0 0 77 {text}aa\n\
-             module 0 0\nlines 0 0 77 {text}\n\
-             module 0 0\nlines 17 77 0 {}\n\
-             module 0 0\nlines 17 77 0 \n\
-             module 8 42\nlines 0 0 16 7265667573656420382061742034320a\n\
-             module 8 8\nlines 0 0 15 72656675736564203820617420380a\n\
-             module 2 0\nlines 17 15 0 aaaaaa\n\
+            "module 0 0\nlines 0 0 77 {text}aa\nrepacked 0 0 58 {smallest}{}\nrepacked 0 0 58 {smallest}\n\
+             module 0 0\nlines 0 0 77 {text}\nrepacked 0 0 58 {smallest}{}\nrepacked 0 0 58 {smallest}\n\
+             module 0 0\nlines 17 77 0 {}\nrepacked 0 0 58 {smallest}{}\nrepacked 0 0 58 {smallest}\n\
+             module 0 0\nlines 17 77 0 \nrepacked 17 58 0 \nrepacked 0 0 58 {smallest}\n\
+             module 8 42\nlines 0 0 16 7265667573656420382061742034320a\nrepacked 8 42 0 {}\nrepacked 8 42 0 {}\n\
+             module 8 8\nlines 0 0 15 72656675736564203820617420380a\nrepacked 8 8 0 {}\nrepacked 8 8 0 {}\n\
+             module 2 0\nlines 17 15 0 aaaaaa\nrepacked 2 0 0 aaaaaa\nrepacked 2 0 0 \n\
              cases 7\n",
-            "aa".repeat(76)
+            filled(20),
+            filled(19),
+            filled(76),
+            filled(18),
+            filled(16),
+            filled(42),
+            filled(15),
+            filled(8),
         )
     );
+}
+
+/// A module with P3 and the filler $FF, 72 bytes; with P1 it has 70.
+#[test]
+fn the_lines_of_a_repacked_module() {
+    let mut module = b"DBM0\x03\x00\x00\x00INFO\x00\x00\x00\x0A".to_vec();
+    module.extend([0, 0, 0, 0, 0, 0, 0, 1, 0, 4]);
+    module.extend(b"SONG\0\0\0\0INST\0\0\0\0PATT\0\0\0\x0E");
+    module.extend([0, 2, 0, 0, 0, 7, 2, 7, 0x47, 1, 0, 0, 0, 0xFF]);
+    module.extend(b"SMPL\0\0\0\0");
+    let hex = "44424d3003000000494e464f0000000a00000000000000010004\
+        534f4e4700000000494e535400000000\
+        504154540000000c000200000006020347010000\
+        534d504c00000000";
+    for (room, own) in [
+        (69, format!("17 70 0 {}", "aa".repeat(69))),
+        (70, format!("0 0 70 {hex}")),
+        (71, format!("0 0 70 {hex}aa")),
+    ] {
+        let module = module.clone();
+        let text = expected(&encoded(&[Case::Module { room, module }]));
+        let lines: Vec<&str> = text.lines().collect();
+        assert_eq!(lines.len(), 5);
+        assert_eq!(lines[0], "module 0 0");
+        assert_eq!(lines[2], format!("repacked {own}"));
+        assert_eq!(lines[3], format!("repacked 0 0 70 {hex}aaaa"));
+    }
+}
+
+/// A module that is longer than 65,536 bytes is repacked into that much room, which may be enough.
+#[test]
+fn a_module_of_more_than_65536_bytes() {
+    let of_rows = |rows: u16, entry: &[u8]| {
+        let stream = [entry, &[0]].concat().repeat(usize::from(rows));
+        let tune = Tune {
+            patterns: vec![Pattern::new(rows, &stream)],
+            ..Tune::default()
+        };
+        tune.bytes()
+    };
+    for (module, answer) in [
+        (of_rows(30_000, &[1, 0]), "0 0 30064"),
+        (of_rows(30_000, &[1, 1, 5]), "17 120064 0"),
+    ] {
+        let text = expected(&encoded(&[Case::Module { room: 0, module }]));
+        let line = text.lines().nth(3).expect("there are five lines");
+        let words: Vec<&str> = line.split(' ').collect();
+        assert_eq!(words[1..4].join(" "), answer);
+        assert_eq!(words[4].len(), 2 * 65_536);
+    }
 }
 
 /// The first of everything, but for the track.
@@ -347,8 +409,9 @@ fn more_room_than_65536_is_taken_as_that() {
         assert_eq!(
             expected(&corpus),
             format!(
-                "module 2 0\nlines 0 0 15 72656675736564203220617420300a{}\ncases 1\n",
-                "aa".repeat(65_536 - 15)
+                "module 2 0\nlines 0 0 15 72656675736564203220617420300a{}\nrepacked 2 0 0 {}\nrepacked 2 0 0 \ncases 1\n",
+                "aa".repeat(65_536 - 15),
+                "aa".repeat(65_536)
             )
         );
     }
@@ -367,7 +430,7 @@ fn the_corpus_is_read_back_and_within_its_bounds() {
     }
     assert!(left.is_empty());
     let text = expected(&corpus);
-    assert!(text.len() <= 1_500_000, "{} bytes", text.len());
+    assert!(text.len() <= 2_400_000, "{} bytes", text.len());
     assert!(text.ends_with(&format!("\ncases {}\n", made.len())));
 }
 
@@ -483,6 +546,11 @@ fn the_corpus_has_every_kind_of_answer() {
         let count = text.lines().filter(|line| line.starts_with(&start)).count();
         assert!(count >= 200, "{start}: {count}");
     }
+    for number in [0, 2, 3, 4, 5, 6, 7, 8, 9, 10, 11, 12, 13, 14, 15, 17] {
+        let start = format!("repacked {number} ");
+        let count = text.lines().filter(|line| line.starts_with(&start)).count();
+        assert!(count >= 60, "{start}: {count}");
+    }
     for kind in 0..4 {
         let start = format!("cell 0 0 {kind} ");
         assert!(text.lines().any(|line| line.starts_with(&start)), "{start}");
@@ -493,4 +561,33 @@ fn the_corpus_has_every_kind_of_answer() {
             .count()
             >= 256
     );
+}
+
+/// Of the accepted modules, enough are not yet as the packer would have them, and enough of these have chunks behind PATT.
+#[test]
+fn the_modules_have_something_to_repack() {
+    let (mut shorter, mut as_long, mut behind) = (0, 0, 0);
+    for case in module_cases() {
+        let Case::Module { module, .. } = case else {
+            panic!("{case:?}");
+        };
+        let mut out = vec![0; module.len()];
+        let Ok(length) = repack(&module, &mut out) else {
+            continue;
+        };
+        let length = length as usize;
+        if out == module {
+            continue;
+        }
+        if length < module.len() {
+            shorter += 1;
+            let last = read(&module).expect("it is accepted").chunks.pop();
+            behind += usize::from(last.is_some_and(|chunk| chunk.name != *b"PATT"));
+        } else {
+            as_long += 1;
+        }
+    }
+    assert!(shorter >= 25, "{shorter}");
+    assert!(as_long >= 15, "{as_long}");
+    assert!(behind >= 20, "{behind}");
 }

@@ -8,6 +8,7 @@ use crate::answers::print_cell_answer;
 use crate::numbers::be32;
 use crate::numbers::be64;
 use crate::records::Asked;
+use crate::records::print_output;
 use crate::records::print_records;
 use crate::text::fill;
 use crate::text::print_bytes;
@@ -88,6 +89,13 @@ fn print_module(m: &[u8], out: &mut [u8], line: &mut [u8]) {
     fill(out);
     let a = of_listing(listing_text::lines(m, out));
     print_bytes(b"lines", &[a.number, a.place, a.length], out, line);
+    print_repacked(m, out, line);
+}
+
+fn print_repacked(m: &[u8], out: &mut [u8], line: &mut [u8]) {
+    fill(out);
+    let a = repack::repack(m, out);
+    print_output(b"repacked", a, out, line);
 }
 
 // Each function below takes the input from a case's first byte on, and answers how many bytes the
@@ -153,8 +161,11 @@ fn module_case(s: &[u8], out: &mut [u8], line: &mut [u8]) -> usize
         return 0;
     }
     let end = 9 + length;
+    let m = &s[9..end];
     let room = within(be32(s, 1), out);
-    print_module(&s[9..end], &mut out[..room], line);
+    print_module(m, &mut out[..room], line);
+    let whole = within(length, out);
+    print_repacked(m, &mut out[..whole], line);
     end
 }
 

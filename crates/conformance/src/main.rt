@@ -5,11 +5,12 @@
 //      prints what checking, unpacking, repacking and the question for one cell answer;
 //   2, rows u64, tracks u64, room u32, length u32, cells of that length: prints what packing answers;
 //   3, the six bytes of a cell: prints the cell as it is shown;
-//   4, room u32, length u32, a module of that length: prints what checking and listing it answer;
+//   4, room u32, length u32, a module of that length: prints what checking, listing and repacking it answer, and what repacking it
+//      answers with an output as long as the module;
 //   5, song u64, entry u64, instrument u64, envelope u64, pattern u64, row u64, track u64, sample u64, frame u64, room u32, length
 //      u32, a module of that length: prints what each query answers at these indices.
-// Room is the length of the output that is lent, at most 65,536; each of its bytes is 170 before the
-// call. Another first byte, or a case that is cut, ends the run. The last line counts the cases.
+// Room is the length of the output that is lent; more than 65,536, also of a module, is taken as that. Each byte of the output is 170
+// before the call. Another first byte, or a case that is cut, ends the run. The last line counts the cases.
 mod answers;
 mod cases;
 mod numbers;

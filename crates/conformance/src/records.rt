@@ -64,7 +64,7 @@ fn print_info(m: &[u8], line: &mut [u8]) {
 }
 
 // The line of a query that fills an output.
-fn print_output(word: &[u8], a: LengthAnswer, out: &[u8], line: &mut [u8]) {
+pub fn print_output(word: &[u8], a: LengthAnswer, out: &[u8], line: &mut [u8]) {
     print_bytes(word, &[a.number as usize, a.place, a.length], out, line);
 }
 

@@ -7,4 +7,5 @@ pub mod interface;
 pub mod large;
 pub mod queries;
 pub mod records;
+pub mod repacking;
 pub mod seeds;

@@ -14,23 +14,52 @@ use reference::generate::Random;
 /// of them), those just outside, and some that are far off; outputs are too short, just long enough and longer.
 pub fn all(library: &Queries, module: &[u8], random: &mut Random) -> Result<(), String> {
     let stored = module.to_vec();
-    let mut asking = Asking {
-        library,
+    let is = Side { library, module };
+    let expected = Side {
+        library: &REFERENCE,
         module,
-        info: (REFERENCE.info)(module).record,
-        many: if module.len() <= 2_000 { 16 } else { 3 },
-        random,
     };
-    asking.all().map_err(|what| with_module(what, module))?;
+    compare(is, expected, random)?;
     if module != stored {
         return Err(with_module("the module is changed".to_string(), &stored));
     }
     Ok(())
 }
 
-struct Asking<'a> {
+/// Asks a library everything about two modules, which should show the same. Frames are compared by what they are, not by where they
+/// stand.
+pub fn show_the_same(
+    library: &Queries,
+    module: &[u8],
+    expected: &[u8],
+    random: &mut Random,
+) -> Result<(), String> {
+    let of = |module| Side { library, module };
+    compare(of(module), of(expected), random)
+}
+
+fn compare(is: Side, expected: Side, random: &mut Random) -> Result<(), String> {
+    let module = expected.module;
+    let mut asking = Asking {
+        is,
+        expected,
+        info: (expected.library.info)(module).record,
+        many: if module.len() <= 2_000 { 16 } else { 3 },
+        random,
+    };
+    asking.all().map_err(|what| with_module(what, module))
+}
+
+/// A library, and the module that it is asked about.
+#[derive(Clone, Copy)]
+struct Side<'a> {
     library: &'a Queries,
     module: &'a [u8],
+}
+
+struct Asking<'a> {
+    is: Side<'a>,
+    expected: Side<'a>,
     /// Zeros where the module is refused.
     info: Info,
     /// Of more things than these only some are asked for.
@@ -40,10 +69,9 @@ struct Asking<'a> {
 
 impl Asking<'_> {
     fn all(&mut self) -> Result<(), String> {
-        let module = self.module;
-        self.same("version", &[], |library| (library.version)(module))?;
-        self.same("name", &[], |library| (library.name)(module))?;
-        self.same("info", &[], |library| (library.info)(module))?;
+        self.same("version", &[], |of| (of.library.version)(of.module))?;
+        self.same("name", &[], |of| (of.library.name)(of.module))?;
+        self.same("info", &[], |of| (of.library.info)(of.module))?;
         self.songs()?;
         self.instruments()?;
         self.envelopes()?;
@@ -52,16 +80,16 @@ impl Asking<'_> {
     }
 
     fn songs(&mut self) -> Result<(), String> {
-        let module = self.module;
+        let Side { library, module } = self.expected;
         for song in self.numbers(0, usize::from(self.info.songs)) {
-            self.same("song", &[song], |library| (library.song)(module, song))?;
-            self.same_output("playlist", song, |library, lent| {
-                (library.playlist)(module, song, lent)
+            self.same("song", &[song], |of| (of.library.song)(of.module, song))?;
+            self.same_output("playlist", song, |of, lent| {
+                (of.library.playlist)(of.module, song, lent)
             })?;
-            let entries = (REFERENCE.song)(module, song).record.length;
+            let entries = (library.song)(module, song).record.length;
             for entry in self.numbers(0, usize::from(entries)) {
-                self.same("entry", &[song, entry], |library| {
-                    (library.entry)(module, song, entry)
+                self.same("entry", &[song, entry], |of| {
+                    (of.library.entry)(of.module, song, entry)
                 })?;
             }
         }
@@ -69,52 +97,51 @@ impl Asking<'_> {
     }
 
     fn instruments(&mut self) -> Result<(), String> {
-        let module = self.module;
         for instrument in self.numbers(1, usize::from(self.info.instruments)) {
-            self.same("instrument", &[instrument], |library| {
-                (library.instrument)(module, instrument)
+            self.same("instrument", &[instrument], |of| {
+                (of.library.instrument)(of.module, instrument)
             })?;
         }
         Ok(())
     }
 
     fn envelopes(&mut self) -> Result<(), String> {
-        let module = self.module;
-        self.same("volume_envelopes", &[], |library| {
-            (library.volume_envelopes)(module)
+        let Side { library, module } = self.expected;
+        self.same("volume_envelopes", &[], |of| {
+            (of.library.volume_envelopes)(of.module)
         })?;
-        self.same("panning_envelopes", &[], |library| {
-            (library.panning_envelopes)(module)
+        self.same("panning_envelopes", &[], |of| {
+            (of.library.panning_envelopes)(of.module)
         })?;
-        let count = (REFERENCE.volume_envelopes)(module).record;
+        let count = (library.volume_envelopes)(module).record;
         for envelope in self.numbers(0, usize::from(count)) {
-            self.same("volume_envelope", &[envelope], |library| {
-                (library.volume_envelope)(module, envelope)
+            self.same("volume_envelope", &[envelope], |of| {
+                (of.library.volume_envelope)(of.module, envelope)
             })?;
         }
-        let count = (REFERENCE.panning_envelopes)(module).record;
+        let count = (library.panning_envelopes)(module).record;
         for envelope in self.numbers(0, usize::from(count)) {
-            self.same("panning_envelope", &[envelope], |library| {
-                (library.panning_envelope)(module, envelope)
+            self.same("panning_envelope", &[envelope], |of| {
+                (of.library.panning_envelope)(of.module, envelope)
             })?;
         }
         Ok(())
     }
 
     fn patterns(&mut self) -> Result<(), String> {
-        let module = self.module;
+        let Side { library, module } = self.expected;
         for pattern in self.numbers(0, usize::from(self.info.patterns)) {
-            self.same("rows", &[pattern], |library| {
-                (library.rows)(module, pattern)
+            self.same("rows", &[pattern], |of| {
+                (of.library.rows)(of.module, pattern)
             })?;
-            self.same_output("cells", pattern, |library, lent| {
-                (library.cells)(module, pattern, lent)
+            self.same_output("cells", pattern, |of, lent| {
+                (of.library.cells)(of.module, pattern, lent)
             })?;
-            let rows = (REFERENCE.rows)(module, pattern).record;
+            let rows = (library.rows)(module, pattern).record;
             for row in self.numbers(0, usize::from(rows)) {
                 for track in self.numbers(1, usize::from(self.info.tracks)) {
-                    self.same("cell", &[pattern, row, track], |library| {
-                        (library.cell)(module, pattern, row, track)
+                    self.same("cell", &[pattern, row, track], |of| {
+                        (of.library.cell)(of.module, pattern, row, track)
                     })?;
                 }
             }
@@ -123,48 +150,65 @@ impl Asking<'_> {
     }
 
     fn samples(&mut self) -> Result<(), String> {
-        let module = self.module;
+        let Side { library, module } = self.expected;
         for sample in self.numbers(1, usize::from(self.info.samples)) {
-            self.same("sample", &[sample], |library| {
-                (library.sample)(module, sample)
+            self.same("sample", &[sample], |of| {
+                (of.library.sample)(of.module, sample)
             })?;
-            within(module, (self.library.frames)(module, sample))
-                .map_err(|what| format!("frames of {sample} {what}"))?;
-            self.same("frames", &[sample], |library| {
-                part((library.frames)(module, sample))
+            self.frames(sample)?;
+            self.same_output("all_frames", sample, |of, lent| {
+                (of.library.all_frames)(of.module, sample, lent)
             })?;
-            self.same_output("all_frames", sample, |library, lent| {
-                (library.all_frames)(module, sample, lent)
-            })?;
-            let frames = (REFERENCE.sample)(module, sample).record.frames;
+            let frames = (library.sample)(module, sample).record.frames;
             for frame in self.numbers(0, frames as usize) {
-                self.same("frame", &[sample, frame], |library| {
-                    (library.frame)(module, sample, frame)
+                self.same("frame", &[sample, frame], |of| {
+                    (of.library.frame)(of.module, sample, frame)
                 })?;
             }
         }
         Ok(())
     }
 
-    /// The library answers as the reference does.
+    /// The frames are the same part where the modules are one, and else the same bytes.
+    fn frames(&mut self, sample: usize) -> Result<(), String> {
+        for Side { library, module } in [self.is, self.expected] {
+            within(module, (library.frames)(module, sample))
+                .map_err(|what| format!("frames of {sample} {what}"))?;
+        }
+        let told = |of: Side| (of.library.frames)(of.module, sample);
+        if std::ptr::eq(self.is.module, self.expected.module) {
+            return self.same("frames", &[sample], |of| part(told(of)));
+        }
+        self.same("frames", &[sample], |of| {
+            let Told { number, place, .. } = told(of);
+            (number, place)
+        })?;
+        let [is, expected] = [self.is, self.expected].map(|of| bytes(of.module, told(of)));
+        if is != expected {
+            return Err(format!("the frames of {sample} are other bytes"));
+        }
+        Ok(())
+    }
+
+    /// Both sides answer the same.
     fn same<A: PartialEq + Debug>(
         &self,
         call: &str,
         asked: &[usize],
-        query: impl Fn(&Queries) -> A,
+        query: impl Fn(Side) -> A,
     ) -> Result<(), String> {
-        same_answer(call, query(self.library), query(&REFERENCE))
+        same_answer(call, query(self.is), query(self.expected))
             .map_err(|what| format!("{what} (asked for {asked:?})"))
     }
 
-    /// The same with outputs of several lengths, around the needed one. What the reference leaves in the output is expected there.
+    /// The same with outputs of several lengths, around the needed one. What is expected there is what the other side leaves.
     fn same_output(
         &mut self,
         call: &str,
         asked: usize,
-        query: impl Fn(&Queries, &mut Lent) -> Answer,
+        query: impl Fn(Side, &mut Lent) -> Answer,
     ) -> Result<(), String> {
-        let needed = match query(&REFERENCE, &mut Lent::new(0)) {
+        let needed = match query(self.expected, &mut Lent::new(0)) {
             Answer {
                 number: 17, place, ..
             } => place,
@@ -172,8 +216,8 @@ impl Asking<'_> {
         };
         for room in self.rooms(needed as usize) {
             let (mut is_lent, mut expected_lent) = (Lent::new(room), Lent::new(room));
-            let is = query(self.library, &mut is_lent);
-            let expected = query(&REFERENCE, &mut expected_lent);
+            let is = query(self.is, &mut is_lent);
+            let expected = query(self.expected, &mut expected_lent);
             same_answer(call, is, expected)
                 .and_then(|()| same_bytes(call, &is_lent, &expected_lent))
                 .map_err(|what| format!("{what} (asked for {asked} with room {room})"))?;
@@ -224,6 +268,12 @@ fn within(module: &[u8], frames: Told<Frames>) -> Result<(), String> {
         Some(end) if end <= module.len() as u64 => Ok(()),
         _ => Err(format!("are {frames:?}, outside the module")),
     }
+}
+
+/// The frames, which lie in the module.
+fn bytes(module: &[u8], frames: Told<Frames>) -> &[u8] {
+    let Frames { offset, length } = frames.record;
+    &module[offset as usize..(offset + length) as usize]
 }
 
 /// The frames as they are compared: where there are none, they may stand anywhere.

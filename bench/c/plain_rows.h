@@ -1,0 +1,61 @@
+/*
+ * Reading one row and packing in plain C. Rows and tracks are in range, and
+ * streams have been checked.
+ */
+
+#ifndef PLAIN_ROWS_H
+#define PLAIN_ROWS_H
+
+#include <stddef.h>
+#include <stdint.h>
+
+/* The entries of one row, carried out in cells of zeros. Returns where the row ends. */
+static inline const uint8_t *plain_load_row(const uint8_t *at, uint8_t *row)
+{
+    uint8_t track;
+    while ((track = *at++) != 0) {
+        uint8_t mask = *at++;
+        uint8_t *cell = row + (size_t)(track - 1) * 6;
+        for (int field = 0; field < 6; field++)
+            if (mask >> field & 1)
+                cell[field] = *at++;
+    }
+    return at;
+}
+
+static size_t plain_packed_length(const uint8_t *cells, uint64_t rows, uint64_t tracks)
+{
+    size_t length = rows;
+    for (size_t left = rows * tracks; left > 0; left--, cells += 6) {
+        unsigned fields = 0;
+        for (int field = 0; field < 6; field++)
+            fields += cells[field] != 0;
+        if (fields)
+            length += 2 + fields;
+    }
+    return length;
+}
+
+/* Returns where the stream ends. */
+static uint8_t *plain_write_rows(
+    const uint8_t *cells, uint64_t rows, uint64_t tracks, uint8_t *out)
+{
+    for (uint64_t row = 0; row < rows; row++) {
+        for (uint64_t track = 1; track <= tracks; track++, cells += 6) {
+            unsigned mask = 0;
+            for (int field = 0; field < 6; field++)
+                mask |= (unsigned)(cells[field] != 0) << field;
+            if (mask == 0)
+                continue;
+            *out++ = (uint8_t)track;
+            *out++ = (uint8_t)mask;
+            for (int field = 0; field < 6; field++)
+                if (cells[field])
+                    *out++ = cells[field];
+        }
+        *out++ = 0;
+    }
+    return out;
+}
+
+#endif

@@ -1,0 +1,54 @@
+//! A whole module, repacked.
+//!
+//! The module is taken apart and written anew, chunk by chunk as it stood. Only the data of PATT are made from what was read: the rows
+//! of each pattern and the packer's stream of its cells.
+
+use crate::blocks::Pattern;
+use crate::module::read;
+use crate::pattern::{self, put};
+use crate::refusal::Refusal;
+
+/// Writes the repacked module, and answers how many bytes these are. Refusals: the module's own, 17.
+pub fn repack(module: &[u8], out: &mut [u8]) -> Result<u64, Refusal> {
+    put(&repacked(module)?, out)
+}
+
+/// The bytes of the repacked module. Refusals: the module's own.
+fn repacked(module: &[u8]) -> Result<Vec<u8>, Refusal> {
+    let read = read(module)?;
+    let mut bytes = module[..8].to_vec();
+    for chunk in &read.chunks {
+        let data = match &chunk.name {
+            b"PATT" => patterns(&read.patterns, read.info.tracks),
+            _ => chunk.data.bytes.to_vec(),
+        };
+        bytes.extend(chunk.name);
+        bytes.extend((data.len() as u32).to_be_bytes());
+        bytes.extend(data);
+    }
+    Ok(bytes)
+}
+
+/// The data of PATT: each pattern with the packer's stream.
+fn patterns(patterns: &[Pattern], tracks: u64) -> Vec<u8> {
+    let mut data = Vec::new();
+    for pattern in patterns {
+        let stream = packed(pattern, tracks);
+        data.extend((pattern.rows as u16).to_be_bytes());
+        data.extend((stream.len() as u32).to_be_bytes());
+        data.extend(&stream);
+        if stream.len() % 2 == 1 {
+            data.push(0);
+        }
+    }
+    data
+}
+
+/// The packer's stream of a pattern's cells. It is no longer than the stream that was read.
+fn packed(pattern: &Pattern, tracks: u64) -> Vec<u8> {
+    let mut stream = vec![0; pattern.stream.len()];
+    let length = pattern::repack(pattern.stream, pattern.rows, tracks, &mut stream)
+        .expect("the stream was checked, and the packer's is no longer");
+    stream.truncate(length as usize);
+    stream
+}

@@ -1,0 +1,141 @@
+//! Modules as large as they may be, repacked. What becomes of them is typed by hand too.
+
+use archive::interface::{self, Answer};
+use archive::large::{filled_up, with_last, MOST};
+use archive::queries;
+use archive::repacking::{into_room, keeps, ARCHIVE};
+use reference::draft::{Chunk, Draft, Pattern, Sample, Tune};
+use reference::generate::Random;
+
+/// The module becomes this one, in an output of just that length, of one more and of the module's own; with one byte less it is 17, and
+/// nothing is written.
+#[track_caller]
+fn becomes(module: &[u8], expected: &[u8]) {
+    let needed = expected.len();
+    let answer = |number, place, length: usize| Answer {
+        number,
+        place,
+        length: length as u64,
+    };
+    let mut out = vec![0xAA; module.len() + 1];
+    let short = answer(17, needed as u64, 0);
+    assert_eq!(interface::repack(module, &mut []), short);
+    assert_eq!(interface::repack(module, &mut out[..needed - 1]), short);
+    assert!(out.iter().all(|&byte| byte == 0xAA), "a refusal writes");
+    for room in [needed, needed + 1, module.len()] {
+        out.fill(0xAA);
+        let is = interface::repack(module, &mut out[..room]);
+        assert_eq!(is, answer(0, 0, needed));
+        assert!(out[..needed] == *expected, "other bytes are written");
+        assert!(
+            out[needed..].iter().all(|&byte| byte == 0xAA),
+            "the bytes behind do not stay"
+        );
+    }
+    into_room(ARCHIVE, module, module.len()).unwrap();
+    into_room(ARCHIVE, expected, needed).unwrap();
+    keeps(ARCHIVE, &queries::ARCHIVE, module, &mut Random::new(1)).unwrap();
+}
+
+/// The draft with other patterns.
+fn with_patterns(mut draft: Draft, patterns: &[Pattern]) -> Draft {
+    draft.chunk(b"PATT").data = patterns.iter().flat_map(Pattern::bytes).collect();
+    draft
+}
+
+/// One row of 254 full tracks.
+fn row(tracks: impl Iterator<Item = u8>) -> Vec<u8> {
+    tracks
+        .flat_map(|track| [track, 0x3F, 1, 2, 3, 4, 5, track])
+        .chain([0])
+        .collect()
+}
+
+/// 1,024 patterns of 8 rows of 254 full tracks, which descend: the same length, and other bytes. A chunk before all others fills the
+/// module, and one of a few bytes stands behind PATT.
+#[test]
+fn all_patterns() {
+    let of_rows = |row: &[u8]| vec![Pattern::new(8, &row.repeat(8)); 1_024];
+    let tune = Tune {
+        tracks: 254,
+        patterns: of_rows(&row((1..=254).rev())),
+        ..Tune::default()
+    };
+    let mut draft = with_last(&tune, b"PATT");
+    draft.chunks.push(Chunk::new(b"LAST", vec![1, 2, 3]));
+    let module = filled_up(draft.clone(), MOST);
+    let packed = with_patterns(draft, &of_rows(&row(1..=254)));
+    becomes(&module, &filled_up(packed, MOST));
+}
+
+/// One pattern of 65,535 rows whose stream has over 16 million bytes. In each row an entry is there 31 times, the last one counts, and
+/// the first row begins with some thousands of entries that name nothing. Of each row 8 bytes and the row end stay.
+#[test]
+fn a_long_pattern() {
+    const ROWS: usize = 65_535;
+    let mut row = [254, 0x3F, 9, 9, 9, 9, 9, 9].repeat(30);
+    let last = [254, 0x3F, 1, 2, 3, 4, 5, 6, 0];
+    row.extend(last);
+    let mut stream = [7, 0].repeat((MOST - 58 - 6 - 1 - ROWS * row.len()) / 2);
+    stream.extend(row.repeat(ROWS));
+    assert_eq!(stream.len() % 2, 1);
+    let long = Pattern {
+        rows: ROWS as u16,
+        stream,
+        filler: 0xFF,
+    };
+    let tune = Tune {
+        tracks: 254,
+        patterns: vec![long],
+        ..Tune::default()
+    };
+    let module = tune.bytes();
+    assert_eq!(module.len(), MOST);
+    let packed = Pattern::new(ROWS as u16, &last.repeat(ROWS));
+    // 65,535 rows of 9 bytes and the filler: 589,816 bytes.
+    assert_eq!(packed.bytes().len(), 6 + 589_816);
+    let tune = Tune {
+        patterns: vec![packed],
+        ..tune
+    };
+    becomes(&module, &tune.bytes());
+}
+
+/// Few bytes of PATT, and some 8 million before and behind it, which move by two.
+#[test]
+fn long_chunks_around_patt() {
+    let data: Vec<u8> = (0..8_000_000)
+        .map(|place| (place ^ place >> 8 ^ place >> 16) as u8)
+        .collect();
+    let with = |stream: &[u8]| {
+        let tune = Tune {
+            patterns: vec![Pattern::new(2, stream)],
+            samples: vec![Sample::new(4, &data)],
+            ..Tune::default()
+        };
+        let mut draft = tune.draft();
+        draft.chunks.insert(0, Chunk::new(b"LONG", data.clone()));
+        draft.bytes()
+    };
+    let module = with(&[2, 1, 0x47, 2, 2, 1, 0, 0]);
+    becomes(&module, &with(&[2, 3, 0x47, 1, 0, 0]));
+}
+
+/// One byte more than a module may have is 1, whatever it holds, and nothing is written.
+#[test]
+fn one_byte_too_many() {
+    let answer = |number, length| Answer {
+        number,
+        place: 0,
+        length,
+    };
+    let mut module = filled_up(Tune::default().draft(), MOST);
+    let mut out = vec![0xAA; MOST + 1];
+    assert_eq!(interface::repack(&module, &mut out), answer(0, MOST as u64));
+    assert!(out[..MOST] == *module, "it does not stay as it is");
+    assert_eq!(out[MOST], 0xAA);
+    module.push(0);
+    out.fill(0xAA);
+    assert_eq!(interface::repack(&module, &mut out), answer(1, 0));
+    assert!(out.iter().all(|&byte| byte == 0xAA), "a refusal writes");
+}

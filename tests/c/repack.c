@@ -1,0 +1,350 @@
+/*
+ * Repacking a whole module with libdbm0.a, beside libpattern.a, called from C:
+ * expectations typed by hand.
+ *
+ * Prints one line for each expectation that fails and, last, how many passed
+ * and failed. The exit status is 1 if any failed.
+ */
+
+#define _DEFAULT_SOURCE /* for MAP_ANONYMOUS */
+
+#include "dbm0.h"
+#include "dbm0_pattern.h"
+
+#include <stdio.h>
+#include <string.h>
+#include <sys/mman.h>
+
+static unsigned passed, failed;
+
+static void count(int holds, int line, const char *what)
+{
+    if (holds) {
+        passed++;
+    } else {
+        failed++;
+        printf("line %d: %s\n", line, what);
+    }
+}
+
+#define HOLDS(what) count((what), __LINE__, "does not hold: " #what)
+
+/*
+ * Memory for a module, and behind it memory for an output. Behind each stands
+ * a page that can be neither read nor written.
+ */
+enum { PAGE = 4096, MODULE = 8 * PAGE, OUT = 8 * PAGE };
+static uint8_t *memory, *out_memory;
+
+static int make_memory(void)
+{
+    memory = mmap(NULL, MODULE + PAGE + OUT + PAGE, PROT_READ | PROT_WRITE,
+                  MAP_PRIVATE | MAP_ANONYMOUS, -1, 0);
+    if (memory == MAP_FAILED)
+        return 0;
+    out_memory = memory + MODULE + PAGE;
+    return mprotect(memory + MODULE, PAGE, PROT_NONE) == 0
+        && mprotect(out_memory + OUT, PAGE, PROT_NONE) == 0;
+}
+
+/* The module that is repacked. It stands just before the end of its memory. */
+static uint8_t *module;
+static size_t length;
+
+static void lend(const char *bytes, size_t bytes_length)
+{
+    module = memory + MODULE - bytes_length;
+    length = bytes_length;
+    memcpy(module, bytes, bytes_length);
+}
+
+#define LEND(bytes) lend((bytes), sizeof(bytes) - 1)
+
+/* An output of so many bytes, at the end of its memory, which is filled with one byte. */
+#define FILL 0xAA
+
+static uint8_t *output(size_t room)
+{
+    memset(out_memory, FILL, OUT);
+    return out_memory + OUT - room;
+}
+
+/* In the memory of an output of so many bytes only the first `written` of them are changed. */
+static int rest_is_filled(size_t room, size_t written)
+{
+    size_t at;
+    for (at = 0; at < OUT; at++)
+        if ((at < OUT - room || at >= OUT - room + written) && out_memory[at] != FILL)
+            return 0;
+    return 1;
+}
+
+/* With an output of so many bytes the module becomes these bytes, and what stands behind them stays. */
+static void written(const char *bytes, size_t needed, size_t room, int line)
+{
+    uint8_t *out = output(room);
+    dbm0_length_answer answer = dbm0_repack(module, length, out, room);
+
+    count(answer.number == 0 && answer.place == 0, line, "it is refused");
+    count(answer.length == needed, line, "another length");
+    count(memcmp(out, bytes, needed) == 0, line, "other bytes");
+    count(rest_is_filled(room, needed), line, "bytes behind or before it do not stay");
+}
+
+/* With an output of so many bytes it is refused, and nothing is written. */
+static void refused(uint64_t number, uint64_t place, size_t room, int line)
+{
+    dbm0_length_answer answer = dbm0_repack(module, length, output(room), room);
+
+    count(answer.number == number && answer.place == place, line, "another refusal");
+    count(answer.length == 0, line, "a length beside a refusal");
+    count(rest_is_filled(room, 0), line, "a refusal writes");
+}
+
+/*
+ * The module of `before` becomes that of `after`, with outputs from none to
+ * longer than the module; that one is accepted, and becomes itself.
+ */
+static void becomes(
+    const char *before, size_t before_length, const char *after, size_t after_length, int line)
+{
+    size_t room;
+
+    lend(before, before_length);
+    for (room = 0; room < after_length; room++)
+        refused(DBM0_MODULE_ROOM, after_length, room, line);
+    for (room = after_length; room < before_length + 3; room++)
+        written(after, after_length, room, line);
+    count(memcmp(module, before, before_length) == 0, line, "the module is changed");
+    lend(after, after_length);
+    count(dbm0_check_module(module, length).number == 0, line, "the output is refused");
+    written(after, after_length, after_length, line);
+}
+
+#define BECOMES(before, after) \
+    becomes((before), sizeof(before) - 1, (after), sizeof(after) - 1, __LINE__)
+
+/* One pattern of 4 tracks and nothing else: PATT at 42, its block at 50. */
+#define ONE(patt) \
+    "DBM0" "\x03\0\0\0" "INFO" "\0\0\0\x0A" "\0\0\0\0\0\0\0\x01\0\x04" \
+    "SONG" "\0\0\0\0" "INST" "\0\0\0\0" "PATT" patt "SMPL" "\0\0\0\0"
+
+/* The length of PATT, then rows, packed length, stream and filler: P1 to P6. */
+#define P1 "\0\0\0\x0C" "\0\x02" "\0\0\0\x06" "\x02\x03\x47\x01\0\0"
+#define P2 "\0\0\0\x0E" "\0\x02" "\0\0\0\x08" "\x02\x01\x47\x02\x02\x01\0\0"
+#define P3 "\0\0\0\x0E" "\0\x02" "\0\0\0\x07" "\x02\x07\x47\x01\0\0\0" "\xFF"
+#define P4 "\0\0\0\x0E" "\0\x01" "\0\0\0\x07" "\x01\x01\x47\x01\x01\0\0" "\x01"
+#define P5 "\0\0\0\x0A" "\0\x01" "\0\0\0\x03" "\x01\0\0" "\x80"
+#define P6 "\0\0\0\x06" "\0\0" "\0\0\0\0"
+#define EMPTY_ROW "\0\0\0\x08" "\0\x01" "\0\0\0\x01" "\0" "\0"
+#define EMPTY_ROW_FILLED "\0\0\0\x08" "\0\x01" "\0\0\0\x01" "\0" "\x77"
+
+static void streams(void)
+{
+    HOLDS(sizeof(ONE(P1)) - 1 == 70);
+    BECOMES(ONE(P1), ONE(P1));
+    BECOMES(ONE(P2), ONE(P1));
+    BECOMES(ONE(P3), ONE(P1));
+    BECOMES(ONE(P4), ONE(EMPTY_ROW));
+    BECOMES(ONE(P5), ONE(EMPTY_ROW));
+    BECOMES(ONE(P6), ONE(P6));
+    BECOMES(ONE(EMPTY_ROW), ONE(EMPTY_ROW));
+    BECOMES(ONE(EMPTY_ROW_FILLED), ONE(EMPTY_ROW));
+    /* Tracks in another order: as long, and other bytes. */
+    BECOMES(ONE("\0\0\0\x0E" "\0\x01" "\0\0\0\x07" "\x04\x20\x09\x01\x01\x05\0" "\xFF"),
+            ONE("\0\0\0\x0E" "\0\x01" "\0\0\0\x07" "\x01\x01\x05\x04\x20\x09\0" "\0"));
+    /* From an even length to an odd one: a filler comes to stand there. */
+    BECOMES(ONE("\0\0\0\x0E" "\0\x01" "\0\0\0\x08" "\x01\x03\x05\x06\x01\x01\x07\0"),
+            ONE("\0\0\0\x0C" "\0\x01" "\0\0\0\x05" "\x01\x03\x07\x06\0" "\0"));
+}
+
+/* No patterns: 58 bytes. */
+#define SMALLEST \
+    "DBM0" "\x03\0\0\0" "INFO" "\0\0\0\x0A" "\0\0\0\0\0\0\0\0\0\x04" \
+    "SONG" "\0\0\0\0" "INST" "\0\0\0\0" "PATT" "\0\0\0\0" "SMPL" "\0\0\0\0"
+
+/*
+ * Chunks on all sides of PATT, some of them not covered; version 2.
+ *
+ *      0 version 2, revision $99, reserved word $DEAD
+ *      8 PATU, 4 bytes
+ *     20 NAME
+ *     72 INFO   80 instruments, 82 samples, 84 songs, 86 patterns, 88 tracks
+ *     90 SMPL   98 a sample of 8 bits, its frames at 106 are "PATT"
+ *    110 DSPE, empty
+ *    118 PATT   126 the first pattern, 140 the second, 154 the third, 160 the
+ *               fourth; 168 the end
+ *    168 SONG   176 a song, its entries at 222 and 224
+ *    226 DSPE, 3 bytes
+ *    237 INST   245 an instrument with volume at 277 and loop length at 287
+ *    295 ZZZZ, 1 byte, to 304
+ */
+#define FE_4 "\xFE\xFE\xFE\xFE"
+#define FE_44 FE_4 FE_4 FE_4 FE_4 FE_4 FE_4 FE_4 FE_4 FE_4 FE_4 FE_4
+#define FULL(patt) \
+    "DBM0" "\x02\x99\xDE\xAD" \
+    "PATU" "\0\0\0\x04" "\0\x02\0\0" \
+    "NAME" "\0\0\0\x2C" FE_44 \
+    "INFO" "\0\0\0\x0A" "\0\x01" "\0\x01" "\0\x01" "\0\x04" "\0\x04" \
+    "SMPL" "\0\0\0\x0C" "\0\0\0\x01" "\0\0\0\x04" "PATT" \
+    "DSPE" "\0\0\0\0" \
+    "PATT" patt \
+    "SONG" "\0\0\0\x32" FE_44 "\0\x02" "\0\x03" "\0\0" \
+    "DSPE" "\0\0\0\x03" "abc" \
+    "INST" "\0\0\0\x32" "An instrument, of thirty bytes" \
+    "\0\x01" "\0\x40" "\0\0\x20\xAB" "\0\0\0\x01" "\0\0\0\x03" "\xFF\x80" "\0\x01" \
+    "ZZZZ" "\0\0\0\x01" "\xFF"
+
+#define BEFORE FULL("\0\0\0\x2A" \
+    "\0\x02" "\0\0\0\x08" "\x02\x01\x47\x02\x02\x01\0\0" \
+    "\0\x02" "\0\0\0\x07" "\x02\x07\x47\x01\0\0\0" "\xFF" \
+    "\0\0" "\0\0\0\0" \
+    "\0\x01" "\0\0\0\x01" "\0" "\x55")
+#define AFTER FULL("\0\0\0\x26" \
+    "\0\x02" "\0\0\0\x06" "\x02\x03\x47\x01\0\0" \
+    "\0\x02" "\0\0\0\x06" "\x02\x03\x47\x01\0\0" \
+    "\0\0" "\0\0\0\0" \
+    "\0\x01" "\0\0\0\x01" "\0" "\0")
+
+static void modules(void)
+{
+    HOLDS(sizeof(SMALLEST) - 1 == 58);
+    BECOMES(SMALLEST, SMALLEST);
+    HOLDS(sizeof(BEFORE) - 1 == 304 && sizeof(AFTER) - 1 == 300);
+    BECOMES(BEFORE, AFTER);
+    /* PATT first of the four, and the last chunk of the module. */
+    BECOMES("DBM0" "\x03\0\0\0" "INFO" "\0\0\0\x0A" "\0\0\0\0\0\0\0\x01\0\x04"
+            "PATT" P3 "SONG" "\0\0\0\0" "INST" "\0\0\0\0" "SMPL" "\0\0\0\0",
+            "DBM0" "\x03\0\0\0" "INFO" "\0\0\0\x0A" "\0\0\0\0\0\0\0\x01\0\x04"
+            "PATT" P1 "SONG" "\0\0\0\0" "INST" "\0\0\0\0" "SMPL" "\0\0\0\0");
+    BECOMES("DBM0" "\x03\0\0\0" "INFO" "\0\0\0\x0A" "\0\0\0\0\0\0\0\x01\0\x04"
+            "SONG" "\0\0\0\0" "INST" "\0\0\0\0" "SMPL" "\0\0\0\0" "PATT" P5,
+            "DBM0" "\x03\0\0\0" "INFO" "\0\0\0\x0A" "\0\0\0\0\0\0\0\x01\0\x04"
+            "SONG" "\0\0\0\0" "INST" "\0\0\0\0" "SMPL" "\0\0\0\0" "PATT" EMPTY_ROW);
+}
+
+/* Two patterns of one row: entries and fillers. 86 bytes. */
+#define TWO(first, second) \
+    "DBM0" "\x03\0\0\0" "INFO" "\0\0\0\x0A" "\0\0\0\0\0\0\0\x02\0\x04" \
+    "SONG" "\0\0\0\0" "INST" "\0\0\0\0" "PATT" "\0\0\0\x1C" \
+    "\0\x01" "\0\0\0\x07" first "\0\x01" "\0\0\0\x07" second "SMPL" "\0\0\0\0"
+#define DESCENDING "\x04\x20\x09\x01\x01\x05\0"
+#define ASCENDING "\x01\x01\x05\x04\x20\x09\0"
+
+/* The module keeps its length, and each pattern counts. */
+static void as_long_as_before(void)
+{
+    HOLDS(sizeof(TWO(ASCENDING "\0", ASCENDING "\0")) - 1 == 86);
+    BECOMES(TWO(DESCENDING "\0", ASCENDING "\0"), TWO(ASCENDING "\0", ASCENDING "\0"));
+    BECOMES(TWO(ASCENDING "\0", DESCENDING "\0"), TWO(ASCENDING "\0", ASCENDING "\0"));
+    BECOMES(TWO(ASCENDING "\x80", ASCENDING "\0"), TWO(ASCENDING "\0", ASCENDING "\0"));
+    BECOMES(TWO(ASCENDING "\0", ASCENDING "\x01"), TWO(ASCENDING "\0", ASCENDING "\0"));
+}
+
+/* What is shown of the module before is shown of the module after. */
+static void shown(void)
+{
+    static const uint8_t cells[48] = {[6] = 0x47, [7] = 0x01};
+    uint8_t before[48], after[48];
+    static uint8_t out[304];
+    size_t pattern;
+    dbm0_length_answer answer;
+
+    LEND(BEFORE);
+    answer = dbm0_repack(module, length, out, sizeof out);
+    HOLDS(answer.number == 0 && answer.length == 300);
+    HOLDS(dbm0_version(out, 300).version == 0x02 && dbm0_version(out, 300).revision == 0x99);
+    HOLDS(dbm0_info(out, 300).patterns == 4 && dbm0_info(out, 300).tracks == 4);
+    HOLDS(memcmp(dbm0_name(out, 300).name, FE_44, 44) == 0);
+    HOLDS(dbm0_entry(out, 300, 0, 0).pattern == 3 && dbm0_entry(out, 300, 0, 1).pattern == 0);
+    HOLDS(dbm0_instrument(out, 300, 1).panning == -128);
+    HOLDS(dbm0_instrument(out, 300, 1).loop_length == 3);
+    HOLDS(dbm0_rows(out, 300, 0).rows == 2 && dbm0_rows(out, 300, 1).rows == 2);
+    HOLDS(dbm0_rows(out, 300, 2).rows == 0 && dbm0_rows(out, 300, 3).rows == 1);
+    for (pattern = 0; pattern < 2; pattern++) {
+        HOLDS(dbm0_cells(module, length, pattern, before, sizeof before).length == 48);
+        HOLDS(dbm0_cells(out, 300, pattern, after, sizeof after).length == 48);
+        HOLDS(memcmp(before, cells, 48) == 0 && memcmp(after, cells, 48) == 0);
+    }
+    HOLDS(dbm0_frames(out, 300, 1).offset == 106 && dbm0_frames(out, 300, 1).length == 4);
+    HOLDS(memcmp(out + 106, "PATT", 4) == 0);
+    /* A stream of the output is the one that the packer of libpattern.a writes. */
+    HOLDS(dbm0_pack_pattern(cells, sizeof cells, 2, 4, after, sizeof after).length == 6);
+    HOLDS(memcmp(out + 132, after, 6) == 0 && memcmp(out + 144, after, 6) == 0);
+}
+
+/* A byte of the module is another one: this refusal, whatever the output, and then the byte is as it was. */
+static void changed(size_t at, uint8_t byte, uint64_t number, uint64_t place, int line)
+{
+    static const size_t rooms[] = {0, 1, 299, 300, 304, 400};
+    uint8_t stored = module[at];
+    size_t k;
+
+    module[at] = byte;
+    for (k = 0; k < sizeof rooms / sizeof *rooms; k++)
+        refused(number, place, rooms[k], line);
+    module[at] = stored;
+}
+
+#define CHANGED(at, byte, number, place) changed((at), (byte), (number), (place), __LINE__)
+
+static void refused_modules(void)
+{
+    LEND(BEFORE);
+    CHANGED(0, 'X', DBM0_MODULE_NOT_DBM0, 0);
+    CHANGED(4, 4, DBM0_MODULE_VERSION, 4);
+    CHANGED(302, 2, DBM0_MODULE_CHUNK_CUT, 295);
+    CHANGED(298, 'z', DBM0_MODULE_IDENTIFIER, 295);
+    CHANGED(11, 'T', DBM0_MODULE_BEFORE_INFO, 8);
+    CHANGED(171, 'H', DBM0_MODULE_CHUNK_MISSING, 304);
+    CHANGED(89, 5, DBM0_MODULE_INFO_RANGE, 88);
+    CHANGED(125, 0x29, DBM0_MODULE_CHUNK_CUT, 167);
+    CHANGED(131, 6, DBM0_MODULE_BLOCKS, 118);
+    CHANGED(223, 4, DBM0_MODULE_REFERENCE, 222);
+    CHANGED(278, 65, DBM0_MODULE_FIELD_RANGE, 277);
+    CHANGED(290, 4, DBM0_MODULE_LOOP, 245);
+    CHANGED(147, 0x47, DBM0_MODULE_STREAM_BROKEN, 140);
+    /* Two faults: the first in the order of the checks. */
+    module[147] = 0x47;
+    CHANGED(290, 4, DBM0_MODULE_LOOP, 245);
+    module[147] = 0x07;
+    memcpy(module + 295, "INFO", 4);
+    refused(DBM0_MODULE_CHUNK_REPEATED, 295, 400, __LINE__);
+    memcpy(module + 295, "ZZZZ", 4);
+    memcpy(module + 8, "NAME", 4);
+    refused(DBM0_MODULE_CHUNK_LENGTH, 8, 400, __LINE__);
+    memcpy(module + 8, "PATU", 4);
+    written(AFTER, sizeof(AFTER) - 1, 300, __LINE__);
+    length = 303;
+    refused(DBM0_MODULE_CHUNK_CUT, 295, 400, __LINE__);
+}
+
+static void nothing(void)
+{
+    dbm0_length_answer answer = dbm0_repack(NULL, 0, NULL, 0);
+
+    HOLDS(answer.number == 2 && answer.place == 0 && answer.length == 0);
+    LEND(BEFORE);
+    answer = dbm0_repack(module, length, NULL, 0);
+    HOLDS(answer.number == 17 && answer.place == 300 && answer.length == 0);
+    module = NULL, length = 0;
+    refused(DBM0_MODULE_NOT_DBM0, 0, 10, __LINE__);
+    HOLDS(DBM0_VERSION >= 10200);
+}
+
+int main(void)
+{
+    setvbuf(stdout, NULL, _IOLBF, 0);
+    if (!make_memory()) {
+        printf("there is no memory for the tests\n");
+        return 1;
+    }
+    streams();
+    modules();
+    as_long_as_before();
+    shown();
+    refused_modules();
+    nothing();
+    printf("%u passed, %u failed\n", passed, failed);
+    return failed > 0;
+}
