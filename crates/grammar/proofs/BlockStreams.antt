@@ -61,7 +61,7 @@ number16-bound m b at = omega (arith, b at, b (at + 1))
 
 -- The stream in the module and in the block.
 module _ {m block : List ℕ} {at : ℕ} (p : PartAt m at block) (fits : 6 ≤ length block) (stream : List ℕ) (inside : PartAt block 6 stream) (packed : number32 block 2 ≡ length stream) where
-  stream-same : packedBytes m at ≡ stream
+  pub stream-same : packedBytes m at ≡ stream
   stream-same = rw (number32-at p 2 (omega arith), packed) (part-is (part-of-part p inside))
 
   stream-says : (tracks : ℕ) → AllHold (patternStreamRules m tracks at) ↔ (checkAnswer stream (number16 block 0) tracks ≡ Accepted)

@@ -35,7 +35,7 @@ abbrev pub chunkAnew : List ℕ → List ℕ → List ℕ
 chunkAnew content chunk = cond (eqb (number32 chunk 0) PATT) (pattAnew content chunk) chunk
 
 -- The front of a part.
-part-front : {m part : List ℕ} {at : ℕ} → PartAt m at part → (k : ℕ) → k ≤ length part → partOf m at k ≡ take k part
+pub part-front : {m part : List ℕ} {at : ℕ} → PartAt m at part → (k : ℕ) → k ≤ length part → partOf m at k ≡ take k part
 part-front {m} {part} {at} p k h =
     let front : PartAt m at (take k part) = part-first (take k part) (drop k part) (rw (take-append-drop k part) p) in
     ap (partOf m at) (sym (length-take-le k part h)) ∙ part-is front
@@ -68,7 +68,7 @@ others-stay content (also {x = chunk} {xs = chunks} c e) absent =
     let ih = others-stay content e (λ there. absent (there .0, among-behind chunk (there .1))) in
     rw (other, ih)
 
-map-append : {A B : Type 0} (f : A → B) (xs ys : List A) → map f (xs ++ ys) ≡ map f xs ++ map f ys
+pub map-append : {A B : Type 0} (f : A → B) (xs ys : List A) → map f (xs ++ ys) ≡ map f xs ++ map f ys
 map-append f [] ys = refl
 map-append f (x ∷ xs) ys = ap (λ (l : List _). f x ∷ l) (map-append f xs ys)
 
