@@ -32,7 +32,7 @@ use Rattle.grammar.proofs.BlockFields.{panning-says, song-sized, song-h
 use Rattle.grammar.proofs.BlockStreams.{TracksFit, pattern-sized, pattern-holds, pattern-rules-hold}
 use Rattle.grammar.proofs.ContentRules.{ContentHolds, content-hold}
 
-counted : {front count other : ℕ} {chunk : List ℕ} {blocks : List (List ℕ)} → count ≡ other → Filled front chunk count blocks → Filled front chunk other blocks
+pub counted : {front count other : ℕ} {chunk : List ℕ} {blocks : List (List ℕ)} → count ≡ other → Filled front chunk count blocks → Filled front chunk other blocks
 counted same f = record { fronts = f .fronts; bytes = f .bytes; number = f .number ∙ same }
 
 -- The blocks of the four chunks that every module has.

@@ -1,0 +1,112 @@
+-- A pattern's block and the block anew, as lists of bytes: the block anew is one of the same rows, its stream is the packer's, it holds the
+-- same rows of cells, it is no longer, and it stays as it is when it is made anew again.
+use Prim.Native.Nat.{ℕ, _+_, _*_, _%_, _≤_, _<_}
+use mathlib.Core.Path.{_≡_, refl, sym, ap, subst, _∙_}
+use mathlib.Core.List.{List, [], _∷_, _++_, map, append-assoc, append-nil}
+use native.Mathlib.Omega.{arith}
+use native.Mathlib.Nat.{add-zero}
+use lib.ListN.{length, take, drop, replicate, length-append, length-take}
+use lib.Seq.{take-at, take-append-le, length-take-le}
+use Rattle.refusal.specs.declared.Verdict.the-variants.{Accepted}
+use Rattle.cells.specs.Cells.{Row, joined}
+use Rattle.packed_rows.specs.Packer.{packedStream}
+use Rattle.packed_rows.specs.Answers.{checkAnswer}
+use Rattle.numbers.specs.Numbers.{number16, number32, partOf}
+use Rattle.blocks.specs.Sizes.{sizeOf, placesFrom}
+use Rattle.blocks.specs.declared.Kind.the-variants.{Pattern}
+use Rattle.module.specs.Streams.{packedBytes, streamVerdict}
+use Rattle.grammar.specs.Rules.{Every, none, also}
+use Rattle.grammar.proofs.Locating.{PartAt, number16-start, number16-front, number16-take, part-length, part-there, part-is}
+use Rattle.grammar.proofs.Cutting.{Sized, sized-least, part-first, part-rest, part-size}
+use Rattle.grammar.proofs.BlockStreams.{stream-same}
+use Rattle.repack.specs.Repacked.{bytes32, packed, repackedStream, repackedBlock}
+use Rattle.repack.proofs.Anew.{block-size, block-shorter, stream-least, packed-size}
+use Rattle.repack.proofs.ChunksAnew.{part-front}
+use Rattle.repacking.proofs.PackedAgain.{rowsHeld, packed-accepted, packed-rows}
+use Rattle.repacking.proofs.PackedBytes.{bytes32-number}
+
+-- A block anew, by the block alone.
+abbrev pub blockAnew : ℕ → List ℕ → List ℕ
+blockAnew tracks block = repackedBlock block tracks 0
+
+-- The stream in a block is the one in the module.
+pub packed-same : {m block : List ℕ} {at : ℕ} → PartAt m at block → Sized Pattern block → packedBytes m at ≡ packedBytes block 0
+unfolding sizeOf
+packed-same {block = block} p s =
+    let fits : 6 + number32 block 2 ≤ length block = omega (arith, s) in
+    stream-same p (omega arith) (partOf block 6 (number32 block 2)) (part-there block 6 (number32 block 2) fits) (sym (part-length block 6 (number32 block 2) fits))
+
+pub rows-same : {m block : List ℕ} {at : ℕ} → PartAt m at block → Sized Pattern block → number16 m at ≡ number16 block 0
+rows-same {block = block} p s = let least = sized-least Pattern block s in number16-start p (omega arith)
+
+-- The block anew of a pattern at a place is that of its block.
+pub anew-same : {m block : List ℕ} {at : ℕ} (tracks : ℕ) → PartAt m at block → Sized Pattern block → repackedBlock m tracks at ≡ blockAnew tracks block
+anew-same {m} {block} {at} tracks p s =
+    let least = sized-least Pattern block s in
+    rw (part-front p 2 (omega arith), rows-same p s, packed-same p s)
+
+pub blocks-anew : {m : List ℕ} (tracks at : ℕ) (blocks : List (List ℕ)) → PartAt m at (joined blocks) → Every (Sized Pattern) blocks → map (repackedBlock m tracks) (placesFrom (sizeOf Pattern m) (length blocks) at) ≡ map (blockAnew tracks) blocks
+blocks-anew tracks at [] p none = refl
+blocks-anew {m} tracks at (block ∷ blocks) p (also s e) =
+    let first : PartAt m at block = part-first block (joined blocks) p in
+    let ih = blocks-anew tracks (at + length block) blocks (part-rest block (joined blocks) p) e in
+    rw (part-size Pattern first s, anew-same tracks first s, ih)
+
+-- A block as long as it says, whose stream the check accepts.
+pub record SoundBlock (tracks : ℕ) (block : List ℕ) : Type 0 where
+  pub sized : Sized Pattern block
+  pub accepted : streamVerdict block tracks 0 ≡ Accepted
+
+module _ (tracks : ℕ) (block : List ℕ) (b : SoundBlock tracks block) where
+  abbrev stream : List ℕ
+  stream = repackedStream block tracks 0
+
+  long : 6 ≤ length block
+  long = sized-least Pattern block (b .sized)
+
+  two : length (take 2 block) ≡ 2
+  two = length-take-le 2 block (omega (arith, long))
+
+  pub anew-rows : number16 (blockAnew tracks block) 0 ≡ number16 block 0
+  anew-rows = number16-front (take 2 block) (packed stream) 0 (omega (arith, two)) ∙ number16-take 2 block 0 (omega arith)
+
+  pub anew-length : number32 (blockAnew tracks block) 2 ≡ length stream
+  anew-length = ap (number32 (blockAnew tracks block)) (sym two) ∙ bytes32-number (length stream) (take 2 block) (stream ++ replicate (length stream % 2) 0)
+
+  size : length (blockAnew tracks block) ≡ 6 + length stream + length stream % 2
+  size = block-size block tracks 0 (b .accepted) (omega (arith, long))
+
+  anew-sized : Sized Pattern (blockAnew tracks block)
+  unfolding sizeOf
+  anew-sized = rw anew-length size
+
+  six : length (take 2 block ++ bytes32 (length stream)) ≡ 6
+  six = omega (arith, length-append (take 2 block) (bytes32 (length stream)), two)
+
+  -- Where the stream and the filler of the block anew stand.
+  stream-part : PartAt (blockAnew tracks block) 6 stream
+  stream-part = record { before = take 2 block ++ bytes32 (length stream); after = replicate (length stream % 2) 0; bytes = simp append-assoc; starts = six }
+
+  pub filler-part : PartAt (blockAnew tracks block) (6 + length stream) (replicate (length stream % 2) 0)
+  filler-part = record { before = (take 2 block ++ bytes32 (length stream)) ++ stream; after = []; bytes = simp (append-assoc, append-nil); starts = omega (arith, length-append (take 2 block ++ bytes32 (length stream)) stream, six) }
+
+  pub anew-stream : packedBytes (blockAnew tracks block) 0 ≡ stream
+  anew-stream = ap (partOf (blockAnew tracks block) 6) anew-length ∙ part-is stream-part
+
+  pub anew-accepted : streamVerdict (blockAnew tracks block) tracks 0 ≡ Accepted
+  anew-accepted = rw (anew-stream, anew-rows) (packed-accepted (number16 block 0) tracks (packedBytes block 0) (b .accepted))
+
+  pub anew-sound : SoundBlock tracks (blockAnew tracks block)
+  anew-sound = record { sized = anew-sized; accepted = anew-accepted }
+
+  pub anew-cells : rowsHeld (number16 (blockAnew tracks block) 0) tracks (packedBytes (blockAnew tracks block) 0) ≡ rowsHeld (number16 block 0) tracks (packedBytes block 0)
+  anew-cells = rw (anew-stream, anew-rows) (packed-rows (number16 block 0) tracks (packedBytes block 0) (b .accepted))
+
+  pub anew-shorter : length (blockAnew tracks block) ≤ length block
+  anew-shorter = rw (b .sized) (block-shorter block tracks 0 (b .accepted) (omega (arith, long)))
+
+  pub anew-again : blockAnew tracks (blockAnew tracks block) ≡ blockAnew tracks block
+  anew-again =
+      let rows : take 2 (blockAnew tracks block) ≡ take 2 block = take-at (take 2 block) (packed stream) 2 two in
+      let same : repackedStream (blockAnew tracks block) tracks 0 ≡ stream = ap packedStream anew-cells in
+      ap (λ (front : List ℕ). front ++ packed (repackedStream (blockAnew tracks block) tracks 0)) rows ∙ ap (λ (s : List ℕ). take 2 block ++ packed s) same

@@ -1,0 +1,12 @@
+pub mod AllBytes
+pub mod PackedBytes
+pub mod PackedAgain
+pub mod MappedChunks
+pub mod BlockAnew
+pub mod PattAlone
+pub mod ModuleAnew
+pub mod AlikeAnew
+pub mod AgainAnew
+pub mod SameAnew
+pub mod Opening
+pub mod Theorems

@@ -1,0 +1,277 @@
+-- An accepted module and the module repacked: the chunks and blocks of both, and that the rules hold of the module repacked.
+use Prim.Native.Nat.{ℕ, _+_, _%_, _≤_, _<_}
+use mathlib.Core.Path.{_≡_, refl, sym, ap, subst, _∙_}
+use mathlib.Core.List.{List, [], _∷_, _++_, map, append-assoc, append-nil}
+use native.Mathlib.Omega.{arith}
+use lib.ListN.{length, take, drop, replicate, length-append, length-map, length-drop}
+use lib.Seq.{take-at, length-take-le}
+use Rattle.refusal.specs.Rules.{firstBroken}
+use Rattle.refusal.specs.declared.Verdict.the-variants.{Accepted}
+use Rattle.cells.specs.Cells.{joined}
+use Rattle.numbers.specs.Numbers.{number16, number32}
+use Rattle.layout.specs.Outlines.{outline}
+use Rattle.layout.specs.declared.Place.{Place}
+use Rattle.layout.specs.declared.Layout.{Layout}
+use Rattle.layout.specs.declared.Outline.the-variants.{Found}
+use Rattle.blocks.specs.Sizes.{sizeOf, placesFrom}
+use Rattle.blocks.specs.declared.Kind.the-variants.{Pattern}
+use Rattle.module.specs.Streams.{packedBytes, patternStreamRules, streamVerdict}
+use Rattle.module.specs.Verdicts.{contentRules, opened}
+use Rattle.grammar.specs.Rules.{Bytes, Every, none, also, ChunkBytes, Among, ChunkRules, Filled, PatternRules, Content, infoLetters, songLetters, instLetters, pattLetters, smplLetters}
+use Rattle.grammar.proofs.Standing.{LayoutOf}
+use Rattle.grammar.proofs.Locating.{PartAt, part-inside}
+use Rattle.grammar.proofs.Holding.{AllHold, every-of, every-both, every-first, every-one}
+use Rattle.grammar.proofs.Cutting.{Sized, part-first, part-rest, places-blocks}
+use Rattle.grammar.proofs.Recorded.{every-among}
+use Rattle.grammar.proofs.Turns.{ChunksFit}
+use Rattle.grammar.proofs.ChunkHalf.{Outlined, Mandatory, bytes-split, chunks-part, chunks-outline}
+use Rattle.grammar.proofs.FillingChunks.{BlocksIn, filled-blocks}
+use Rattle.grammar.proofs.BlockStreams.{TracksFit, accepted-says, pattern-sized, pattern-holds}
+use Rattle.grammar.proofs.ContentHalf.{counted, content-follows, content-exactly}
+use Rattle.grammar.proofs.FoundBlocks.{Opens, module-opens}
+use Rattle.repack.specs.Repacked.{bytes32, packed, repackedStream, repackedBlock, repackedPatterns, repackedModule}
+use Rattle.repack.proofs.Anew.{packed-size}
+use Rattle.repack.proofs.ChunksAnew.{pattAnew, chunkAnew, module-anew}
+use Rattle.repack.proofs.Accepting.{patterns-in, outlined, module-replaced}
+use Rattle.repacking.proofs.AllBytes.{bytes-append, bytes-front, bytes-behind, bytes-take, bytes-of-part, bytes-joined, bytes-replicate, every-map}
+use Rattle.repacking.proofs.PackedBytes.{bytes32-bytes, packed-bytes}
+use Rattle.repacking.proofs.MappedChunks.{among-mapped, among-left, left-among, fits-mapped}
+use Rattle.repacking.proofs.BlockAnew.{blockAnew, packed-same, rows-same, blocks-anew, SoundBlock, anew-sound, anew-shorter}
+use Rattle.repacking.proofs.PattAlone.{by-chunk, anew-bytes, anew-keeps, anew-leaves, anew-patt, name-other, info-other, song-other, inst-other, smpl-other, venv-other, penv-other}
+
+-- Blocks that become no longer, one behind the other.
+pub joined-shorter : (g : List ℕ → List ℕ) {blocks : List (List ℕ)} → Every (λ block. length (g block) ≤ length block) blocks → length (joined (map g blocks)) ≤ length (joined blocks)
+joined-shorter g none = omega arith
+joined-shorter g (also {x = block} {xs = blocks} h e) = omega (arith, length-append (g block) (joined (map g blocks)), length-append block (joined blocks), joined-shorter g e)
+
+-- No block is longer than the module that they stand in.
+blocks-inside : {m : List ℕ} {at : ℕ} (blocks : List (List ℕ)) → PartAt m at (joined blocks) → Every (λ block. length block ≤ length m) blocks
+blocks-inside [] p = none
+blocks-inside (block ∷ blocks) p = also {x = block} (omega (arith, part-inside (part-first block (joined blocks) p))) (blocks-inside blocks (part-rest block (joined blocks) p))
+
+-- A sound block is a pattern of which the rules hold.
+whole-part : (block : List ℕ) → PartAt block 0 block
+whole-part block = record { before = []; after = []; bytes = sym (append-nil block); starts = refl }
+
+sound-rules : (tracks : ℕ) (block : List ℕ) → SoundBlock tracks block → PatternRules tracks block
+sound-rules tracks block b = pattern-holds (whole-part block) (b .sized) tracks (every-one _ .1 (accepted-says _ .1 (b .accepted)))
+
+module _ (m : List ℕ) (bytes : Bytes m) (l : Layout) (o : opened m ≡ Found l) where
+  pub outline-of : Outlined m l
+  outline-of = outlined m bytes l o
+
+  pub opens : Opens m l
+  opens = module-opens m l o
+
+  abbrev pub header : List ℕ
+  header = outline-of .header
+
+  abbrev pub chunks : List (List ℕ)
+  chunks = outline-of .chunks
+
+  pub rules : ChunkRules m header chunks
+  rules = outline-of .rules
+
+  abbrev pub patt : List ℕ
+  patt = outline-of .mandatory .patt .0
+
+  pub pattThere : Among chunks pattLetters patt
+  pattThere = outline-of .mandatory .patt .1
+
+  tracks-fit : TracksFit (number16 (outline-of .mandatory .info .0) 16)
+  tracks-fit = rules .info (outline-of .mandatory .info .0) (outline-of .mandatory .info .1) .tracks
+
+  pub content-of : Content header chunks (outline-of .mandatory .info .0) (outline-of .mandatory .song .0) (outline-of .mandatory .inst .0) patt (outline-of .mandatory .smpl .0)
+  content-of =
+      content-follows (outline-of .layout) (rules .version) (outline-of .mandatory .info .1) (outline-of .mandatory .song .1) (outline-of .mandatory .inst .1) pattThere (outline-of .mandatory .smpl .1) tracks-fit bytes (opens .content)
+
+  pub tracks-are : number16 (outline-of .mandatory .info .0) 16 ≡ l .tracks
+  tracks-are = sym (outline-of .layout .counts (outline-of .mandatory .info .0) (outline-of .mandatory .info .1) .4)
+
+  -- The blocks of the patterns, and the same anew.
+  abbrev pub blocks : List (List ℕ)
+  blocks = content-of .patterns
+
+  abbrev pub anew : List (List ℕ)
+  anew = map (blockAnew (l .tracks)) blocks
+
+  pub blocks-in : BlocksIn Pattern m (l .places .patt .at + 8) 8 patt (l .patterns) blocks
+  blocks-in = filled-blocks (outline-of .layout .patt .stands patt pattThere) Pattern 8 (l .patterns) blocks (counted (sym (outline-of .layout .counts (outline-of .mandatory .info .0) (outline-of .mandatory .info .1) .3)) (content-of .patternsFill)) (every-of (pattern-sized (number16 (outline-of .mandatory .info .0) 16)) (content-of .patternRules))
+
+  sound-block : (at : ℕ) (block : List ℕ) → PartAt m at block → Sized Pattern block → AllHold (patternStreamRules m (l .tracks) at) → SoundBlock (l .tracks) block
+  sound-block at block p s e =
+      let accepted : streamVerdict m (l .tracks) at ≡ Accepted = accepted-says _ .0 (every-first e) in
+      record { sized = s; accepted = rw (rows-same p s, packed-same p s) at accepted }
+
+  pub sound-blocks : Every (SoundBlock (l .tracks)) blocks
+  sound-blocks =
+      places-blocks Pattern sound-block blocks (blocks-in .there) (blocks-in .sized)
+      (subst (λ (n : ℕ). Every (λ at. AllHold (patternStreamRules m (l .tracks) at)) (placesFrom (sizeOf Pattern m) n (l .places .patt .at + 8))) (sym (blocks-in .filled .number)) (opens .content .streams))
+
+  pub sound-anew : Every (SoundBlock (l .tracks)) anew
+  sound-anew = every-map (blockAnew (l .tracks)) blocks .1 (every-of (anew-sound (l .tracks)) sound-blocks)
+
+  pub data-is : repackedPatterns m l ≡ joined anew
+  data-is =
+      ap joined (subst (λ (n : ℕ). map (repackedBlock m (l .tracks)) (placesFrom (sizeOf Pattern m) n (l .places .patt .at + 8)) ≡ anew) (blocks-in .filled .number) (blocks-anew (l .tracks) (l .places .patt .at + 8) blocks (blocks-in .there) (blocks-in .sized)))
+
+  abbrev pub changed : List ℕ → List ℕ
+  changed = chunkAnew (repackedPatterns m l)
+
+  pub repacked-bytes : repackedModule m l ≡ header ++ joined (map changed chunks)
+  repacked-bytes = module-anew rules l
+
+  -- The data anew are no longer than they were, and the module neither.
+  pub data-shorter : length (repackedPatterns m l) ≤ length (joined blocks)
+  data-shorter = rw data-is (joined-shorter (blockAnew (l .tracks)) (every-of (anew-shorter (l .tracks)) sound-blocks))
+
+  pub patt-bytes : ChunkBytes patt
+  patt-bytes = every-among (rules .whole) pattThere
+
+  pub patt-size : length patt ≡ 8 + length (joined blocks)
+  patt-size = ap length (content-of .patternsFill .bytes) ∙ length-append (take 8 patt) (joined blocks) ∙ ap (λ (k : ℕ). k + length (joined blocks)) (length-take-le 8 patt (content-of .patternsFill .fronts))
+
+  patt-changed : changed patt ≡ pattAnew (repackedPatterns m l) patt
+  patt-changed = anew-patt (repackedPatterns m l) patt-bytes (pattThere .named)
+
+  four : length (take 4 patt) ≡ 4
+  four = length-take-le 4 patt (omega (arith, patt-size))
+
+  pub repacked-size : length (repackedModule m l) + length (joined blocks) ≡ length m + length (repackedPatterns m l)
+  repacked-size =
+      let place : Place = l .places .patt in
+      let content : List ℕ = repackedPatterns m l in
+      let inside : place .at + 8 + place .length ≤ length m = patterns-in m bytes l o .inside in
+      omega (
+        arith,
+        ap length (module-replaced m bytes l o),
+        length-append (take (place .at + 4) m) (bytes32 (length content) ++ (content ++ drop (place .at + 8 + place .length) m)),
+        length-take-le (place .at + 4) m (omega (arith, inside)),
+        length-append content (drop (place .at + 8 + place .length) m),
+        length-drop (place .at + 8 + place .length) m,
+        outline-of .layout .patt .stands patt pattThere .size,
+        patt-size,
+        inside,
+      )
+
+  pub no-longer : length (repackedModule m l) ≤ length m
+  no-longer = omega (arith, repacked-size, data-shorter)
+
+  -- M2 to M9 of the module repacked.
+  pub whole-anew : Every ChunkBytes (map changed chunks)
+  whole-anew = every-map changed chunks .1 (every-of (anew-bytes (repackedPatterns m l)) (rules .whole))
+
+  fits-anew : ChunksFit (map changed chunks)
+  fits-anew = fits-mapped changed (anew-keeps (repackedPatterns m l)) (chunks-part rules) whole-anew (anew-leaves (repackedPatterns m l) name-other) (anew-leaves (repackedPatterns m l) info-other)
+
+  pub rules-anew : ChunkRules (repackedModule m l) header (map changed chunks)
+  rules-anew = record {
+    bytes = repacked-bytes;
+    limit = omega (arith, no-longer, rules .limit);
+    headerSize = rules .headerSize;
+    begins = rules .begins;
+    version = rules .version;
+    revision = rules .revision;
+    whole = fits-anew .whole;
+    once = fits-anew .once;
+    behindInfo = fits-anew .behindInfo;
+    name = fits-anew .name;
+    info = fits-anew .info;
+  }
+
+  -- A chunk other than PATT stands among the chunks of both.
+  module _ {letters : List ℕ} (other : letters ≡ pattLetters → ⊥) {chunk : List ℕ} where
+    pub stays-among : Among chunks letters chunk → Among (map changed chunks) letters chunk
+    stays-among = among-left changed (anew-keeps (repackedPatterns m l)) (anew-leaves (repackedPatterns m l) other) (rules .whole)
+
+    pub was-among : Among (map changed chunks) letters chunk → Among chunks letters chunk
+    was-among = left-among changed (anew-keeps (repackedPatterns m l)) (anew-leaves (repackedPatterns m l) other) (rules .whole)
+
+  pub patt-among : Among (map changed chunks) pattLetters (changed patt)
+  patt-among = among-mapped changed (anew-keeps (repackedPatterns m l)) (rules .whole) pattThere
+
+  pub mandatory-anew : Mandatory (map changed chunks)
+  mandatory-anew = record {
+    info = (outline-of .mandatory .info .0, stays-among info-other (outline-of .mandatory .info .1));
+    song = (outline-of .mandatory .song .0, stays-among song-other (outline-of .mandatory .song .1));
+    inst = (outline-of .mandatory .inst .0, stays-among inst-other (outline-of .mandatory .inst .1));
+    patt = (changed patt, patt-among);
+    smpl = (outline-of .mandatory .smpl .0, stays-among smpl-other (outline-of .mandatory .smpl .1));
+  }
+
+  -- B1 to B6 and V1 to V7 of it.
+  pub filled-anew : Filled 8 (changed patt) (number16 (outline-of .mandatory .info .0) 14) anew
+  filled-anew =
+      let front : List ℕ = take 4 patt ++ bytes32 (length (repackedPatterns m l)) in
+      let eight : length front ≡ 8 = omega (arith, length-append (take 4 patt) (bytes32 (length (repackedPatterns m l))), four) in
+      let parts : changed patt ≡ front ++ joined anew = patt-changed ∙ sym (append-assoc (take 4 patt) (bytes32 (length (repackedPatterns m l))) (repackedPatterns m l)) ∙ ap (λ (content : List ℕ). front ++ content) data-is in
+      let fronts : take 8 (changed patt) ≡ front = ap (take 8) parts ∙ take-at front (joined anew) 8 eight in
+      record {
+        fronts = omega (arith, ap length parts, length-append front (joined anew), eight);
+        bytes = parts ∙ ap (λ (l : List ℕ). l ++ joined anew) (sym fronts);
+        number = length-map blocks (blockAnew (l .tracks)) ∙ content-of .patternsFill .number;
+      }
+
+  pub content-anew : Content header (map changed chunks) (outline-of .mandatory .info .0) (outline-of .mandatory .song .0) (outline-of .mandatory .inst .0) (changed patt) (outline-of .mandatory .smpl .0)
+  content-anew = record {
+    songs = content-of .songs;
+    instruments = content-of .instruments;
+    patterns = anew;
+    samples = content-of .samples;
+    songsFill = content-of .songsFill;
+    instrumentsFill = content-of .instrumentsFill;
+    patternsFill = filled-anew;
+    samplesFill = content-of .samplesFill;
+    songRules = rw (length-map blocks (blockAnew (l .tracks))) (content-of .songRules);
+    instrumentRules = content-of .instrumentRules;
+    patternRules = rw tracks-are (every-of (sound-rules (l .tracks)) sound-anew);
+    sampleRules = content-of .sampleRules;
+    volumeEnvelopes = λ chunk a. content-of .volumeEnvelopes chunk (was-among venv-other a);
+    panningEnvelopes = λ chunk a. content-of .panningEnvelopes chunk (was-among penv-other a);
+  }
+
+  -- It is bytes.
+  pub patt-below : Bytes patt
+  patt-below = bytes-front patt (joined (pattThere .after)) (bytes-behind (header ++ joined (pattThere .before)) (patt ++ joined (pattThere .after)) (subst Bytes (bytes-split rules pattThere) bytes))
+
+  pub blocks-bytes : Every Bytes blocks
+  blocks-bytes = bytes-joined blocks .1 (bytes-behind (take 8 patt) (joined blocks) (subst Bytes (content-of .patternsFill .bytes) patt-below))
+
+  small : length m < 0x100000000
+  small = omega (arith, rules .limit)
+
+  block-bytes : (block : List ℕ) → (SoundBlock (l .tracks) block × Bytes block) × (length block ≤ length m) → Bytes (blockAnew (l .tracks) block)
+  block-bytes block ((sound, below), inside) =
+      let stream : List ℕ = repackedStream block (l .tracks) 0 in
+      let short : length stream < 0x100000000 = omega (arith, anew-shorter (l .tracks) block sound, length-append (take 2 block) (packed stream), packed-size stream, inside, small) in
+      bytes-append (take 2 block) (packed stream) (bytes-take 2 block below)
+      (bytes-append (bytes32 (length stream)) (stream ++ replicate (length stream % 2) 0) (bytes32-bytes (length stream) short)
+      (bytes-append stream (replicate (length stream % 2) 0) (packed-bytes (number16 block 0) (l .tracks) (packedBytes block 0) (sound .accepted) (bytes-of-part block 6 (number32 block 2) below)) (bytes-replicate (length stream % 2))))
+
+  data-bytes : Bytes (repackedPatterns m l)
+  data-bytes = rw data-is (bytes-joined anew .0 (every-map (blockAnew (l .tracks)) blocks .1 (every-of block-bytes (every-both (every-both sound-blocks blocks-bytes) (blocks-inside blocks (blocks-in .there))))))
+
+  patt-part : PartAt m (length (header ++ joined (pattThere .before))) patt
+  patt-part = record { before = header ++ joined (pattThere .before); after = joined (pattThere .after); bytes = bytes-split rules pattThere; starts = refl }
+
+  chunk-bytes : (chunk : List ℕ) → Bytes chunk → Bytes (changed chunk)
+  chunk-bytes chunk below = by-chunk (repackedPatterns m l) Bytes chunk anew-chunk below
+    where
+      short : length (repackedPatterns m l) < 0x100000000
+      short = omega (arith, data-shorter, patt-size, part-inside patt-part, small)
+
+      anew-chunk : Bytes (pattAnew (repackedPatterns m l) chunk)
+      anew-chunk = bytes-append (take 4 chunk) (bytes32 (length (repackedPatterns m l)) ++ repackedPatterns m l) (bytes-take 4 chunk below) (bytes-append (bytes32 (length (repackedPatterns m l))) (repackedPatterns m l) (bytes32-bytes (length (repackedPatterns m l)) short) data-bytes)
+
+  pub bytes-anew : Bytes (repackedModule m l)
+  bytes-anew =
+      let split : Bytes (header ++ joined chunks) = subst Bytes (rules .bytes) bytes in
+      subst Bytes (sym repacked-bytes) (bytes-append header (joined (map changed chunks)) (bytes-front header (joined chunks) split)
+      (bytes-joined (map changed chunks) .0 (every-map changed chunks .1 (every-of chunk-bytes (bytes-joined chunks .1 (bytes-behind header (joined chunks) split))))))
+
+  -- It opens, with a layout of its chunks.
+  pub opens-anew : (k : Layout) × (opened (repackedModule m l) ≡ Found k) × LayoutOf (repackedModule m l) header (map changed chunks) k
+  opens-anew =
+      let found = chunks-outline (repackedModule m l) header (map changed chunks) rules-anew mandatory-anew in
+      let accepted = content-exactly (found .2) (rules .version) (stays-among info-other (outline-of .mandatory .info .1)) (stays-among song-other (outline-of .mandatory .song .1)) (stays-among inst-other (outline-of .mandatory .inst .1)) patt-among (stays-among smpl-other (outline-of .mandatory .smpl .1)) tracks-fit bytes-anew .1 content-anew in
+      (found .0, rw (found .1, accepted) refl, found .2)

@@ -1,0 +1,123 @@
+-- What a packed pattern is made of is bytes, where the stream that it was read from is: a length as four bytes, which read again is the
+-- length; and the packer's stream, since every field of a cell is 0 or was stored by an entry of the stream read, tracks are at most 254
+-- and masks are below 64.
+use Prim.Native.Nat.{ℕ, _+_, _-_, _*_, _/_, _%_, _<_, _≤_}
+use mathlib.Core.Path.{_≡_, _∙_}
+use mathlib.Core.Logic.{_↔_}
+use mathlib.Core.List.{List, [], _∷_, _++_, map}
+use mathlib.Core.Bool.{Bool, true, false, cond}
+use native.Mathlib.Omega.{arith}
+use native.Mathlib.Nat.{add-zero, mod-lt, div-add-mod', div-div-eq-div-mul, div-lt-iff-lt-mul}
+use lib.ListN.{length, getD, drop}
+use lib.Dec.{eqb}
+use Rattle.refusal.specs.declared.Verdict.the-variants.{Accepted}
+use Rattle.cells.specs.Cells.{Cell, Row, joined, emptyCell, nonZeros}
+use Rattle.packed_rows.specs.Entries.{Entry, named, entryBytes, store, carryOut, carryAll, rowFrom, rowsFrom, rowStream, streamOf}
+use Rattle.packed_rows.specs.Stream.{readStream, entriesRead}
+use Rattle.packed_rows.specs.Packer.{packedEntry, packedEntries, packedStream}
+use Rattle.packed_rows.specs.Answers.{checkAnswer}
+use Rattle.packed_rows.proofs.Sizes.{sizes}
+use Rattle.packed_rows.proofs.Shapes.{Each, none as no-cell, one as one-cell, Blocks, each-set, each-getD, each-replicate, row-from-shaped}
+use Rattle.packed_rows.proofs.PackedRow.{Packs, done, written, passed, packs}
+use Rattle.packed_rows.proofs.Soundness.{packed-sound}
+use Rattle.packed_rows.proofs.Accepted.{accepted-stream}
+use Rattle.numbers.specs.Numbers.{byteAt, number16, number32}
+use Rattle.grammar.specs.Rules.{Bytes, Every, none, also}
+use Rattle.grammar.proofs.Locating.{number32-part}
+use Rattle.grammar.proofs.Holding.{every-first, every-rest, every-of}
+use Rattle.grammar.proofs.BlockStreams.{accepted-sizes}
+use Rattle.grammar.proofs.FoundPatterns.{holds}
+use Rattle.repack.specs.Repacked.{bytes32}
+use Rattle.repacking.proofs.AllBytes.{every-map, bytes-getD, bytes-nil, bytes-cons, bytes-first, bytes-rest, bytes-append, bytes-front, bytes-drop, bytes-joined, bytes-replicate}
+
+-- A number as four bytes.
+pub bytes32-bytes : (n : ℕ) → n < 0x100000000 → Bytes (bytes32 n)
+bytes32-bytes n h =
+    bytes-cons _ _ (div-lt-iff-lt-mul {k = 16777216} {x = n} {y = 256} (omega arith) .1 h)
+    (bytes-cons _ _ (mod-lt (n / 65536) (omega arith))
+    (bytes-cons _ _ (mod-lt (n / 256) (omega arith))
+    (bytes-cons _ _ (mod-lt n (omega arith)) bytes-nil)))
+
+-- And read again: a number is its last byte behind the number that stands before it, and so three times.
+four-bytes : (n a b c r s t : ℕ) → a * 256 + r ≡ n → b * 256 + s ≡ a → c * 256 + t ≡ b → (c * 256 + t) * 65536 + (s * 256 + r) ≡ n
+four-bytes n a b c r s t p q u = omega arith
+
+pub bytes32-again : (n : ℕ) → number32 (bytes32 n) 0 ≡ n
+unfolding byteAt number16 number32
+bytes32-again n =
+    four-bytes n (n / 256) (n / 65536) (n / 16777216) (n % 256) (n / 256 % 256) (n / 65536 % 256)
+    (div-add-mod' n 256)
+    (rw (← div-div-eq-div-mul n 256 256) (div-add-mod' (n / 256) 256))
+    (rw (← div-div-eq-div-mul n 65536 256) (div-add-mod' (n / 65536) 256))
+
+pub bytes32-number : (n : ℕ) (front rest : List ℕ) → number32 (front ++ (bytes32 n ++ rest)) (length front) ≡ n
+bytes32-number n front rest = rw add-zero at (number32-part front (bytes32 n) rest 0 (omega arith)) ∙ bytes32-again n
+
+-- A stream is bytes exactly when its entries are.
+abbrev EntriesBytes : List Entry → Type 0
+EntriesBytes es = Every (λ e. Bytes (entryBytes e)) es
+
+row-stream-bytes : (es : List Entry) → EntriesBytes es ↔ Bytes (rowStream es)
+row-stream-bytes es = (
+  λ e. bytes-append (joined (map entryBytes es)) (0 ∷ []) (bytes-joined (map entryBytes es) .0 (every-map entryBytes es .1 e)) (bytes-replicate 1),
+  λ h. every-map entryBytes es .0 (bytes-joined (map entryBytes es) .1 (bytes-front (joined (map entryBytes es)) (0 ∷ []) h)),
+)
+
+stream-bytes : (rows : List (List Entry)) → Every EntriesBytes rows ↔ Bytes (streamOf rows)
+stream-bytes rows = (
+  λ e. bytes-joined (map rowStream rows) .0 (every-map rowStream rows .1 (every-of (λ es. row-stream-bytes es .0) e)),
+  λ h. every-of (λ es. row-stream-bytes es .1) (every-map rowStream rows .0 (bytes-joined (map rowStream rows) .1 h)),
+)
+
+-- Entries that are bytes leave bytes in the cells.
+store-bytes : (ns : List Bool) (values : List ℕ) (cell : Cell) → Bytes values → Bytes cell → Bytes (store ns values cell)
+store-bytes [] values cell v c = c
+store-bytes (n ∷ ns) values [] v c = bytes-nil
+store-bytes (true ∷ ns) values (f ∷ cell) v c = bytes-cons (getD values 0 0) (store ns (drop 1 values) cell) (bytes-getD values 0 v) (store-bytes ns (drop 1 values) cell (bytes-drop 1 values v) (bytes-rest f cell c))
+store-bytes (false ∷ ns) values (f ∷ cell) v c = bytes-cons f (store ns values cell) (bytes-first f cell c) (store-bytes ns values cell v (bytes-rest f cell c))
+
+carry-bytes : {n : ℕ} (es : List Entry) (row : Row) → EntriesBytes es → Each Bytes n row → Each Bytes n (carryAll es row)
+carry-bytes [] row h b = b
+carry-bytes (e ∷ es) row h b =
+    let fields : Bytes (e .fields) = bytes-rest (e .mask) (e .fields) (bytes-rest (e .track) (e .mask ∷ e .fields) (every-first h)) in
+    let old : Cell = getD row (e .track - 1) emptyCell in
+    let stored : Bytes (store (named (e .mask)) (e .fields) old) = store-bytes (named (e .mask)) (e .fields) old fields (each-getD (e .track - 1) emptyCell (bytes-replicate 6) b) in
+    carry-bytes es (carryOut e row) (every-rest h) (each-set (e .track - 1) _ stored b)
+
+row-from-bytes : (tracks : ℕ) (es : List Entry) → EntriesBytes es → Each Bytes tracks (rowFrom tracks es)
+row-from-bytes tracks es h = carry-bytes es _ h (each-replicate tracks emptyCell (bytes-replicate 6))
+
+-- The packer's entries of such cells are bytes.
+non-zeros-bytes : (fs : List ℕ) → Bytes fs → Bytes (nonZeros fs)
+non-zeros-bytes [] h = bytes-nil
+non-zeros-bytes (f ∷ fs) h = go (eqb f 0) (non-zeros-bytes fs (bytes-rest f fs h))
+  where
+    go : (b : Bool) → Bytes (nonZeros fs) → Bytes (cond b (nonZeros fs) (f ∷ nonZeros fs))
+    go true ih = ih
+    go false ih = bytes-cons f (nonZeros fs) (bytes-first f fs h) ih
+
+packed-entry-bytes : (track : ℕ) (cell : Cell) → 1 ≤ track → track < 256 → length cell ≡ 6 → Bytes cell → Bytes (entryBytes (packedEntry track cell))
+packed-entry-bytes track cell low high l c =
+    let e = packedEntry track cell in
+    let small = packed-sound track track cell low (omega arith) l .small in
+    bytes-cons track (e .mask ∷ e .fields) high (bytes-cons (e .mask) (e .fields) (omega arith) (non-zeros-bytes cell c))
+
+entries-bytes : {track n : ℕ} {row : Row} {es : List Entry} → Packs track row es → Blocks n 6 row → Each Bytes n row → 1 ≤ track → track + n ≤ 256 → EntriesBytes es
+entries-bytes done no-cell no-cell low fits = none
+entries-bytes (written {track = track} {cell = cell} q p) (one-cell l b) (one-cell c cs) low fits =
+    also (packed-entry-bytes track cell low (omega arith) l c) (entries-bytes p b cs (omega arith) (omega arith))
+entries-bytes (passed q p) (one-cell l b) (one-cell c cs) low fits = entries-bytes p b cs (omega arith) (omega arith)
+
+repacked-bytes : (tracks : ℕ) → tracks ≤ 254 → (entries : List (List Entry)) → Every EntriesBytes entries → Every EntriesBytes (map packedEntries (rowsFrom tracks entries))
+repacked-bytes tracks few entries h =
+    every-map packedEntries (rowsFrom tracks entries) .1
+    (every-map (rowFrom tracks) entries .1
+    (every-of (λ es e. entries-bytes (packs 1 (rowFrom tracks es)) (row-from-shaped tracks es) (row-from-bytes tracks es e) (omega arith) (omega arith)) h))
+
+-- An accepted stream of bytes.
+pub packed-bytes : (rows tracks : ℕ) (stream : List ℕ) → checkAnswer stream rows tracks ≡ Accepted → Bytes stream → Bytes (packedStream (rowsFrom tracks (entriesRead (readStream rows tracks stream))))
+packed-bytes rows tracks stream ok h =
+    let accepted = holds stream rows tracks ok in
+    let few : tracks ≤ 254 = sizes rows tracks (accepted-sizes stream rows tracks ok) .few-tracks in
+    let entries = stream-bytes (accepted .entries) .1 (rw (accepted-stream accepted .bytes) at h) in
+    rw (accepted .read) (stream-bytes _ .0 (repacked-bytes tracks few (accepted .entries) entries))
