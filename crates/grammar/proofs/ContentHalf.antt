@@ -61,11 +61,12 @@ module _ {m : List ℕ} {l : Layout} {song inst patt smpl : List ℕ} {songs ins
   instruments-hold : Every (λ at. AllHold (instrumentRules m (l .samples) at) × AllHold (instrumentLoopRules m (l .places .smpl) at)) (instrumentBlocks m l) ↔ Every (InstrumentRules samples) instruments
   instruments-hold = blocks-every (b .inInst) (λ at block p s. rw (← b .inSmpl .filled .number) (instrument-holds p s (l .places .smpl) samples frames-same))
 
+-- How many envelopes a chunk has, by its bytes.
+pub count-same : {m chunk : List ℕ} {place : Place} → Stands m place chunk → 10 ≤ length chunk → envelopeCount m place ≡ number16 chunk 8
+count-same s h = rw (s .there) (number16-at (stands-part s) 8 h)
+
 -- The envelopes of a chunk, where it is there.
 module _ {m : List ℕ} {chunks : List (List ℕ)} {letters : List ℕ} {place : Place} (found : Found m chunks letters place) (signed : Bool) (ValueFits : ℕ → Type 0) (says : (v : ℕ) → (valueFits signed v ≡ true) ↔ ValueFits v) (instruments : ℕ) where
-  count-same : {chunk : List ℕ} → Stands m place chunk → 10 ≤ length chunk → envelopeCount m place ≡ number16 chunk 8
-  count-same s h = rw (s .there) (number16-at (stands-part s) 8 h)
-
   each-envelope : {chunk : List ℕ} {blocks : List (List ℕ)} → BlocksIn Envelope m (place .at + 10) 10 chunk (envelopeCount m place) blocks → Every (λ at. AllHold (envelopeRules m instruments signed at)) (envelopeBlocks m place) ↔ Every (EnvelopeRules instruments ValueFits) blocks
   each-envelope b = blocks-every b (λ at block p s. envelope-holds p s signed ValueFits says instruments)
 

@@ -1,20 +1,20 @@
 -- The module repacked, repacked again, is itself.
 use Prim.Native.Nat.{ℕ, _+_}
 use mathlib.Core.Path.{_≡_, refl, sym, ap, subst, _∙_}
-use mathlib.Core.List.{List, [], _∷_, _++_, map}
+use mathlib.Core.List.{List, _∷_, _++_, map}
 use Rattle.cells.specs.Cells.{joined}
 use Rattle.layout.specs.declared.Layout.{Layout}
 use Rattle.layout.specs.declared.Outline.the-variants.{Found}
 use Rattle.blocks.specs.Sizes.{sizeOf, placesFrom}
 use Rattle.blocks.specs.declared.Kind.the-variants.{Pattern}
 use Rattle.module.specs.Verdicts.{opened}
-use Rattle.grammar.specs.Rules.{Bytes, Every, none, also, ChunkBytes}
+use Rattle.grammar.specs.Rules.{Bytes, Every, none, also}
 use Rattle.grammar.proofs.Holding.{every-of}
 use Rattle.repack.specs.Repacked.{repackedBlock, repackedPatterns, repackedModule, repackedIf, repacked}
 use Rattle.repack.proofs.ChunksAnew.{chunkAnew, module-anew}
 use Rattle.repacking.proofs.BlockAnew.{blockAnew, blocks-anew, anew-again}
 use Rattle.repacking.proofs.PattAlone.{anew-twice}
-use Rattle.repacking.proofs.ModuleAnew.{header, chunks, blocks, anew, sound-blocks, changed, rules, data-is, repacked-bytes, rules-anew}
+use Rattle.repacking.proofs.ModuleAnew.{header, chunks, anew, sound-blocks, changed, rules, data-is, repacked-bytes, rules-anew}
 use Rattle.repacking.proofs.AlikeAnew.{n, k, otherOpens, counts, patterns-there}
 
 -- What is changed no more by changing it once more.

@@ -1,8 +1,8 @@
 -- An accepted module and the module repacked are alike: their headers and INFO are the same bytes, and so is every chunk but PATT; and
 -- each pattern has the same rows and holds the same cells.
-use Prim.Native.Nat.{ℕ, zero, suc, _+_, _-_, _≤_, _<_}
-use mathlib.Core.Path.{_≡_, refl, sym, ap, subst, _∙_}
-use mathlib.Core.List.{List, [], _∷_, _++_, map}
+use Prim.Native.Nat.{ℕ, zero, suc, _+_, _-_, _<_}
+use mathlib.Core.Path.{_≡_, refl, sym, ap, _∙_}
+use mathlib.Core.List.{List, [], _∷_, map}
 use mathlib.Core.Bool.{Bool, true, false, cond, _&&_}
 use native.Mathlib.Omega.{arith}
 use lib.ListN.{length, getD, take, drop, replicate, length-drop, length-map, take-append-drop}
@@ -10,8 +10,6 @@ use lib.Dec.{leb, ltb}
 use lib.Seq.{length-take-le}
 use Rattle.refusal.specs.Numbers.{refusal}
 use Rattle.refusal.specs.declared.Cause.the-variants.{NotThere}
-use Rattle.refusal.specs.declared.Verdict.the-variants.{Accepted}
-use Rattle.cells.specs.Cells.{joined}
 use Rattle.numbers.specs.Numbers.{number16, partOf, bytesFrom}
 use Rattle.numbers.proofs.Parts.{bytes-part}
 use Rattle.layout.specs.declared.Place.{Place}
@@ -20,26 +18,24 @@ use Rattle.layout.specs.declared.Outline.the-variants.{Found as Opened}
 use Rattle.blocks.specs.Sizes.{sizeOf, placeAfter, blockAt, envelopeCount}
 use Rattle.blocks.specs.declared.Kind.{Kind}
 use Rattle.blocks.specs.declared.Kind.the-variants.{Song as SongKind, Instrument as InstrumentKind, Pattern as PatternKind, Sample as SampleKind, Envelope as EnvelopeKind}
-use Rattle.module.specs.Streams.{packedBytes}
 use Rattle.module.specs.Verdicts.{opened}
 use Rattle.queries.specs.Finding.{kindOf, chunkOf, countOf, firstOf, there, blockOf, foundIn, foundIf, found}
-use Rattle.queries.specs.declared.Found.{Found}
 use Rattle.queries.specs.declared.Found.the-variants.{At, Refused}
 use Rattle.queries.specs.declared.Thing.{Thing}
 use Rattle.queries.specs.declared.Thing.the-variants.{Song, Instrument, Pattern, Sample, VolumeEnvelope, PanningEnvelope}
 use Rattle.summary.specs.Shown.{nameOf}
-use Rattle.grammar.specs.Rules.{Bytes, Every, Among, EnvelopesRules, Filled, nameLetters, infoLetters, pattLetters, venvLetters, penvLetters, VolumeFits, PanningValueFits}
+use Rattle.grammar.specs.Rules.{Bytes, Every, Among, EnvelopesRules, Filled, nameLetters, infoLetters, pattLetters, venvLetters, penvLetters}
 use Rattle.grammar.proofs.Standing.{Stands, Found as Standing, LayoutOf}
-use Rattle.grammar.proofs.Locating.{PartAt, number16-at, part-inside, part-is}
+use Rattle.grammar.proofs.Locating.{PartAt, part-inside, part-is}
 use Rattle.grammar.proofs.Holding.{and-says, ltb-says, false-never, every-of, every-at}
 use Rattle.grammar.proofs.Cutting.{Sized, part-rest, block-there}
 use Rattle.grammar.proofs.ChunkHalf.{stands-part}
 use Rattle.grammar.proofs.FillingChunks.{BlocksIn, filled-blocks}
 use Rattle.grammar.proofs.BlockFields.{song-sized, instrument-sized, sample-sized, envelope-sized}
-use Rattle.grammar.proofs.ContentHalf.{counted}
+use Rattle.grammar.proofs.ContentHalf.{counted, count-same}
 use Rattle.showing.proofs.Alike.{SameBlock, SamePattern, SameThing, FoundAlike, neither, both, Alike}
 use Rattle.repack.specs.Repacked.{repackedModule}
-use Rattle.repacking.proofs.BlockAnew.{blockAnew, packed-same, rows-same, SoundBlock, anew-sound, anew-rows, anew-accepted, anew-cells}
+use Rattle.repacking.proofs.BlockAnew.{blockAnew, packed-same, rows-same, SoundBlock, anew-sound, anew-rows, anew-cells}
 use Rattle.repacking.proofs.ModuleAnew.{outline-of, chunks, patt, content-of, blocks, anew, blocks-in, sound-blocks, sound-anew, changed, rules, stays-among, was-among, patt-among, filled-anew, opens-anew}
 use Rattle.repacking.proofs.PattAlone.{name-other, info-other, song-other, inst-other, smpl-other, venv-other, penv-other}
 
@@ -97,9 +93,6 @@ module _ (m : List ℕ) (bytes : Bytes m) (l : Layout) (o : opened m ≡ Opened 
   second : LayoutOf n (outline-of m bytes l o .header) (map (changed m bytes l o) (chunks m bytes l o)) k
   second = opens-anew m bytes l o .2
 
-  info : List ℕ
-  info = outline-of m bytes l o .mandatory .info .0
-
   -- INFO's numbers.
   pub counts : (k .instruments ≡ l .instruments) × (k .samples ≡ l .samples) × (k .songs ≡ l .songs) × (k .patterns ≡ l .patterns) × (k .tracks ≡ l .tracks)
   counts =
@@ -135,13 +128,10 @@ module _ (m : List ℕ) (bytes : Bytes m) (l : Layout) (o : opened m ≡ Opened 
           name-there n k (t .there) ∙ name-bytes t long ∙ sym (name-there m l (s .there) ∙ name-bytes s long)
 
   -- The envelopes of a chunk.
-  count-there : {m chunk : List ℕ} {p : Place} → Stands m p chunk → 10 ≤ length chunk → envelopeCount m p ≡ number16 chunk 8
-  count-there s h = rw (s .there) (number16-at (stands-part s) 8 h)
-
   module _ {letters : List ℕ} (p q : Place) {instruments : ℕ} {ValueFits : ℕ → Type 0} (rule : (chunk : List ℕ) → Among (chunks m bytes l o) letters chunk → EnvelopesRules instruments ValueFits chunk) where
     same-count : SameChunk m n (chunks m bytes l o) letters p q → envelopeCount n q ≡ envelopeCount m p
     same-count (missing e d) = rw (e, d) refl
-    same-count (standing chunk a s t) = let long = rule chunk a .filled .fronts in count-there t long ∙ sym (count-there s long)
+    same-count (standing chunk a s t) = let long = rule chunk a .filled .fronts in count-same t long ∙ sym (count-same s long)
 
     same-envelope : SameChunk m n (chunks m bytes l o) letters p q → (i : ℕ) → i < envelopeCount m p → SameBlock EnvelopeKind m n (blockAt m EnvelopeKind p i) (blockAt n EnvelopeKind q i)
     same-envelope (missing e d) i h = absurd (omega (arith, rw e at h))
@@ -150,7 +140,7 @@ module _ (m : List ℕ) (bytes : Bytes m) (l : Layout) (o : opened m ≡ Opened 
         let sized = every-of (envelope-sized instruments ValueFits) (r .rules) in
         let here = filled-blocks s EnvelopeKind 10 (number16 chunk 8) (r .envelopes) (r .filled) sized in
         let there = filled-blocks t EnvelopeKind 10 (number16 chunk 8) (r .envelopes) (r .filled) sized in
-        same-block here there i (rw (count-there s (r .filled .fronts)) at h)
+        same-block here there i (rw (count-same s (r .filled .fronts)) at h)
 
   volume : SameChunk m n (chunks m bytes l o) venvLetters (l .places .venv) (k .places .venv)
   volume = same-chunk venv-other (l .places .venv) (k .places .venv) (first .venv) (second .venv)

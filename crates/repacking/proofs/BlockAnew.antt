@@ -1,16 +1,14 @@
 -- A pattern's block and the block anew, as lists of bytes: the block anew is one of the same rows, its stream is the packer's, it holds the
 -- same rows of cells, it is no longer, and it stays as it is when it is made anew again.
-use Prim.Native.Nat.{ℕ, _+_, _*_, _%_, _≤_, _<_}
-use mathlib.Core.Path.{_≡_, refl, sym, ap, subst, _∙_}
+use Prim.Native.Nat.{ℕ, _+_, _%_, _≤_}
+use mathlib.Core.Path.{_≡_, refl, sym, ap, _∙_}
 use mathlib.Core.List.{List, [], _∷_, _++_, map, append-assoc, append-nil}
 use native.Mathlib.Omega.{arith}
-use native.Mathlib.Nat.{add-zero}
-use lib.ListN.{length, take, drop, replicate, length-append, length-take}
-use lib.Seq.{take-at, take-append-le, length-take-le}
+use lib.ListN.{length, take, replicate, length-append}
+use lib.Seq.{take-at, length-take-le}
 use Rattle.refusal.specs.declared.Verdict.the-variants.{Accepted}
-use Rattle.cells.specs.Cells.{Row, joined}
+use Rattle.cells.specs.Cells.{joined}
 use Rattle.packed_rows.specs.Packer.{packedStream}
-use Rattle.packed_rows.specs.Answers.{checkAnswer}
 use Rattle.numbers.specs.Numbers.{number16, number32, partOf}
 use Rattle.blocks.specs.Sizes.{sizeOf, placesFrom}
 use Rattle.blocks.specs.declared.Kind.the-variants.{Pattern}
@@ -20,7 +18,7 @@ use Rattle.grammar.proofs.Locating.{PartAt, number16-start, number16-front, num
 use Rattle.grammar.proofs.Cutting.{Sized, sized-least, part-first, part-rest, part-size}
 use Rattle.grammar.proofs.BlockStreams.{stream-same}
 use Rattle.repack.specs.Repacked.{bytes32, packed, repackedStream, repackedBlock}
-use Rattle.repack.proofs.Anew.{block-size, block-shorter, stream-least, packed-size}
+use Rattle.repack.proofs.Anew.{block-size, block-shorter}
 use Rattle.repack.proofs.ChunksAnew.{part-front}
 use Rattle.repacking.proofs.PackedAgain.{rowsHeld, packed-accepted, packed-rows}
 use Rattle.repacking.proofs.PackedBytes.{bytes32-number}

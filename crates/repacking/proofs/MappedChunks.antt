@@ -4,8 +4,8 @@ use Prim.Native.Nat.{ℕ}
 use mathlib.Core.Path.{_≡_, refl, sym, ap, subst, _∙_}
 use mathlib.Core.List.{List, [], _∷_, _++_, map}
 use native.Mathlib.Omega.{arith}
-use lib.ListN.{length, take}
-use Rattle.grammar.specs.Rules.{Every, ChunkBytes, nameLetters, infoLetters, Among, AtMostOnce, Covered, NeedsInfo, BehindInfo, InfoRules}
+use lib.ListN.{take}
+use Rattle.grammar.specs.Rules.{Every, ChunkBytes, nameLetters, infoLetters, Among, AtMostOnce, BehindInfo}
 use Rattle.grammar.proofs.Holding.{every-append, every-first, every-rest}
 use Rattle.grammar.proofs.Recorded.{every-among}
 use Rattle.grammar.proofs.Turns.{ChunksFit}

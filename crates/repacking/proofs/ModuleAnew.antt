@@ -5,19 +5,17 @@ use mathlib.Core.List.{List, [], _∷_, _++_, map, append-assoc, append-nil}
 use native.Mathlib.Omega.{arith}
 use lib.ListN.{length, take, drop, replicate, length-append, length-map, length-drop}
 use lib.Seq.{take-at, length-take-le}
-use Rattle.refusal.specs.Rules.{firstBroken}
 use Rattle.refusal.specs.declared.Verdict.the-variants.{Accepted}
 use Rattle.cells.specs.Cells.{joined}
 use Rattle.numbers.specs.Numbers.{number16, number32}
-use Rattle.layout.specs.Outlines.{outline}
 use Rattle.layout.specs.declared.Place.{Place}
 use Rattle.layout.specs.declared.Layout.{Layout}
 use Rattle.layout.specs.declared.Outline.the-variants.{Found}
 use Rattle.blocks.specs.Sizes.{sizeOf, placesFrom}
 use Rattle.blocks.specs.declared.Kind.the-variants.{Pattern}
 use Rattle.module.specs.Streams.{packedBytes, patternStreamRules, streamVerdict}
-use Rattle.module.specs.Verdicts.{contentRules, opened}
-use Rattle.grammar.specs.Rules.{Bytes, Every, none, also, ChunkBytes, Among, ChunkRules, Filled, PatternRules, Content, infoLetters, songLetters, instLetters, pattLetters, smplLetters}
+use Rattle.module.specs.Verdicts.{opened}
+use Rattle.grammar.specs.Rules.{Bytes, Every, none, also, ChunkBytes, Among, ChunkRules, Filled, PatternRules, Content, pattLetters}
 use Rattle.grammar.proofs.Standing.{LayoutOf}
 use Rattle.grammar.proofs.Locating.{PartAt, part-inside}
 use Rattle.grammar.proofs.Holding.{AllHold, every-of, every-both, every-first, every-one}

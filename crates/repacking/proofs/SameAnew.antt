@@ -1,6 +1,6 @@
 -- When the module repacked is the module: exactly when the stream of every pattern is the packer's and every filler 0.
-use Prim.Native.Nat.{ℕ, zero, suc, _+_, _-_, _%_, _≤_, _<_}
-use mathlib.Core.Path.{_≡_, refl, sym, ap, subst, _∙_}
+use Prim.Native.Nat.{ℕ, suc, _+_, _-_, _%_, _≤_, _<_}
+use mathlib.Core.Path.{_≡_, refl, sym, ap, _∙_}
 use mathlib.Core.Logic.{_↔_}
 use mathlib.Core.List.{List, [], _∷_, _++_, map, append-assoc}
 use native.Mathlib.Omega.{arith}
@@ -9,7 +9,7 @@ use lib.ListN.{length, getD, take, drop, replicate, length-append, length-drop, 
 use lib.Seq.{take-at, drop-at, drop-drop, take-all, length-take-le}
 use borrow.Author.Tests.{le-leb, lt-ltb}
 use Rattle.cells.specs.Cells.{joined}
-use Rattle.numbers.specs.Numbers.{byteAt, number16, number32, partOf}
+use Rattle.numbers.specs.Numbers.{number16, number32, partOf}
 use Rattle.layout.specs.declared.Layout.{Layout}
 use Rattle.layout.specs.declared.Outline.the-variants.{Found}
 use Rattle.blocks.specs.Sizes.{sizeOf, placeAfter}
@@ -20,20 +20,20 @@ use Rattle.queries.specs.Finding.{foundIf, found, blockOf}
 use Rattle.queries.specs.declared.Block.{Block}
 use Rattle.queries.specs.declared.Found.the-variants.{At}
 use Rattle.queries.specs.declared.Thing.the-variants.{Pattern}
-use Rattle.grammar.specs.Rules.{Bytes, Every, none, also, ChunkBytes}
-use Rattle.grammar.proofs.Locating.{PartAt, byteAt-drop, number32-at, number32-drop, part-length, part-there, part-is, part-of-part}
-use Rattle.grammar.proofs.Holding.{every-at, every-of, every-both}
+use Rattle.grammar.specs.Rules.{Bytes, Every, none, also}
+use Rattle.grammar.proofs.Locating.{PartAt, number32-at, number32-drop, part-length, part-there, part-is, part-of-part}
+use Rattle.grammar.proofs.Holding.{every-at, every-of}
 use Rattle.grammar.proofs.Cutting.{Sized, sized-least, block-there}
-use Rattle.grammar.proofs.Identifiers.{FourBytes, number-letters}
+use Rattle.grammar.proofs.Identifiers.{number-letters}
 use Rattle.grammar.proofs.FoundBlocks.{found-numbered}
-use Rattle.repack.specs.Repacked.{bytes32, packed, repackedStream, repackedBlock, repackedPatterns, repackedModule}
-use Rattle.repack.proofs.ChunksAnew.{pattAnew, chunkAnew, split-anew}
+use Rattle.repack.specs.Repacked.{bytes32, packed, repackedStream, repackedPatterns, repackedModule}
+use Rattle.repack.proofs.ChunksAnew.{pattAnew, split-anew}
 use Rattle.repack.proofs.Accepting.{patterns-in, module-replaced}
 use Rattle.repacking.specs.Packed.{fillerOf, PackedAt}
 use Rattle.repacking.proofs.AllBytes.{bytes-drop}
 use Rattle.repacking.proofs.PackedBytes.{bytes32-bytes, bytes32-again}
 use Rattle.repacking.proofs.BlockAnew.{blockAnew, packed-same, rows-same, SoundBlock, anew-length, anew-stream, filler-part, anew-shorter}
-use Rattle.repacking.proofs.ModuleAnew.{header, chunks, patt, pattThere, content-of, blocks, blocks-in, blocks-bytes, sound-blocks, rules, data-is, joined-shorter, patt-bytes, patt-below, patt-size, repacked-size, repacked-bytes}
+use Rattle.repacking.proofs.ModuleAnew.{header, patt, pattThere, content-of, blocks, blocks-in, blocks-bytes, sound-blocks, rules, data-is, joined-shorter, patt-bytes, patt-below, patt-size, repacked-size, repacked-bytes}
 
 -- The 4 bytes at a place are those of their number.
 number-small : (xs : List ℕ) (at : ℕ) → Bytes xs → number32 xs at < 0x100000000
