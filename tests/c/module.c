@@ -9,25 +9,12 @@
 
 #include "dbm0.h"
 #include "dbm0_pattern.h"
+#include "expect.h"
 
 #include <inttypes.h>
 #include <stdio.h>
 #include <string.h>
 #include <sys/mman.h>
-
-static unsigned passed, failed;
-
-static void count(int holds, int line, const char *what)
-{
-    if (holds) {
-        passed++;
-    } else {
-        failed++;
-        printf("line %d: %s\n", line, what);
-    }
-}
-
-#define HOLDS(what) count((what), __LINE__, "does not hold: " #what)
 
 static void compare(dbm0_module_answer is, uint64_t number, uint64_t place, int line)
 {
@@ -592,6 +579,5 @@ int main(void)
     broken_stream();
     macros();
     not_read();
-    printf("%u passed, %u failed\n", passed, failed);
-    return failed > 0;
+    return counted();
 }

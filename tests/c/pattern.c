@@ -6,6 +6,7 @@
  */
 
 #include "dbm0_pattern.h"
+#include "expect.h"
 
 #include <inttypes.h>
 #include <stdio.h>
@@ -15,18 +16,6 @@
 #define FILL 0xAA
 #define BYTES(...) ((const uint8_t[]){__VA_ARGS__}), sizeof((const uint8_t[]){__VA_ARGS__})
 #define NOTHING NULL, 0
-
-static unsigned passed, failed;
-
-static void count(int holds, int line, const char *what)
-{
-    if (holds) {
-        passed++;
-    } else {
-        failed++;
-        printf("line %d: %s\n", line, what);
-    }
-}
 
 static void compare(dbm0_pattern_answer is, uint64_t number, uint64_t place, uint64_t length,
                     int line, const char *call)
@@ -38,8 +27,6 @@ static void compare(dbm0_pattern_answer is, uint64_t number, uint64_t place, uin
              call, is.number, is.place, is.length, number, place, length);
     count(is.number == number && is.place == place && is.length == length, line, what);
 }
-
-#define HOLDS(what) count((what), __LINE__, "does not hold: " #what)
 
 /* The output of each call: the lent part stands between two guards. */
 static uint8_t memory[16 + 4096 + 16];
@@ -365,6 +352,5 @@ int main(void)
     null_with_length_0();
     largest();
     macros();
-    printf("%u passed, %u failed\n", passed, failed);
-    return failed > 0;
+    return counted();
 }

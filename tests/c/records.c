@@ -10,10 +10,11 @@
 
 #include "dbm0.h"
 #include "dbm0_pattern.h"
+#include "expect.h"
+#include "lent.h"
 
 #include <stdio.h>
 #include <string.h>
-#include <sys/mman.h>
 
 /* The layout of the answers, as other languages have to declare them. */
 #define SIZE(type, size) _Static_assert(sizeof(type) == (size), #type)
@@ -61,68 +62,6 @@ AT(dbm0_frames_answer, offset, 16);
 AT(dbm0_frames_answer, length, 24);
 SIZE(dbm0_frame_answer, 24);
 AT(dbm0_frame_answer, frame, 16);
-
-static unsigned passed, failed;
-
-static void count(int holds, int line, const char *what)
-{
-    if (holds) {
-        passed++;
-    } else {
-        failed++;
-        printf("line %d: %s\n", line, what);
-    }
-}
-
-#define HOLDS(what) count((what), __LINE__, "does not hold: " #what)
-
-/*
- * Memory for a module, and behind it memory for an output. Behind each stands
- * a page that can be neither read nor written.
- */
-enum { PAGE = 4096, MODULE = 8 * PAGE, OUT = PAGE };
-static uint8_t *memory, *out_memory;
-
-static int make_memory(void)
-{
-    memory = mmap(NULL, MODULE + PAGE + OUT + PAGE, PROT_READ | PROT_WRITE,
-                  MAP_PRIVATE | MAP_ANONYMOUS, -1, 0);
-    if (memory == MAP_FAILED)
-        return 0;
-    out_memory = memory + MODULE + PAGE;
-    return mprotect(memory + MODULE, PAGE, PROT_NONE) == 0
-        && mprotect(out_memory + OUT, PAGE, PROT_NONE) == 0;
-}
-
-/* The module that is asked about. It stands just before the end of its memory. */
-static uint8_t *module;
-static size_t length;
-
-static void lend(const char *bytes, size_t bytes_length)
-{
-    module = memory + MODULE - bytes_length;
-    length = bytes_length;
-    memcpy(module, bytes, bytes_length);
-}
-
-/* An output of so many bytes, at the end of its memory, which is filled with one byte. */
-#define FILL 0xAA
-
-static uint8_t *output(size_t room)
-{
-    memset(out_memory, FILL, OUT);
-    return out_memory + OUT - room;
-}
-
-/* In the memory of an output of so many bytes only the first `written` of them are changed. */
-static int rest_is_filled(size_t room, size_t written)
-{
-    size_t at;
-    for (at = 0; at < OUT; at++)
-        if ((at < OUT - room || at >= OUT - room + written) && out_memory[at] != FILL)
-            return 0;
-    return 1;
-}
 
 static int zeros(const void *bytes, size_t bytes_length)
 {
@@ -619,6 +558,5 @@ int main(void)
     refused_modules();
     frames_not_read();
     macros();
-    printf("%u passed, %u failed\n", passed, failed);
-    return failed > 0;
+    return counted();
 }

@@ -5,6 +5,7 @@
 pub mod compare;
 pub mod interface;
 pub mod large;
+pub mod modules;
 pub mod queries;
 pub mod records;
 pub mod repacking;

@@ -3,13 +3,10 @@
 
 use archive::compare::Lent;
 use archive::interface::{self, Answer};
+use archive::modules;
 use archive::queries::ARCHIVE;
 use archive::records::all;
-use archive::seeds::for_seeds;
-use reference::corpus::{cases, Case};
-use reference::draft::Draft;
-use reference::generate::{damage, damaged, module, Most, Random};
-use reference::module::check;
+use reference::generate::Random;
 use reference::records;
 use reference::tunes::files;
 
@@ -18,70 +15,35 @@ fn agrees(module: &[u8], random: &mut Random) -> Result<(), String> {
     all(&ARCHIVE, module, random)
 }
 
-/// The small modules, and now and then a larger one.
-fn drawn(random: &mut Random) -> Draft {
-    let most = if random.chance(2) {
-        Most::USUAL
-    } else {
-        Most::SMALL
-    };
-    module(random, &most)
-}
-
 /// A file of the folder `samples`.
 fn file(wanted: &str) -> Vec<u8> {
     let found = files().into_iter().find(|(name, _)| *name == wanted);
     found.expect("there is such a file").1
 }
 
-/// The modules of all cases.
 #[test]
 fn the_corpus() {
-    let mut count = 0;
-    for (index, case) in cases().iter().enumerate() {
-        if let Case::Module { module, .. } | Case::Records { module, .. } = case {
-            agrees(module, &mut Random::new(index as u64))
-                .unwrap_or_else(|what| panic!("case {index} of the corpus: {what}"));
-            count += 1;
-        }
-    }
-    assert!(count > 600, "only {count} cases");
+    modules::corpus(agrees, 601);
 }
 
 #[test]
 fn the_sample_files() {
-    for (name, module) in files() {
-        agrees(&module, &mut Random::new(1)).unwrap_or_else(|what| panic!("{name}: {what}"));
-    }
+    modules::sample_files(agrees);
 }
 
 #[test]
 fn sound_modules() {
-    for_seeds(1_000, |random| {
-        let module = drawn(random).bytes();
-        check(&module).expect("it was made sound");
-        agrees(&module, random)
-    });
+    modules::sound(agrees, 1_000, 2);
 }
 
 #[test]
 fn damaged_modules() {
-    for_seeds(4_000, |random| {
-        let mut draft = drawn(random);
-        for _ in 0..1 + random.below(3) {
-            damage(random, &mut draft);
-        }
-        agrees(&draft.bytes(), random)
-    });
+    modules::damaged_parts(agrees, 4_000, 2);
 }
 
-/// Bytes taken out, put in and changed, wherever they stand.
 #[test]
 fn damaged_bytes() {
-    for_seeds(4_000, |random| {
-        let module = drawn(random).bytes();
-        agrees(&damaged(random, &module), random)
-    });
+    modules::damaged_bytes(agrees, 4_000, 2);
 }
 
 /// Every beginning of a module.

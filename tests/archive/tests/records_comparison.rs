@@ -3,29 +3,15 @@
 
 use archive::compare::Lent;
 use archive::interface::{Answer, Envelope, Told};
+use archive::modules;
 use archive::queries::{refused, shown, Queries, REFERENCE};
 use archive::records::all;
 use reference::draft::{Sample, Tune};
-use reference::generate::{damage, module, Most, Random};
-use reference::tunes::files;
-
-/// The files of the folder `samples`, and modules made from seeds; every fourth of these is damaged.
-fn modules() -> Vec<Vec<u8>> {
-    let mut modules: Vec<Vec<u8>> = files().into_iter().map(|(_, module)| module).collect();
-    for seed in 0..60 {
-        let random = &mut Random::new(seed);
-        let mut draft = module(random, &Most::SMALL);
-        if seed % 4 == 0 {
-            damage(random, &mut draft);
-        }
-        modules.push(draft.bytes());
-    }
-    modules
-}
+use reference::generate::Random;
 
 /// How many of these modules show a difference.
 fn differences(library: Queries) -> usize {
-    modules()
+    modules::some(60)
         .iter()
         .filter(|module| all(&library, module, &mut Random::new(1)).is_err())
         .count()

@@ -3,29 +3,18 @@
 
 use archive::compare::Lent;
 use archive::interface::{self, Answer};
+use archive::modules;
 use archive::queries;
 use archive::repacking::{compare, into_room, keeps, ARCHIVE};
 use archive::seeds::for_seeds;
-use reference::corpus::{cases, Case};
-use reference::draft::{Chunk, Draft, Pattern, Sample, Song, Tune};
-use reference::generate::{bytes, damage, damaged, module, tune, Most, Random};
+use reference::draft::{Chunk, Pattern, Sample, Song, Tune};
+use reference::generate::{bytes, damaged, module, tune, Most, Random};
 use reference::module::check;
-use reference::tunes::files;
 
 /// The archive repacks as the reference does, and what it writes shows the same.
 fn agrees(module: &[u8], random: &mut Random) -> Result<(), String> {
     compare(ARCHIVE, module, random)?;
     keeps(ARCHIVE, &queries::ARCHIVE, module, random)
-}
-
-/// The small modules, and now and then a larger one.
-fn drawn(random: &mut Random) -> Draft {
-    let most = if random.chance(3) {
-        Most::USUAL
-    } else {
-        Most::SMALL
-    };
-    module(random, &most)
 }
 
 fn written(length: usize) -> Answer {
@@ -116,54 +105,29 @@ fn memory_of_no_bytes() {
     assert_eq!(out, [0xAA; 200]);
 }
 
-/// The modules of all cases.
 #[test]
 fn the_corpus() {
-    let mut count = 0;
-    for (index, case) in cases().iter().enumerate() {
-        if let Case::Module { module, .. } | Case::Records { module, .. } = case {
-            agrees(module, &mut Random::new(index as u64))
-                .unwrap_or_else(|what| panic!("case {index} of the corpus: {what}"));
-            count += 1;
-        }
-    }
-    assert!(count > 1_900, "only {count} cases");
+    modules::corpus(agrees, 1901);
 }
 
 #[test]
 fn the_sample_files() {
-    for (name, module) in files() {
-        agrees(&module, &mut Random::new(1)).unwrap_or_else(|what| panic!("{name}: {what}"));
-    }
+    modules::sample_files(agrees);
 }
 
 #[test]
 fn sound_modules() {
-    for_seeds(4_000, |random| {
-        let module = drawn(random).bytes();
-        check(&module).expect("it was made sound");
-        agrees(&module, random)
-    });
+    modules::sound(agrees, 4_000, 3);
 }
 
 #[test]
 fn damaged_modules() {
-    for_seeds(10_000, |random| {
-        let mut draft = drawn(random);
-        for _ in 0..1 + random.below(3) {
-            damage(random, &mut draft);
-        }
-        agrees(&draft.bytes(), random)
-    });
+    modules::damaged_parts(agrees, 10_000, 3);
 }
 
-/// Bytes taken out, put in and changed, wherever they stand.
 #[test]
 fn damaged_bytes() {
-    for_seeds(10_000, |random| {
-        let module = drawn(random).bytes();
-        agrees(&damaged(random, &module), random)
-    });
+    modules::damaged_bytes(agrees, 10_000, 3);
 }
 
 /// Streams with faults in blocks that fit them; some of them leave the stream sound.

@@ -3,29 +3,15 @@
 
 use archive::compare::{answer, Lent};
 use archive::interface::Answer;
+use archive::modules;
 use archive::queries;
 use archive::repacking::{compare, keeps, Repack, REFERENCE};
-use reference::generate::{damage, module, Most, Random};
+use reference::generate::Random;
 use reference::refusal::Refusal;
-use reference::tunes::files;
-
-/// The files of the folder `samples`, and modules made from seeds; every fourth of these is damaged.
-fn modules() -> Vec<Vec<u8>> {
-    let mut modules: Vec<Vec<u8>> = files().into_iter().map(|(_, module)| module).collect();
-    for seed in 0..200 {
-        let random = &mut Random::new(seed);
-        let mut draft = module(random, &Most::SMALL);
-        if seed % 4 == 0 {
-            damage(random, &mut draft);
-        }
-        modules.push(draft.bytes());
-    }
-    modules
-}
 
 /// How many of these modules differ from the reference, and of how many the library itself does not keep what it must.
 fn differences(library: Repack) -> (usize, usize) {
-    let modules = modules();
+    let modules = modules::some(200);
     let differ = |module: &&Vec<u8>| compare(library, module, &mut Random::new(1)).is_err();
     let lose = |module: &&Vec<u8>| {
         keeps(library, &queries::REFERENCE, module, &mut Random::new(1)).is_err()
