@@ -408,9 +408,10 @@ dbm0_length_answer dbm0_all_frames(
  * the module is always enough. The output must not overlap the module.
  *
  * Refusals: the module's own, 17. Time beside the check: the packed streams
- * are gone over twice for the needed length and three times more to be
- * written, and the rest of the module is copied. No memory is needed beyond
- * one row of cells, which stands on the stack.
+ * are gone over three times to be written, and the rest of the module is
+ * copied. With an output shorter than the module they are first gone over
+ * twice for the needed length. No memory is needed beyond one row of cells,
+ * which stands on the stack.
  */
 dbm0_length_answer dbm0_repack(
     const uint8_t *module, size_t module_length,

@@ -1,13 +1,12 @@
 -- What an accepted module gives the code that repacks it: its patterns fill PATT and have sound streams, and the module repacked is the
 -- module with PATT's data anew.
-use Prim.Native.Nat.{ℕ, zero, suc, _+_, _-_, _≤_, _<_}
+use Prim.Native.Nat.{ℕ, zero, suc, _+_, _≤_, _<_}
 use mathlib.Core.Path.{_≡_, refl, sym, ap, _∙_}
-use mathlib.Core.List.{List, [], _∷_, _++_}
+use mathlib.Core.List.{List, _++_}
 use native.Mathlib.Omega.{arith}
 use mir.Val.{Fits}
 use mir.Syntax.{w8}
-use lib.ListN.{length, getD, take, drop, length-append, length-drop}
-use lib.Seq.{length-take-le}
+use lib.ListN.{length, getD, drop}
 use borrow.Author.Tests.{lt-ltb, le-ltb}
 use Rattle.refusal.specs.Numbers.{refusal}
 use Rattle.refusal.specs.declared.Cause.the-variants.{Room}
@@ -21,12 +20,12 @@ use Rattle.module.specs.Streams.{patternStreamRules}
 use Rattle.module.specs.Verdicts.{opened}
 use Rattle.queries.specs.Lengths.{refusedLength, writtenLength}
 use Rattle.queries.specs.declared.LengthAnswer.{LengthAnswer}
-use Rattle.grammar.specs.Rules.{Bytes, Every, none, also}
+use Rattle.grammar.specs.Rules.{Bytes, Every}
 use Rattle.grammar.proofs.Holding.{AllHold, every-first, every-rest}
 use Rattle.grammar.proofs.BlockStreams.{accepted-says}
 use Rattle.grammar.proofs.ChunkHalf.{Outlined, outline-chunks}
 use Rattle.grammar.proofs.FoundBlocks.{Opens, module-opens}
-use Rattle.repack.specs.Repacked.{bytes32, repackedPatterns, repackedModule, repackAnswerIf, repackAnswer, repackOutputIf, repackOutput}
+use Rattle.repack.specs.Repacked.{repackedPatterns, repackedModule, repackAnswerIf, repackAnswer, repackOutputIf, repackOutput}
 use Rattle.repack.specs.Steps.{replaced, AllSound, PatternsIn}
 use Rattle.repack.proofs.ChunksAnew.{module-anew, replaced-anew}
 
@@ -57,35 +56,23 @@ module _ (m : List ℕ) (bytes : Bytes m) (l : Layout) (o : opened m ≡ Found l
   module-replaced =
       module-anew (outlined .rules) l ∙ replaced-anew (outlined .rules) (outlined .mandatory .patt .1) (l .places .patt) (outlined .layout .patt) (repackedPatterns m l)
 
-  -- How long it is.
-  module _ (n : ℕ) (size : n ≡ length (repackedPatterns m l)) where
-    pub patt-inside : l .places .patt .length ≤ length m
-    patt-inside = omega (arith, patterns-in .inside)
+  -- 17, and what is written, by the length of the module with PATT's data anew.
+  module _ (out : List ℕ) where
+    abbrev anew : List ℕ
+    anew = replaced m (l .places .patt) (repackedPatterns m l)
 
-    pub needed-is : length m - l .places .patt .length + n ≡ length (repackedModule m l)
-    needed-is =
-        let at : ℕ = l .places .patt .at in
-        let end : ℕ = at + 8 + l .places .patt .length in
-        let inside = patterns-in .inside in
-        omega (arith, ap length module-replaced, length-append (take (at + 4) m) (bytes32 (length (repackedPatterns m l)) ++ (repackedPatterns m l ++ drop end m)), length-take-le (at + 4) m (omega arith), length-append (repackedPatterns m l) (drop end m), length-drop end m, size)
+    pub module-lacks : (needed : ℕ) → length out < needed → (length out < needed → needed ≡ length anew) → (answer : LengthAnswer) → answer ≡ refusedLength (refusal Room needed) → (answer ≡ repackAnswerIf m (length out) (Found l)) × (out ≡ repackOutputIf m out (Found l))
+    module-lacks needed h same answer e =
+        let is : needed ≡ length (repackedModule m l) = same h ∙ ap length (sym module-replaced) in
+        let lacks = lt-ltb (length out) (length (repackedModule m l)) (omega (arith, is)) in
+        (e ∙ rw (is, lacks) refl, rw lacks refl)
 
-    module _ (out : List ℕ) where
-      pub module-room : length m - l .places .patt .length + n ≤ length out → length (take (length m - l .places .patt .length + n) out) + l .places .patt .length ≡ length m + n
-      module-room h = let inside = patt-inside in omega (arith, length-take-le (length m - l .places .patt .length + n) out h)
-
-      -- 17.
-      pub module-lacks : length out < length m - l .places .patt .length + n → (answer : LengthAnswer) → answer ≡ refusedLength (refusal Room (length m - l .places .patt .length + n)) → (answer ≡ repackAnswerIf m (length out) (Found l)) × (out ≡ repackOutputIf m out (Found l))
-      module-lacks h answer e =
-          let less : length out < length (repackedModule m l) = omega (arith, needed-is) in
-          let lacks = lt-ltb (length out) (length (repackedModule m l)) less in
-          (e ∙ rw (needed-is, lacks) refl, rw lacks refl)
-
-      pub module-fits : length m - l .places .patt .length + n ≤ length out → (answer : LengthAnswer) (anew : List ℕ) → answer ≡ writtenLength (length m - l .places .patt .length + n) → anew ≡ replaced m (l .places .patt) (repackedPatterns m l) → (answer ≡ repackAnswerIf m (length out) (Found l)) × (anew ++ drop (length m - l .places .patt .length + n) out ≡ repackOutputIf m out (Found l))
-      module-fits h answer anew e is =
-          let enough : length (repackedModule m l) ≤ length out = omega (arith, needed-is) in
-          let fits = le-ltb (length out) (length (repackedModule m l)) enough in
-          let same : anew ≡ repackedModule m l = is ∙ sym module-replaced in
-          (e ∙ rw (needed-is, fits) refl, rw (same, needed-is, fits) refl)
+    pub module-done : length anew ≤ length out → (n : ℕ) (answer : LengthAnswer) (out′ : List ℕ) → answer ≡ writtenLength n → (n ≡ length anew) × (out′ ≡ anew ++ drop n out) → (answer ≡ repackAnswerIf m (length out) (Found l)) × (out′ ≡ repackOutputIf m out (Found l))
+    module-done h n answer out′ e done =
+        let same : anew ≡ repackedModule m l = sym module-replaced in
+        let size : n ≡ length (repackedModule m l) = done .0 ∙ ap length same in
+        let fits = le-ltb (length out) (length (repackedModule m l)) (omega (arith, ap length same)) in
+        (e ∙ rw (size, fits) refl, done .1 ∙ rw (size, same, fits) refl)
 
 -- What repacking answers, and what its output then holds, by how the module opens.
 module _ (m out : List ℕ) where

@@ -1,7 +1,7 @@
 -- A part of a list, lent and given back: where it goes on to the list's end, and where it is written behind what is written already.
 use Prim.Native.Nat.{ℕ, _+_, _-_, _≤_}
 use mathlib.Core.Path.{_≡_, sym, ap, _∙_}
-use mathlib.Core.List.{List, [], _++_, append-assoc, append-nil}
+use mathlib.Core.List.{List, _++_, append-assoc, append-nil}
 use native.Mathlib.Omega.{arith}
 use lib.ListN.{length, take, drop, length-append, length-drop, take-append-drop, drop-of-length-le}
 use lib.Seq.{take-all, take-at, drop-at, drop-drop, drop-append-le, length-take-le}
@@ -13,10 +13,6 @@ module _ (a : ℕ) (xs : List ℕ) where
 
   pub put-end : (ys : List ℕ) → putMid a (length xs - a) xs ys ≡ take a xs ++ ys
   put-end ys = ap (λ (rest : List ℕ). take a xs ++ (ys ++ rest)) (drop-of-length-le (drop a xs) {i = length xs - a} (omega (arith, length-drop a xs))) ∙ ap (λ (rest : List ℕ). take a xs ++ rest) (append-nil ys)
-
-  -- What is put there has the length of what was.
-  pub put-length : (ys : List ℕ) → a ≤ length xs → length ys ≡ length (drop a xs) → length (take a xs ++ ys) ≡ length xs
-  put-length ys h e = omega (arith, length-append (take a xs) ys, length-take-le a xs h, length-drop a xs)
 
 -- What a copy of so many bytes to the front of a list leaves.
 pub copied : (source xs out first : List ℕ) → source ≡ xs → first ≡ take (length source) source ++ drop (length source) out → first ≡ xs ++ drop (length xs) out
@@ -43,15 +39,6 @@ module _ (front xs out₀ out mid : List ℕ) (a e : ℕ) (before : out ≡ fron
       let last : drop (length xs) (drop a out₀) ≡ drop (length (front ++ xs)) out₀ = drop-drop (length xs) a out₀ ∙ ap (λ (k : ℕ). drop k out₀) there in
       ap (λ (l : List ℕ). l ++ (mid ++ postOf a (e - a) out)) written ∙ ap (λ (l : List ℕ). front ++ l) (behind ∙ ap (λ (l : List ℕ). xs ++ l) last) ∙ sym (append-assoc front xs (drop (length (front ++ xs)) out₀))
 
-  -- The part is filled.
-  pub put-filled : mid ≡ xs → a + length xs ≡ e → putMid a (e - a) out mid ≡ (front ++ xs) ++ drop (length (front ++ xs)) out₀
-  put-filled is all =
-      let none : drop (length xs) (midOf a (e - a) out) ≡ [] = drop-of-length-le (midOf a (e - a) out) {i = length xs} (omega (arith, ap (λ (l : List ℕ). length (take (e - a) l)) ahead, lent)) in
-      put-next (is ∙ sym (append-nil xs) ∙ ap (λ (l : List ℕ). xs ++ l) (sym none))
-
--- All of a list is written.
-pub all-written : (xs out₀ out : List ℕ) → out ≡ xs ++ drop (length xs) out₀ → length out₀ ≤ length xs → out ≡ xs
-all-written xs out₀ out e h = e ∙ ap (λ (rest : List ℕ). xs ++ rest) (drop-of-length-le out₀ {i = length xs} h) ∙ append-nil xs
-
+-- The list keeps its length.
 pub written-length : (xs out₀ out : List ℕ) → out ≡ xs ++ drop (length xs) out₀ → length xs ≤ length out₀ → length out ≡ length out₀
 written-length xs out₀ out e h = omega (arith, ap length e, length-append xs (drop (length xs) out₀), length-drop (length xs) out₀)

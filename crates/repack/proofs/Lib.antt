@@ -1,5 +1,6 @@
 pub mod Anew
 pub mod Ends
+pub mod LengthBefore
 pub mod WritingBlock
 pub mod PassingPatterns
 pub mod WritingModule

@@ -1,101 +1,107 @@
--- Writing the module with PATT's data anew: its bytes up to PATT's length, the length, the data, and its bytes behind PATT.
-use Prim.Native.Nat.{ℕ, _+_, _-_, _≤_}
+-- Writing the module with PATT's data anew: its bytes up to PATT's length, the data behind the length's place, the length, and its bytes
+-- behind PATT.
+use Prim.Native.Nat.{ℕ, _+_, _-_, _≤_, _<_}
 use mathlib.Core.Path.{_≡_, refl, sym, ap, _∙_}
 use mathlib.Core.List.{List, _++_, append-assoc}
 use native.Mathlib.Omega.{arith}
 use lib.ListN.{length, take, drop, length-append, length-drop}
-use lib.Seq.{take-all, length-take-le}
-use borrow.Rule.Slice.PartMut.{midOf, putMid, mid-len}
+use lib.Seq.{length-take-le}
+use borrow.Rule.Slice.PartMut.{midOf, putMid}
 use Rattle.layout.specs.declared.Place.{Place}
 use Rattle.blocks.specs.Filling.{dataEnd}
 use Rattle.repack.specs.Repacked.{bytes32}
 use Rattle.repack.specs.Steps.{replaced}
-use Rattle.repack.proofs.Ends.{mid-end, copied, put-next, put-filled, all-written, written-length}
+use Rattle.repack.proofs.Ends.{mid-end, copied, put-next, written-length}
+use Rattle.repack.proofs.LengthBefore.{third-is}
 
-module _ (m : List ℕ) (chunk : Place) (anew : List ℕ) (n : ℕ) (size : n ≡ length anew) (shorter : n ≤ chunk .length) (whole : dataEnd chunk ≤ length m) (out₀ : List ℕ) (room : length out₀ + chunk .length ≡ length m + n) where
+module _ (m : List ℕ) (chunk : Place) (anew : List ℕ) (whole : dataEnd chunk ≤ length m) where
   abbrev front : List ℕ
   front = take (chunk .at + 4) m
-
-  abbrev start : ℕ
-  start = chunk .at + 4 + 4
-
-  abbrev end : ℕ
-  end = chunk .at + 4 + 4 + n
-
-  abbrev behind : ℕ
-  behind = chunk .at + 4 + 4 + chunk .length
 
   pub front-size : length front ≡ chunk .at + 4
   front-size = length-take-le (chunk .at + 4) m (omega arith)
 
-  pub front-fits : length front ≤ length out₀
-  front-fits = omega (arith, front-size)
+  -- How long it is.
+  pub replaced-length : length (replaced m chunk anew) + chunk .length ≡ length m + length anew
+  replaced-length = omega (arith, length-append front (bytes32 (length anew) ++ (anew ++ drop (dataEnd chunk) m)), front-size, length-append anew (drop (dataEnd chunk) m), length-drop (dataEnd chunk) m)
 
-  module _ (out₁ mid₂ : List ℕ) (e₁ : out₁ ≡ take (length front) front ++ drop (length front) out₀) (e₂ : mid₂ ≡ bytes32 n ++ drop 4 (midOf (chunk .at + 4) (length out₁ - (chunk .at + 4)) out₁)) where
-    abbrev out₂ : List ℕ
-    out₂ = putMid (chunk .at + 4) (length out₁ - (chunk .at + 4)) out₁ mid₂
+  counted-length : {n : ℕ} → n ≡ length anew → length m - chunk .length + n ≡ length (replaced m chunk anew)
+  counted-length size = omega (arith, replaced-length)
 
-    first : out₁ ≡ front ++ drop (length front) out₀
-    first = copied front front out₀ out₁ refl e₁
+  -- What the output must have, without counting and counted.
+  pub room-enough : {room : ℕ} → length anew ≤ chunk .length → length m ≤ room → (length (replaced m chunk anew) ≤ length m) × (room < length m → length m ≡ length (replaced m chunk anew))
+  room-enough shorter h = (omega (arith, replaced-length), λ less. absurd (omega arith))
 
-    first-length : length out₁ ≡ length out₀
-    first-length = written-length front out₀ out₁ first front-fits
+  pub room-counted : {room n : ℕ} → n ≡ length anew → (length (replaced m chunk anew) ≤ length m - chunk .length + n) × (room < length m - chunk .length + n → length m - chunk .length + n ≡ length (replaced m chunk anew))
+  room-counted size = (omega (arith, counted-length size), λ less. counted-length size)
 
-    second : out₂ ≡ (front ++ bytes32 n) ++ drop (length (front ++ bytes32 n)) out₀
-    second = put-next front (bytes32 n) out₀ out₁ mid₂ (chunk .at + 4) (length out₁) first front-size (omega (arith, first-length)) (omega (arith, first-length)) e₂
+  -- What the calls were given and answered, one after the other.
+  module _ (out₀ : List ℕ) (room : length (replaced m chunk anew) ≤ length out₀) {out₁ : List ℕ} (e₁ : out₁ ≡ take (length front) front ++ drop (length front) out₀) where
+    abbrev start : ℕ
+    start = chunk .at + 4 + 4
 
-    second-size : length (front ++ bytes32 n) ≡ start
-    second-size = omega (arith, length-append front (bytes32 n), front-size)
+    start-fits : start ≤ length out₀
+    start-fits = omega (arith, replaced-length)
 
-    pub second-length : length out₂ ≡ length out₀
-    second-length = written-length (front ++ bytes32 n) out₀ out₂ second (omega (arith, second-size))
+    first : out₁ ≡ front ++ drop (chunk .at + 4) out₀
+    first = copied front front out₀ out₁ refl e₁ ∙ ap (λ (k : ℕ). front ++ drop k out₀) front-size
 
-    pub data-fits : length (midOf start (end - start) out₂) ≡ length anew
-    data-fits = omega (arith, mid-len start end out₂ (omega (arith, second-length)), size)
+    module _ {n : ℕ} {mid₂ : List ℕ} (done : (n ≡ length anew) × (mid₂ ≡ anew ++ drop n (midOf start (length out₁ - start) out₁))) where
+      abbrev out₂ : List ℕ
+      out₂ = putMid start (length out₁ - start) out₁ mid₂
 
-    module _ (mid₃ : List ℕ) (e₃ : mid₃ ≡ anew) where
-      abbrev out₃ : List ℕ
-      out₃ = putMid start (end - start) out₂ mid₃
+      end-fits : start + n ≤ length out₀
+      end-fits = omega (arith, replaced-length, done .0)
 
-      third : out₃ ≡ ((front ++ bytes32 n) ++ anew) ++ drop (length ((front ++ bytes32 n) ++ anew)) out₀
-      third = put-filled (front ++ bytes32 n) anew out₀ out₂ mid₃ start end second second-size (omega (arith, size)) (omega arith) e₃ (omega (arith, size))
+      module _ {mid₃ : List ℕ} (e₃ : mid₃ ≡ bytes32 n ++ drop 4 (midOf (chunk .at + 4) (length out₂ - (chunk .at + 4)) out₂)) where
+        abbrev out₃ : List ℕ
+        out₃ = putMid (chunk .at + 4) (length out₂ - (chunk .at + 4)) out₂ mid₃
 
-      third-size : length ((front ++ bytes32 n) ++ anew) ≡ end
-      third-size = omega (arith, length-append (front ++ bytes32 n) anew, second-size, size)
+        abbrev patt : List ℕ
+        patt = front ++ (bytes32 n ++ anew)
 
-      third-length : length out₃ ≡ length out₀
-      third-length = written-length ((front ++ bytes32 n) ++ anew) out₀ out₃ third (omega (arith, third-size))
+        patt-size : length patt ≡ start + n
+        patt-size = omega (arith, length-append front (bytes32 n ++ anew), front-size, done .0)
 
-      -- What stands behind PATT.
-      abbrev rest : List ℕ
-      rest = midOf behind (length m - behind) m
+        third : out₃ ≡ patt ++ drop (length patt) out₀
+        third =
+            third-is front out₀ out₁ (chunk .at + 4) front-size start-fits first anew mid₂ n (done .0) end-fits (done .1) mid₃ e₃
+            ∙ sym (append-assoc front (bytes32 n ++ anew) (drop (start + n) out₀))
+            ∙ ap (λ (k : ℕ). patt ++ drop k out₀) (sym patt-size)
 
-      rest-is : rest ≡ drop (dataEnd chunk) m
-      rest-is = mid-end behind m ∙ ap (λ (k : ℕ). drop k m) same
-        where
-          same : behind ≡ dataEnd chunk
-          same = omega arith
+        third-length : length out₃ ≡ length out₀
+        third-length = written-length patt out₀ out₃ third (omega (arith, patt-size, end-fits))
 
-      rest-size : length rest ≡ length m - behind
-      rest-size = omega (arith, ap length (mid-end behind m), length-drop behind m)
+        -- What stands behind PATT.
+        abbrev behind : ℕ
+        behind = chunk .at + 4 + 4 + chunk .length
 
-      module _ (mid₄ : List ℕ) (e₄ : mid₄ ≡ take (length rest) rest ++ drop (length rest) (midOf end (length out₃ - end) out₃)) where
-        abbrev out₄ : List ℕ
-        out₄ = putMid end (length out₃ - end) out₃ mid₄
+        abbrev rest : List ℕ
+        rest = midOf behind (length m - behind) m
 
-        fourth : out₄ ≡ (((front ++ bytes32 n) ++ anew) ++ rest) ++ drop (length (((front ++ bytes32 n) ++ anew) ++ rest)) out₀
-        fourth = put-next ((front ++ bytes32 n) ++ anew) rest out₀ out₃ mid₄ end (length out₃) third third-size (omega (arith, third-length, rest-size)) (omega (arith, third-length)) (copied rest rest (midOf end (length out₃ - end) out₃) mid₄ refl e₄)
+        rest-is : rest ≡ drop (dataEnd chunk) m
+        rest-is = mid-end behind m ∙ ap (λ (k : ℕ). drop k m) same
+          where
+            same : behind ≡ dataEnd chunk
+            same = omega arith
 
-        fourth-size : length (((front ++ bytes32 n) ++ anew) ++ rest) ≡ length out₀
-        fourth-size = omega (arith, length-append ((front ++ bytes32 n) ++ anew) rest, third-size, rest-size)
-
-        pub module-length : length out₄ ≡ length out₀
-        module-length = written-length (((front ++ bytes32 n) ++ anew) ++ rest) out₀ out₄ fourth (omega (arith, fourth-size))
-
-        pub module-written : out₄ ≡ replaced m chunk anew
-        module-written =
-            all-written (((front ++ bytes32 n) ++ anew) ++ rest) out₀ out₄ fourth (omega (arith, fourth-size))
-            ∙ append-assoc (front ++ bytes32 n) anew rest
-            ∙ append-assoc front (bytes32 n) (anew ++ rest)
+        all-is : patt ++ rest ≡ replaced m chunk anew
+        all-is =
+            append-assoc front (bytes32 n ++ anew) rest
             ∙ ap (λ (l : List ℕ). front ++ (bytes32 n ++ (anew ++ l))) rest-is
-            ∙ ap (λ (k : ℕ). front ++ (bytes32 k ++ (anew ++ drop (dataEnd chunk) m))) size
+            ∙ ap (λ (k : ℕ). front ++ (bytes32 k ++ (anew ++ drop (dataEnd chunk) m))) (done .0)
+
+        all-size : start + n + length rest ≡ length (replaced m chunk anew)
+        all-size = omega (arith, ap length all-is, length-append patt rest, patt-size)
+
+        module _ {mid₄ : List ℕ} (e₄ : mid₄ ≡ take (length rest) rest ++ drop (length rest) (midOf (start + n) (length out₃ - (start + n)) out₃)) where
+          abbrev out₄ : List ℕ
+          out₄ = putMid (start + n) (length out₃ - (start + n)) out₃ mid₄
+
+          fourth : out₄ ≡ (patt ++ rest) ++ drop (length (patt ++ rest)) out₀
+          fourth = put-next patt rest out₀ out₃ mid₄ (start + n) (length out₃) third patt-size (omega (arith, third-length, all-size)) (omega (arith, third-length)) (copied rest rest (midOf (start + n) (length out₃ - (start + n)) out₃) mid₄ refl e₄)
+
+          pub module-written : (length m - chunk .length + n ≡ length (replaced m chunk anew)) × (out₄ ≡ replaced m chunk anew ++ drop (length m - chunk .length + n) out₀)
+          module-written =
+              let size = counted-length (done .0) in
+              (size, fourth ∙ rw (all-is, size) refl)

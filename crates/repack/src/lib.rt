@@ -23,7 +23,7 @@ ghost use lib.ListN.{length, drop};
 ghost use Rattle.refusal.specs.declared.Verdict.the-variants.{Accepted};
 ghost use Rattle.numbers.specs.Numbers.{number32 as number32At};
 ghost use Rattle.layout.specs.declared.Outline.the-variants.{Found};
-ghost use Rattle.blocks.specs.Sizes.{sizeOf, firstBlock};
+ghost use Rattle.blocks.specs.Sizes.{firstBlock};
 ghost use Rattle.blocks.specs.declared.Kind.the-variants.{Pattern};
 ghost use Rattle.module.specs.Streams.{streamVerdict};
 ghost use Rattle.module.specs.Verdicts.{opened};
@@ -47,17 +47,17 @@ fn repack_stream(m: &[u8], tracks: u16, at: usize, out: &mut [u8]) -> usize
 // The length of a pattern's block anew.
 fn block_length(m: &[u8], tracks: u16, at: usize) -> usize
     requires { ⌜ (at + 6 ≤ length (now m)) × (streamVerdict (now m) tracks at ≡ Accepted) ⌝ }
-    ensures { λ r. ⌜ (r ≡ length (repackedBlock (now (m .entry)) tracks at)) × (r ≤ sizeOf Pattern (now (m .entry)) at) ⌝ }
+    ensures { λ r. ⌜ r ≡ length (repackedBlock (now (m .entry)) tracks at) ⌝ }
 {
     let mut none = [0u8; 0];
     let n = repack_stream(m, tracks, at, &mut none);
     6 + n + n % 2
 }
 
-// The length of PATT's data anew: no more than it was.
+// The length of PATT's data anew.
 fn data_length(m: &[u8], chunk: Place, patterns: u16, tracks: u16) -> usize
     requires { ⌜ PatternsIn (now m) chunk patterns tracks ⌝ }
-    ensures { λ r. ⌜ (r ≡ length (blocksAnew (now (m .entry)) tracks patterns (firstBlock Pattern chunk))) × (r ≤ chunk .length) ⌝ }
+    ensures { λ r. ⌜ r ≡ length (blocksAnew (now (m .entry)) tracks patterns (firstBlock Pattern chunk)) ⌝ }
 {
     let mut at = block_at(m, Kind::Pattern, chunk, 0);
     let mut length: usize = 0;
@@ -97,10 +97,10 @@ fn write_block(m: &[u8], tracks: u16, at: usize, out: &mut [u8]) -> usize
     end + 1
 }
 
-// Writes PATT's data anew into an output of just their length.
-fn write_data(m: &[u8], chunk: Place, patterns: u16, tracks: u16, out: &mut [u8])
-    requires { ⌜ PatternsIn (now m) chunk patterns tracks × (length (now out) ≡ length (blocksAnew (now m) tracks patterns (firstBlock Pattern chunk))) ⌝ }
-    ensures { λ r. ⌜ now (out .exit) ≡ blocksAnew (now (m .entry)) tracks patterns (firstBlock Pattern chunk) ⌝ }
+// Writes PATT's data anew to the front of an output that has room for them, and answers their length.
+fn write_data(m: &[u8], chunk: Place, patterns: u16, tracks: u16, out: &mut [u8]) -> usize
+    requires { ⌜ PatternsIn (now m) chunk patterns tracks × (length (blocksAnew (now m) tracks patterns (firstBlock Pattern chunk)) ≤ length (now out)) ⌝ }
+    ensures { λ r. ⌜ (r ≡ length (blocksAnew (now (m .entry)) tracks patterns (firstBlock Pattern chunk))) × (now (out .exit) ≡ blocksAnew (now (m .entry)) tracks patterns (firstBlock Pattern chunk) ++ drop r (now (out .entry))) ⌝ }
 {
     let mut at = block_at(m, Kind::Pattern, chunk, 0);
     let mut to: usize = 0;
@@ -110,21 +110,38 @@ fn write_data(m: &[u8], chunk: Place, patterns: u16, tracks: u16, out: &mut [u8]
         at = at + size(m, Kind::Pattern, at);
         left = left - 1;
     }
+    to
 }
 
-// Writes the module with PATT's data anew, so many bytes, into an output of just the length of all.
-fn write_module(m: &[u8], chunk: Place, patterns: u16, tracks: u16, anew: usize, out: &mut [u8])
-    requires { ⌜ PatternsIn (now m) chunk patterns tracks × (anew ≡ length (blocksAnew (now m) tracks patterns (firstBlock Pattern chunk))) × (anew ≤ chunk .length) × (length (now out) + chunk .length ≡ length (now m) + anew) ⌝ }
-    ensures { λ r. ⌜ now (out .exit) ≡ replaced (now (m .entry)) chunk (blocksAnew (now (m .entry)) tracks patterns (firstBlock Pattern chunk)) ⌝ }
+// Writes the module with PATT's data anew to the front of an output that has room for it, and answers its length. The data are written
+// before their length, which is not known until then.
+fn write_module(m: &[u8], chunk: Place, patterns: u16, tracks: u16, out: &mut [u8]) -> usize
+    requires { ⌜ PatternsIn (now m) chunk patterns tracks × (length (replaced (now m) chunk (blocksAnew (now m) tracks patterns (firstBlock Pattern chunk))) ≤ length (now out)) ⌝ }
+    ensures { λ r. ⌜ (r ≡ length (replaced (now (m .entry)) chunk (blocksAnew (now (m .entry)) tracks patterns (firstBlock Pattern chunk)))) × (now (out .exit) ≡ replaced (now (m .entry)) chunk (blocksAnew (now (m .entry)) tracks patterns (firstBlock Pattern chunk)) ++ drop r (now (out .entry))) ⌝ }
 {
     let front = (chunk.at as usize) + 4;
-    bytes::copy(&m[..front], out);
-    put32(anew as u32, &mut out[front..]);
     let start = front + 4;
+    let old = chunk.length as usize;
+    bytes::copy(&m[..front], out);
+    let anew = write_data(m, chunk, patterns, tracks, &mut out[start..]);
+    put32(anew as u32, &mut out[front..]);
     let end = start + anew;
-    write_data(m, chunk, patterns, tracks, &mut out[start..end]);
-    let behind = start + (chunk.length as usize);
+    let behind = start + old;
     bytes::copy(&m[behind..], &mut out[end..]);
+    m.len() - old + anew
+}
+
+// The length that an output with so much room needs: that of the module repacked. Where there is room for the module as it is, its own
+// length is answered, which is no less: so the streams need not be gone over to count.
+fn room_needed(m: &[u8], chunk: Place, patterns: u16, tracks: u16, room: usize) -> usize
+    requires { ⌜ PatternsIn (now m) chunk patterns tracks ⌝ }
+    ensures { λ r. ⌜ (length (replaced (now (m .entry)) chunk (blocksAnew (now (m .entry)) tracks patterns (firstBlock Pattern chunk))) ≤ r) × (room < r → r ≡ length (replaced (now (m .entry)) chunk (blocksAnew (now (m .entry)) tracks patterns (firstBlock Pattern chunk)))) ⌝ }
+{
+    if m.len() <= room {
+        return m.len();
+    }
+    let anew = data_length(m, chunk, patterns, tracks);
+    m.len() - (chunk.length as usize) + anew
 }
 
 // Repacks a module that is accepted: 17.
@@ -134,13 +151,11 @@ fn repack_opened(m: &[u8], l: Layout, out: &mut [u8]) -> LengthAnswer
 {
     let p = l.places;
     let chunk = p.patt;
-    let anew = data_length(m, chunk, l.patterns, l.tracks);
-    let needed = m.len() - (chunk.length as usize) + anew;
+    let needed = room_needed(m, chunk, l.patterns, l.tracks, out.len());
     if out.len() < needed {
         return refused(refuse(Cause::Room, needed));
     }
-    write_module(m, chunk, l.patterns, l.tracks, anew, &mut out[..needed]);
-    written(needed)
+    written(write_module(m, chunk, l.patterns, l.tracks, out))
 }
 
 // Repacks a module: its own refusal, then 17.

@@ -3,7 +3,7 @@ use native.Mathlib.Omega.{arith}
 use mathlib.Core.Path.{refl}
 use Rattle.blocks.specs.Sizes.{sizeOf, placeAfter}
 use Rattle.blocks.specs.declared.Kind.the-variants.{Pattern}
-use Rattle.repack.proofs.PassingPatterns.{Counting, pattern-ready, patterns-from, counting-first, counting-turn, counting-small, counted-all}
+use Rattle.repack.proofs.PassingPatterns.{Counting, pattern-ready, patterns-from, counting-first, counting-turn, counting-small, counting-last, data-shorter}
 use Rattle.repack.proofs.data_length.Statement.{statement}
 use Rattle.repack.proofs.data_length.Tie as tie
 use Rattle.repack.proofs.data_length.Reads as reads
@@ -18,45 +18,45 @@ Inv-loop m patterns tracks at₀ length₀ left₀ at length left = Counting m t
 abbrev μ-loop : tie.MeasureT-loop
 μ-loop m patterns tracks at₀ length₀ left₀ at length left = left
 
--- src/lib.rt:63:9
+-- src/lib.rt:62:9
 block-at-requires : tie.Need-block-at-requires Inv-loop μ-loop
 block-at-requires c κs = search needs
 
--- src/lib.rt:66:5
+-- src/lib.rt:65:5
 loop-holds : tie.Need-loop-holds Inv-loop μ-loop
 loop-holds c = counting-first (patterns-from (c .before .before .args .chunk) (c .before .before .pre) (c .block-at .ensures .0))
 
--- src/lib.rt:67:27
+-- src/lib.rt:66:27
 block-length-requires : tie.Need-block-length-requires Inv-loop μ-loop
 block-length-requires c κs = let ready = pattern-ready (c .before .loop .left) (c .loop-test .taken) (c .before .loop .inv .rest) in (ready .0, ready .2)
 
--- src/lib.rt:67:18
+-- src/lib.rt:66:18
 add-length : tie.Need-add-length Inv-loop μ-loop
-add-length c = let small = counting-small (c .before .before .loop .inv) (c .before .loop-test .taken) (c .block-length .ensures .1) refl in omega (arith, small .0, c .before .before .loop .inv .rest .inside)
+add-length c = let small = counting-small (c .before .before .loop .inv) (c .before .loop-test .taken) (c .block-length .ensures) refl in omega (arith, small .0, data-shorter (c .before .before .before .before .before .args .chunk) (c .before .before .before .before .before .pre) (c .before .before .before .block-at .ensures .0))
 
--- src/lib.rt:68:19
+-- src/lib.rt:67:19
 size-requires : tie.Need-size-requires Inv-loop μ-loop
 size-requires c κs = search needs
 
--- src/lib.rt:68:14
+-- src/lib.rt:67:14
 add-at : tie.Need-add-at Inv-loop μ-loop
-add-at c = let small = counting-small (c .before .before .before .loop .inv) (c .before .before .loop-test .taken) (c .before .block-length .ensures .1) (c .size .ensures .0) in omega (arith, small .1, c .before .before .before .loop .inv .rest .inside)
+add-at c = let small = counting-small (c .before .before .before .loop .inv) (c .before .before .loop-test .taken) (c .before .block-length .ensures) (c .size .ensures .0) in omega (arith, small .1)
 
--- src/lib.rt:69:16
+-- src/lib.rt:68:16
 sub-left : tie.Need-sub-left Inv-loop μ-loop
 sub-left c = search needs
 
--- src/lib.rt:66:5
+-- src/lib.rt:65:5
 loop-less : tie.Need-loop-less Inv-loop μ-loop
 loop-less c = search needs
 
--- src/lib.rt:66:5
+-- src/lib.rt:65:5
 loop-again : tie.Need-loop-again Inv-loop μ-loop
 loop-again c = counting-turn (c .before .before .before .loop .inv) (c .before .before .loop-test .taken) (c .before .block-length .ensures) (c .size .ensures .0)
 
--- src/lib.rt:59:1
+-- src/lib.rt:58:1
 returns : tie.Need-returns Inv-loop μ-loop
-returns c = counted-all (c .before .before .before .before .args .chunk) (c .before .loop .inv) (c .before .before .before .before .pre) (c .before .before .block-at .ensures .0) (c .loop-test .left)
+returns c = counting-last (c .before .loop .inv) (c .before .before .before .before .args .chunk) (c .before .before .block-at .ensures .0) (c .loop-test .left)
 
 pub data-length-spec : {M : Type 1} → statement M
 data-length-spec =

@@ -1,9 +1,7 @@
 use borrow.Author.Needs.{needs}
-use native.Mathlib.Omega.{arith}
-use mathlib.Core.List.{[]}
-use Rattle.repack.proofs.Ends.{mid-end}
-use lib.ListN.{length-drop}
-use Rattle.repack.proofs.WritingBlock.{rows-fit, stream-fits, length-fits, last-fits, whole-length, even-block, filler-inside, odd-length, odd-block}
+use lib.ListN.{length-set}
+use mathlib.Core.Path.{_∙_}
+use Rattle.repack.proofs.WritingBlock.{block-long, rows-fit, even-block, odd-block}
 use Rattle.repack.proofs.write_block.Statement.{statement}
 use Rattle.repack.proofs.write_block.Tie as tie
 use Rattle.repack.proofs.write_block.Reads as reads
@@ -13,77 +11,77 @@ use Rattle.numbers.proofs.part.Reads as part-reads
 use Rattle.repack.proofs.put32.Reads as put32-reads
 use Rattle.repack.proofs.repack_stream.Reads as repack-stream-reads
 
--- src/lib.rt:90:17
+-- src/lib.rt:89:17
 part-requires : tie.Need-part-requires
 part-requires c κs = search needs
 
--- src/lib.rt:90:5
+-- src/lib.rt:89:5
 copy-requires : tie.Need-copy-requires
-copy-requires c κs = rows-fit (c .before .before .before .before .args .m .now) (c .before .before .before .before .args .tracks) (c .before .before .before .before .args .at) (c .before .before .before .before .pre .0) (c .before .before .before .before .pre .1) (c .before .before .before .before .args .out .now) (c .before .before .before .before .pre .2) (c .before .part .result .now) [] (c .before .part .ensures)
+copy-requires c κs = rows-fit (c .before .before .before .before .args .m .now) (c .before .before .before .before .args .tracks) (c .before .before .before .before .args .at) (c .before .before .before .before .pre .0) (c .before .before .before .before .pre .1) (c .before .before .before .before .args .out .now) (c .before .before .before .before .pre .2) (c .before .part .ensures)
 
--- src/lib.rt:91:42
+-- src/lib.rt:90:42
 sub-repack-stream : tie.Need-sub-repack-stream
-sub-repack-stream c = stream-fits (c .before .before .before .before .before .before .before .args .m .now) (c .before .before .before .before .before .before .before .args .tracks) (c .before .before .before .before .before .before .before .args .at) (c .before .before .before .before .before .before .before .pre .0) (c .before .before .before .before .before .before .before .pre .1) (c .before .before .before .before .before .before .before .args .out .now) (c .before .before .before .before .before .before .before .pre .2) (c .before .before .before .before .part .result .now) (c .before .before .copy .last .1 .0) (c .before .before .before .before .part .ensures) (c .before .before .copy .ensures .1)
+sub-repack-stream c = let long = block-long (c .before .before .before .before .before .before .before .args .m .now) (c .before .before .before .before .before .before .before .args .tracks) (c .before .before .before .before .before .before .before .args .at) (c .before .before .before .before .before .before .before .pre .0) (c .before .before .before .before .before .before .before .pre .1) in search needs
 
--- src/lib.rt:91:42
+-- src/lib.rt:90:42
 part-repack-stream-start : tie.Need-part-repack-stream-start
-part-repack-stream-start c = stream-fits (c .before .before .before .before .before .before .before .args .m .now) (c .before .before .before .before .before .before .before .args .tracks) (c .before .before .before .before .before .before .before .args .at) (c .before .before .before .before .before .before .before .pre .0) (c .before .before .before .before .before .before .before .pre .1) (c .before .before .before .before .before .before .before .args .out .now) (c .before .before .before .before .before .before .before .pre .2) (c .before .before .before .before .part .result .now) (c .before .before .copy .last .1 .0) (c .before .before .before .before .part .ensures) (c .before .before .copy .ensures .1)
+part-repack-stream-start c = let long = block-long (c .before .before .before .before .before .before .before .args .m .now) (c .before .before .before .before .before .before .before .args .tracks) (c .before .before .before .before .before .before .before .args .at) (c .before .before .before .before .before .before .before .pre .0) (c .before .before .before .before .before .before .before .pre .1) in search needs
 
--- src/lib.rt:91:42
+-- src/lib.rt:90:42
 part-repack-stream-end : tie.Need-part-repack-stream-end
 part-repack-stream-end c = search needs
 
--- src/lib.rt:91:9
+-- src/lib.rt:90:9
 repack-stream-requires : tie.Need-repack-stream-requires
 repack-stream-requires c κs = search needs
 
--- src/lib.rt:92:11
+-- src/lib.rt:91:11
 cast-put32 : tie.Need-cast-put32
 cast-put32 c = search needs
 
--- src/lib.rt:92:21
+-- src/lib.rt:91:21
 sub-put32 : tie.Need-sub-put32
-sub-put32 c = let fits = length-fits (c .before .before .before .before .before .before .before .before .before .before .before .args .m .now) (c .before .before .before .before .before .before .before .before .before .before .before .args .tracks) (c .before .before .before .before .before .before .before .before .before .before .before .args .at) (c .before .before .before .before .before .before .before .before .before .before .before .pre .0) (c .before .before .before .before .before .before .before .before .before .before .before .pre .1) (c .before .before .before .before .before .before .before .before .before .before .before .args .out .now) (c .before .before .before .before .before .before .before .before .before .before .before .pre .2) (c .before .before .before .before .before .before .before .before .part .result .now) (c .before .before .before .before .before .before .copy .last .1 .0) (c .before .before .before .before .before .before .before .before .part .ensures) (c .before .before .before .before .before .before .copy .ensures .1) (c .before .before .repack-stream .result) (c .before .before .repack-stream .last .1 .1 .1 .0) (c .before .before .repack-stream .ensures) in omega arith
+sub-put32 c = let long = block-long (c .before .before .before .before .before .before .before .before .before .before .before .args .m .now) (c .before .before .before .before .before .before .before .before .before .before .before .args .tracks) (c .before .before .before .before .before .before .before .before .before .before .before .args .at) (c .before .before .before .before .before .before .before .before .before .before .before .pre .0) (c .before .before .before .before .before .before .before .before .before .before .before .pre .1) in search needs
 
--- src/lib.rt:92:21
+-- src/lib.rt:91:21
 part-put32-start : tie.Need-part-put32-start
-part-put32-start c = let fits = length-fits (c .before .before .before .before .before .before .before .before .before .before .before .args .m .now) (c .before .before .before .before .before .before .before .before .before .before .before .args .tracks) (c .before .before .before .before .before .before .before .before .before .before .before .args .at) (c .before .before .before .before .before .before .before .before .before .before .before .pre .0) (c .before .before .before .before .before .before .before .before .before .before .before .pre .1) (c .before .before .before .before .before .before .before .before .before .before .before .args .out .now) (c .before .before .before .before .before .before .before .before .before .before .before .pre .2) (c .before .before .before .before .before .before .before .before .part .result .now) (c .before .before .before .before .before .before .copy .last .1 .0) (c .before .before .before .before .before .before .before .before .part .ensures) (c .before .before .before .before .before .before .copy .ensures .1) (c .before .before .repack-stream .result) (c .before .before .repack-stream .last .1 .1 .1 .0) (c .before .before .repack-stream .ensures) in omega arith
+part-put32-start c = let long = block-long (c .before .before .before .before .before .before .before .before .before .before .before .args .m .now) (c .before .before .before .before .before .before .before .before .before .before .before .args .tracks) (c .before .before .before .before .before .before .before .before .before .before .before .args .at) (c .before .before .before .before .before .before .before .before .before .before .before .pre .0) (c .before .before .before .before .before .before .before .before .before .before .before .pre .1) in search needs
 
--- src/lib.rt:92:21
+-- src/lib.rt:91:21
 part-put32-end : tie.Need-part-put32-end
 part-put32-end c = search needs
 
--- src/lib.rt:92:5
+-- src/lib.rt:91:5
 put32-requires : tie.Need-put32-requires
-put32-requires c κs = last-fits (c .before .before .before .before .before .before .before .before .before .before .before .before .args .m .now) (c .before .before .before .before .before .before .before .before .before .before .before .before .args .tracks) (c .before .before .before .before .before .before .before .before .before .before .before .before .args .at) (c .before .before .before .before .before .before .before .before .before .before .before .before .pre .0) (c .before .before .before .before .before .before .before .before .before .before .before .before .pre .1) (c .before .before .before .before .before .before .before .before .before .before .before .before .args .out .now) (c .before .before .before .before .before .before .before .before .before .before .before .before .pre .2) (c .before .before .before .before .before .before .before .before .before .part .result .now) (c .before .before .before .before .before .before .before .copy .last .1 .0) (c .before .before .before .before .before .before .before .before .before .part .ensures) (c .before .before .before .before .before .before .before .copy .ensures .1) (c .before .before .before .repack-stream .result) (c .before .before .before .repack-stream .last .1 .1 .1 .0) (c .before .before .before .repack-stream .ensures)
+put32-requires c κs = let long = block-long (c .before .before .before .before .before .before .before .before .before .before .before .before .args .m .now) (c .before .before .before .before .before .before .before .before .before .before .before .before .args .tracks) (c .before .before .before .before .before .before .before .before .before .before .before .before .args .at) (c .before .before .before .before .before .before .before .before .before .before .before .before .pre .0) (c .before .before .before .before .before .before .before .before .before .before .before .before .pre .1) in search needs
 
--- src/lib.rt:93:15
+-- src/lib.rt:92:15
 add-end : tie.Need-add-end
 add-end c = search needs
 
--- src/lib.rt:95:9
+-- src/lib.rt:94:9
 same-length : tie.Need-same-length
 same-length c = search needs
 
--- src/lib.rt:95:9
+-- src/lib.rt:94:9
 returns : tie.Need-returns
-returns c = even-block (c .before .before .before .before .before .before .before .before .before .before .before .before .before .before .before .before .args .m .now) (c .before .before .before .before .before .before .before .before .before .before .before .before .before .before .before .before .args .tracks) (c .before .before .before .before .before .before .before .before .before .before .before .before .before .before .before .before .args .at) (c .before .before .before .before .before .before .before .before .before .before .before .before .before .before .before .before .pre .0) (c .before .before .before .before .before .before .before .before .before .before .before .before .before .before .before .before .pre .1) (c .before .before .before .before .before .before .before .before .before .before .before .before .before .before .before .before .args .out .now) (c .before .before .before .before .before .before .before .before .before .before .before .before .before .before .before .before .pre .2) (c .before .before .before .before .before .before .before .before .before .before .before .before .before .part .result .now) (c .before .before .before .before .before .before .before .before .before .before .before .copy .last .1 .0) (c .before .before .before .before .before .before .before .before .before .before .before .before .before .part .ensures) (c .before .before .before .before .before .before .before .before .before .before .before .copy .ensures .1) (c .before .before .before .before .before .before .before .repack-stream .result) (c .before .before .before .before .before .before .before .repack-stream .last .1 .1 .1 .0) (c .before .before .before .before .before .before .before .repack-stream .ensures) (c .before .before .before .put32 .last .1 .0) (c .before .before .before .put32 .ensures) (c .if1 .taken)
+returns c = even-block (c .before .before .before .before .before .before .before .before .before .before .before .before .before .before .before .before .args .m .now) (c .before .before .before .before .before .before .before .before .before .before .before .before .before .before .before .before .args .tracks) (c .before .before .before .before .before .before .before .before .before .before .before .before .before .before .before .before .args .at) (c .before .before .before .before .before .before .before .before .before .before .before .before .before .before .before .before .pre .0) (c .before .before .before .before .before .before .before .before .before .before .before .before .before .before .before .before .pre .1) (c .before .before .before .before .before .before .before .before .before .before .before .before .before .before .before .before .args .out .now) (c .before .before .before .before .before .before .before .before .before .before .before .before .before .before .before .before .pre .2) (c .before .before .before .before .before .before .before .before .before .before .before .before .before .part .ensures) (c .before .before .before .before .before .before .before .before .before .before .before .copy .ensures .1) (c .before .before .before .before .before .before .before .repack-stream .ensures) (c .before .before .before .put32 .ensures) (c .if1 .taken)
+
+-- src/lib.rt:96:5
+slice-write-out : tie.Need-slice-write-out
+slice-write-out c = let long = block-long (c .before .before .before .before .before .before .before .before .before .before .before .before .before .before .before .before .args .m .now) (c .before .before .before .before .before .before .before .before .before .before .before .before .before .before .before .before .args .tracks) (c .before .before .before .before .before .before .before .before .before .before .before .before .before .before .before .before .args .at) (c .before .before .before .before .before .before .before .before .before .before .before .before .before .before .before .before .pre .0) (c .before .before .before .before .before .before .before .before .before .before .before .before .before .before .before .before .pre .1) in search needs
 
 -- src/lib.rt:97:5
-slice-write-out : tie.Need-slice-write-out
-slice-write-out c = filler-inside (c .before .before .before .before .before .before .before .before .before .before .before .before .before .before .before .before .args .m .now) (c .before .before .before .before .before .before .before .before .before .before .before .before .before .before .before .before .args .tracks) (c .before .before .before .before .before .before .before .before .before .before .before .before .before .before .before .before .args .at) (c .before .before .before .before .before .before .before .before .before .before .before .before .before .before .before .before .pre .0) (c .before .before .before .before .before .before .before .before .before .before .before .before .before .before .before .before .pre .1) (c .before .before .before .before .before .before .before .before .before .before .before .before .before .before .before .before .args .out .now) (c .before .before .before .before .before .before .before .before .before .before .before .before .before .before .before .before .pre .2) (c .before .before .before .before .before .before .before .before .before .before .before .before .before .part .result .now) (c .before .before .before .before .before .before .before .before .before .before .before .copy .last .1 .0) (c .before .before .before .before .before .before .before .before .before .before .before .before .before .part .ensures) (c .before .before .before .before .before .before .before .before .before .before .before .copy .ensures .1) (c .before .before .before .before .before .before .before .repack-stream .result) (c .before .before .before .before .before .before .before .repack-stream .last .1 .1 .1 .0) (c .before .before .before .before .before .before .before .repack-stream .ensures) (c .before .before .before .put32 .last .1 .0) (c .before .before .before .put32 .ensures) (c .if1 .left)
-
--- src/lib.rt:98:5
 add-result : tie.Need-add-result
 add-result c = search needs
 
--- src/lib.rt:86:1
+-- src/lib.rt:85:1
 same-length-2 : tie.Need-same-length-2
-same-length-2 c = odd-length (c .before .before .before .before .before .before .before .before .before .before .before .before .before .before .before .before .args .m .now) (c .before .before .before .before .before .before .before .before .before .before .before .before .before .before .before .before .args .tracks) (c .before .before .before .before .before .before .before .before .before .before .before .before .before .before .before .before .args .at) (c .before .before .before .before .before .before .before .before .before .before .before .before .before .before .before .before .pre .0) (c .before .before .before .before .before .before .before .before .before .before .before .before .before .before .before .before .pre .1) (c .before .before .before .before .before .before .before .before .before .before .before .before .before .before .before .before .args .out .now) (c .before .before .before .before .before .before .before .before .before .before .before .before .before .before .before .before .pre .2) (c .before .before .before .before .before .before .before .before .before .before .before .before .before .part .result .now) (c .before .before .before .before .before .before .before .before .before .before .before .copy .last .1 .0) (c .before .before .before .before .before .before .before .before .before .before .before .before .before .part .ensures) (c .before .before .before .before .before .before .before .before .before .before .before .copy .ensures .1) (c .before .before .before .before .before .before .before .repack-stream .result) (c .before .before .before .before .before .before .before .repack-stream .last .1 .1 .1 .0) (c .before .before .before .before .before .before .before .repack-stream .ensures) (c .before .before .before .put32 .last .1 .0) (c .before .before .before .put32 .ensures)
+same-length-2 c = simp length-set (c .before .before .out3 .given .1 ∙ c .before .before .before .before .before .before .out2 .given .1 ∙ c .before .before .before .before .before .before .before .before .before .before .out .given)
 
--- src/lib.rt:86:1
+-- src/lib.rt:85:1
 returns-2 : tie.Need-returns-2
-returns-2 c = odd-block (c .before .before .before .before .before .before .before .before .before .before .before .before .before .before .before .before .args .m .now) (c .before .before .before .before .before .before .before .before .before .before .before .before .before .before .before .before .args .tracks) (c .before .before .before .before .before .before .before .before .before .before .before .before .before .before .before .before .args .at) (c .before .before .before .before .before .before .before .before .before .before .before .before .before .before .before .before .pre .0) (c .before .before .before .before .before .before .before .before .before .before .before .before .before .before .before .before .pre .1) (c .before .before .before .before .before .before .before .before .before .before .before .before .before .before .before .before .args .out .now) (c .before .before .before .before .before .before .before .before .before .before .before .before .before .before .before .before .pre .2) (c .before .before .before .before .before .before .before .before .before .before .before .before .before .part .result .now) (c .before .before .before .before .before .before .before .before .before .before .before .copy .last .1 .0) (c .before .before .before .before .before .before .before .before .before .before .before .before .before .part .ensures) (c .before .before .before .before .before .before .before .before .before .before .before .copy .ensures .1) (c .before .before .before .before .before .before .before .repack-stream .result) (c .before .before .before .before .before .before .before .repack-stream .last .1 .1 .1 .0) (c .before .before .before .before .before .before .before .repack-stream .ensures) (c .before .before .before .put32 .last .1 .0) (c .before .before .before .put32 .ensures) (c .if1 .left)
+returns-2 c = odd-block (c .before .before .before .before .before .before .before .before .before .before .before .before .before .before .before .before .args .m .now) (c .before .before .before .before .before .before .before .before .before .before .before .before .before .before .before .before .args .tracks) (c .before .before .before .before .before .before .before .before .before .before .before .before .before .before .before .before .args .at) (c .before .before .before .before .before .before .before .before .before .before .before .before .before .before .before .before .pre .0) (c .before .before .before .before .before .before .before .before .before .before .before .before .before .before .before .before .pre .1) (c .before .before .before .before .before .before .before .before .before .before .before .before .before .before .before .before .args .out .now) (c .before .before .before .before .before .before .before .before .before .before .before .before .before .before .before .before .pre .2) (c .before .before .before .before .before .before .before .before .before .before .before .before .before .part .ensures) (c .before .before .before .before .before .before .before .before .before .before .before .copy .ensures .1) (c .before .before .before .before .before .before .before .repack-stream .ensures) (c .before .before .before .put32 .ensures) (c .if1 .left)
 
 pub write-block-spec : {M : Type 1} → statement M
 write-block-spec =

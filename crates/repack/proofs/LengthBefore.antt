@@ -1,0 +1,59 @@
+-- What is written behind the place of its length, and then its length, in 4 bytes, before it.
+use Prim.Native.Nat.{ℕ, _+_, _-_, _≤_}
+use mathlib.Core.Path.{_≡_, sym, ap, _∙_}
+use mathlib.Core.List.{List, _++_}
+use native.Mathlib.Omega.{arith}
+use lib.ListN.{length, take, drop, length-append, length-drop}
+use lib.Seq.{take-take, take-append-le, take-at, drop-at, drop-drop, length-take-le}
+use borrow.Rule.Slice.PartMut.{midOf, putMid}
+use Rattle.repack.specs.Repacked.{bytes32}
+use Rattle.repack.proofs.Ends.{mid-end, put-end}
+
+-- The output once it is written up to the place of the length.
+module _ (front out first : List ℕ) (a : ℕ) (size : length front ≡ a) (room : a + 4 ≤ length out) (e₁ : first ≡ front ++ drop a out) where
+  first-length : length first ≡ length out
+  first-length = omega (arith, ap length e₁, length-append front (drop a out), length-drop a out, size)
+
+  first-rest : drop (a + 4) first ≡ drop (a + 4) out
+  first-rest =
+      let behind : drop a first ≡ drop a out = rw e₁ (drop-at front (drop a out) a size) in
+      sym (drop-drop 4 a first) ∙ ap (drop 4) behind ∙ drop-drop 4 a out
+
+  -- The part that is lent behind the place of the length.
+  pub lent-length : length (midOf (a + 4) (length first - (a + 4)) first) ≡ length out - (a + 4)
+  lent-length = omega (arith, ap length (mid-end (a + 4) first), length-drop (a + 4) first, first-length)
+
+  four-more : length (take (a + 4) first) ≡ a + 4
+  four-more = length-take-le (a + 4) first (omega (arith, first-length))
+
+  -- Once what has the length is written there.
+  module _ (xs mid : List ℕ) (n : ℕ) (long : n ≡ length xs) (enough : a + 4 + n ≤ length out) (e₂ : mid ≡ xs ++ drop n (midOf (a + 4) (length first - (a + 4)) first)) where
+    abbrev second : List ℕ
+    second = putMid (a + 4) (length first - (a + 4)) first mid
+
+    second-is : second ≡ take (a + 4) first ++ (xs ++ drop (a + 4 + n) out)
+    second-is =
+        put-end (a + 4) first mid
+        ∙ ap (λ (rest : List ℕ). take (a + 4) first ++ rest) (e₂ ∙ ap (λ (rest : List ℕ). xs ++ drop n rest) (mid-end (a + 4) first ∙ first-rest) ∙ ap (λ (rest : List ℕ). xs ++ rest) (drop-drop n (a + 4) out))
+
+    behind-length : drop (a + 4) second ≡ xs ++ drop (a + 4 + n) out
+    behind-length = ap (drop (a + 4)) second-is ∙ drop-at (take (a + 4) first) (xs ++ drop (a + 4 + n) out) (a + 4) four-more
+
+    front-stays : take a second ≡ front
+    front-stays =
+        ap (take a) second-is
+        ∙ take-append-le a (take (a + 4) first) (xs ++ drop (a + 4 + n) out) (omega (arith, four-more))
+        ∙ take-take a (a + 4) first (omega arith)
+        ∙ ap (take a) e₁
+        ∙ take-at front (drop a out) a size
+
+    -- Once the length is written.
+    module _ (last : List ℕ) (e₃ : last ≡ bytes32 n ++ drop 4 (midOf a (length second - a) second)) where
+      abbrev third : List ℕ
+      third = putMid a (length second - a) second last
+
+      pub third-is : third ≡ front ++ (bytes32 n ++ (xs ++ drop (a + 4 + n) out))
+      third-is =
+          put-end a second last
+          ∙ ap (λ (l : List ℕ). l ++ last) front-stays
+          ∙ ap (λ (rest : List ℕ). front ++ rest) (e₃ ∙ ap (λ (rest : List ℕ). bytes32 n ++ drop 4 rest) (mid-end a second) ∙ ap (λ (rest : List ℕ). bytes32 n ++ rest) (drop-drop 4 a second ∙ behind-length))
