@@ -5,16 +5,16 @@ use mathlib.Core.Path.{_≡_, refl, sym, ap, _∙_}
 use mathlib.Core.List.{List, _++_}
 use mathlib.Core.Bool.{Bool, true, false, cond}
 use native.Mathlib.Omega.{arith}
-use lib.ListN.{length, drop, replicate, length-append, length-drop, length-take, length-replicate}
+use lib.ListN.{length, drop, replicate, length-append, length-take, length-replicate}
 use lib.Dec.{ltb}
 use borrow.Author.Tests.{le-ltb}
 use Rattle.refusal.specs.Numbers.{refusal}
 use Rattle.refusal.specs.declared.Cause.the-variants.{Room}
 use Rattle.refusal.specs.declared.Verdict.the-variants.{Accepted}
-use Rattle.cells.specs.Cells.{sizesFit, Row, rowsOf}
+use Rattle.cells.specs.Cells.{sizesFit, rowsOf}
 use Rattle.packed_rows.specs.Entries.{rowsFrom}
-use Rattle.packed_rows.specs.Stream.{Reading, readStream, entriesRead, cellsRead, AcceptedAs}
-use Rattle.packed_rows.specs.Packer.{packedStream, packedLength}
+use Rattle.packed_rows.specs.Stream.{Reading, readStream, entriesRead, cellsRead}
+use Rattle.packed_rows.specs.Packer.{packedLength}
 use Rattle.packed_rows.specs.Answers.{verdictOf, packedIf, repackAnswer, repackOutput}
 use Rattle.packed_rows.specs.declared.Packing.{Packing}
 use Rattle.packed_rows.specs.declared.Packing.the-variants.{Packed, Refused}
@@ -29,7 +29,7 @@ use Rattle.module.specs.Streams.{packedBytes, streamVerdict}
 use Rattle.grammar.proofs.Locating.{part-length}
 use Rattle.grammar.proofs.BlockStreams.{accepted-sizes}
 use Rattle.grammar.proofs.FoundPatterns.{holds}
-use Rattle.repack.specs.Repacked.{bytes32, packed, repackedStream, repackedBlock}
+use Rattle.repack.specs.Repacked.{packed, repackedStream, repackedBlock}
 
 -- A stream with its length and its filler.
 pub packed-size : (stream : List ℕ) → length (packed stream) ≡ 4 + length stream + length stream % 2

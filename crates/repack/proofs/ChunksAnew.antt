@@ -15,16 +15,16 @@ use Rattle.layout.specs.declared.Place.{Place}
 use Rattle.layout.specs.declared.Layout.{Layout}
 use Rattle.blocks.specs.Filling.{dataEnd}
 use Rattle.grammar.specs.Rules.{Every, none, also, ChunkBytes, Among, Covered, pattLetters, ChunkRules}
-use Rattle.grammar.proofs.Standing.{Stands, Found, LayoutOf}
+use Rattle.grammar.proofs.Standing.{Found}
 use Rattle.grammar.proofs.Locating.{PartAt, part-is}
 use Rattle.grammar.proofs.Holding.{every-append, every-first, every-rest}
 use Rattle.grammar.proofs.Cutting.{part-first, part-rest}
 use Rattle.grammar.proofs.Identifiers.{chunk-named}
-use Rattle.grammar.proofs.Recorded.{recorded, recordsFrom, joined-append, There, among-front, among-behind}
+use Rattle.grammar.proofs.Recorded.{recordsFrom, joined-append, There, among-front, among-behind}
 use Rattle.grammar.proofs.Chunking.{read-whole}
 use Rattle.grammar.proofs.Turns.{fits-turn}
 use Rattle.grammar.proofs.ChunkHalf.{chunks-part, bytes-split}
-use Rattle.repack.specs.Repacked.{bytes32, repackedPatterns, repackedChunk, chunksRead, repackedModule}
+use Rattle.repack.specs.Repacked.{bytes32, repackedPatterns, repackedChunk, repackedModule}
 use Rattle.repack.specs.Steps.{replaced}
 
 -- PATT with other data, and a chunk of a module of which PATT gets them.

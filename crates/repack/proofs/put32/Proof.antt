@@ -1,5 +1,5 @@
 use borrow.Author.Needs.{needs}
-use lib.ListN.{length, length-set}
+use lib.ListN.{length-set}
 use lib.Seq.{sets-eq, lt-length-set}
 use mathlib.Core.List.{[], _∷_}
 use native.Mathlib.Omega.{arith}
