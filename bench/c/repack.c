@@ -1,8 +1,9 @@
 /*
  * Repacking a whole module, once as plain and once as expert C.
  *
- * The module is checked. One pass over the patterns counts how long they become,
- * another one writes them; each takes a pattern row by row, in memory for one
+ * The module is checked. Where the output is shorter than the module, one pass
+ * over the patterns counts how long they become; they never become longer.
+ * Another pass writes them. Each takes a pattern row by row, in memory for one
  * row. All else is copied, in one piece before PATT's length and one behind its
  * data.
  *
@@ -55,10 +56,13 @@ INLINE size_t patterns_length(
     return length;
 }
 
-/* The output ends at `out_end`. */
-INLINE void write_patterns(
+/*
+ * Behind the patterns `rest` bytes will be copied, and bytes up to `out_end`
+ * may be overwritten anyway. Returns where the patterns end.
+ */
+INLINE uint8_t *write_patterns(
     const layout *found, row_load *load, row_write *write,
-    uint8_t *out, const uint8_t *out_end)
+    uint8_t *out, size_t rest, const uint8_t *out_end)
 {
     uint8_t row[ROW_BYTES];
     const uint8_t *at = found->chunks[PATT].data;
@@ -72,7 +76,7 @@ INLINE void write_patterns(
         memcpy(out, at, 2);
         for (; rows > 0; rows--) {
             entry = load(entry, end, found->tracks, row);
-            to = write(row, found->tracks, to, out_end);
+            to = write(row, found->tracks, to, out_end - to < (ptrdiff_t)rest ? to + rest : out_end);
         }
         store_4(out + 2, (uint32_t)(to - stream));
         if ((to - stream) % 2 != 0)
@@ -80,6 +84,7 @@ INLINE void write_patterns(
         out = to;
         at = end + packed % 2;
     }
+    return out;
 }
 
 /* 17 of a module that was accepted. */
@@ -89,17 +94,21 @@ INLINE baseline_answer repack(
 {
     const uint8_t *module = found->module;
     chunk patt = found->chunks[PATT];
-    size_t data = patterns_length(found, load, packed_length);
-    size_t needed = length - patt.length + data;
-    if (out_length < needed)
-        return too_short(needed);
     size_t start = (size_t)(patt.data - module);
     size_t behind = start + patt.length;
+    size_t rest = length - behind;
+    const uint8_t *out_end = out;
+    if (out_length < length) {
+        size_t needed = start + patterns_length(found, load, packed_length) + rest;
+        if (out_length < needed)
+            return too_short(needed);
+        out_end = out + needed;
+    }
     memcpy(out, module, start - 4);
-    store_4(out + start - 4, (uint32_t)data);
-    write_patterns(found, load, write, out + start, out + needed);
-    memcpy(out + start + data, module + behind, length - behind);
-    return written(needed);
+    uint8_t *data_end = write_patterns(found, load, write, out + start, rest, out_end);
+    store_4(out + start - 4, (uint32_t)(data_end - (out + start)));
+    memcpy(data_end, module + behind, rest);
+    return written((size_t)(data_end - out) + rest);
 }
 
 INLINE const uint8_t *plain_row(
