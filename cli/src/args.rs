@@ -1,0 +1,231 @@
+//! The arguments: what is to be done.
+
+use std::ffi::{OsStr, OsString};
+
+use crate::cells::Asked;
+use crate::fault::Fault;
+use crate::help::{self, Topic};
+use crate::input::STANDARD;
+use crate::names;
+
+/// What is to be done.
+pub enum Command {
+    Help(Topic),
+    Version,
+    Check { files: Vec<OsString> },
+    Report { file: OsString, json: bool },
+    Cells { file: OsString, asked: Asked },
+    Repack { from: OsString, to: OsString },
+}
+
+/// Numbers from the first to the last; with no last one, to the end.
+#[derive(Clone, Copy)]
+pub struct Range {
+    pub first: usize,
+    pub last: Option<usize>,
+}
+
+pub fn parse(arguments: Vec<OsString>) -> Result<Command, Fault> {
+    let mut arguments = arguments.into_iter();
+    let Some(command) = arguments.next() else {
+        return Err(Topic::Program.fault("no command is named"));
+    };
+    let rest: Vec<OsString> = arguments.collect();
+    match command.to_str() {
+        Some("--help" | "-h") => Ok(Command::Help(Topic::Program)),
+        Some("help") => help(&rest),
+        Some("--version" | "-V") => Ok(Command::Version),
+        Some("check") => check(rest),
+        Some("report") => report(rest),
+        Some("cells") => cells(rest),
+        Some("repack") => repack(rest),
+        _ => Err(Topic::Program.fault(format!("there is no command '{}'", names::file(&command)))),
+    }
+}
+
+/// `dbm0 help`, `dbm0 help check`.
+fn help(rest: &[OsString]) -> Result<Command, Fault> {
+    match rest {
+        [] => Ok(Command::Help(Topic::Program)),
+        [command] => match command.to_str().and_then(help::topic) {
+            Some(topic) => Ok(Command::Help(topic)),
+            None => {
+                Err(Topic::Program.fault(format!("there is no command '{}'", names::file(command))))
+            }
+        },
+        _ => Err(Topic::Program.fault("help takes one command")),
+    }
+}
+
+/// The arguments of a command, sorted: names and numbers, and options with the value that they have.
+struct Sorted {
+    plain: Vec<OsString>,
+    options: Vec<(&'static str, OsString)>,
+    help: bool,
+}
+
+/// The options that a command takes, and whether each has a value behind it.
+type Options = &'static [(&'static str, bool)];
+
+impl Sorted {
+    fn new(topic: Topic, arguments: Vec<OsString>, known: Options) -> Result<Sorted, Fault> {
+        let mut sorted = Sorted {
+            plain: Vec::new(),
+            options: Vec::new(),
+            help: false,
+        };
+        let mut arguments = arguments.into_iter();
+        while let Some(argument) = arguments.next() {
+            if argument == "--" {
+                sorted.plain.extend(arguments);
+                break;
+            } else if argument == "--help" || argument == "-h" {
+                sorted.help = true;
+            } else if argument != STANDARD && argument.as_encoded_bytes().starts_with(b"-") {
+                sorted.option(topic, &argument, &mut arguments, known)?;
+            } else {
+                sorted.plain.push(argument);
+            }
+        }
+        Ok(sorted)
+    }
+
+    /// `--rows 0-15`, `--rows=0-15`, `--json`.
+    fn option(
+        &mut self,
+        topic: Topic,
+        argument: &OsStr,
+        rest: &mut impl Iterator<Item = OsString>,
+        known: Options,
+    ) -> Result<(), Fault> {
+        let text = argument.to_str().unwrap_or_default();
+        let (given, joined) = match text.split_once('=') {
+            Some((given, value)) => (given, Some(OsString::from(value))),
+            None => (text, None),
+        };
+        let Some(&(option, has_value)) = known.iter().find(|(option, _)| *option == given) else {
+            return Err(topic.fault(format!(
+                "there is no option '{}' (a file of that name is './{0}')",
+                names::file(argument)
+            )));
+        };
+        if self.options.iter().any(|(already, _)| *already == option) {
+            return Err(topic.fault(format!("{option} stands twice")));
+        }
+        let value = match (has_value, joined) {
+            (true, Some(value)) => value,
+            (true, None) => rest
+                .next()
+                .ok_or_else(|| topic.fault(format!("{option} needs a value")))?,
+            (false, Some(_)) => return Err(topic.fault(format!("{option} takes no value"))),
+            (false, None) => OsString::new(),
+        };
+        self.options.push((option, value));
+        Ok(())
+    }
+
+    fn value(&self, option: &str) -> Option<&OsStr> {
+        let found = self.options.iter().find(|(given, _)| *given == option);
+        found.map(|(_, value)| value.as_os_str())
+    }
+}
+
+fn check(arguments: Vec<OsString>) -> Result<Command, Fault> {
+    let sorted = Sorted::new(Topic::Check, arguments, &[])?;
+    if sorted.help {
+        return Ok(Command::Help(Topic::Check));
+    }
+    let files = sorted.plain;
+    if files.is_empty() {
+        return Err(Topic::Check.fault("no file is named"));
+    }
+    if files.iter().filter(|file| *file == STANDARD).count() > 1 {
+        return Err(Topic::Check.fault("standard input can be read only once"));
+    }
+    Ok(Command::Check { files })
+}
+
+fn report(arguments: Vec<OsString>) -> Result<Command, Fault> {
+    let sorted = Sorted::new(Topic::Report, arguments, &[("--json", false)])?;
+    if sorted.help {
+        return Ok(Command::Help(Topic::Report));
+    }
+    let json = sorted.value("--json").is_some();
+    match <[OsString; 1]>::try_from(sorted.plain) {
+        Ok([file]) => Ok(Command::Report { file, json }),
+        Err(_) => Err(Topic::Report.fault("report takes one file")),
+    }
+}
+
+fn cells(arguments: Vec<OsString>) -> Result<Command, Fault> {
+    let known = &[("--rows", true), ("--tracks", true)];
+    let sorted = Sorted::new(Topic::Cells, arguments, known)?;
+    if sorted.help {
+        return Ok(Command::Help(Topic::Cells));
+    }
+    let rows = range(&sorted, "--rows")?;
+    let tracks = range(&sorted, "--tracks")?;
+    let Ok([file, pattern]) = <[OsString; 2]>::try_from(sorted.plain) else {
+        return Err(Topic::Cells.fault("cells takes one file and the number of a pattern"));
+    };
+    let Some(pattern) = pattern.to_str().and_then(number) else {
+        return Err(Topic::Cells.fault(format!(
+            "'{}' is not the number of a pattern",
+            names::file(&pattern)
+        )));
+    };
+    let asked = Asked {
+        pattern,
+        rows,
+        tracks,
+    };
+    Ok(Command::Cells { file, asked })
+}
+
+fn repack(arguments: Vec<OsString>) -> Result<Command, Fault> {
+    let sorted = Sorted::new(Topic::Repack, arguments, &[])?;
+    if sorted.help {
+        return Ok(Command::Help(Topic::Repack));
+    }
+    match <[OsString; 2]>::try_from(sorted.plain) {
+        Ok([from, to]) => Ok(Command::Repack { from, to }),
+        Err(_) => Err(Topic::Repack.fault("repack takes two files, IN and OUT")),
+    }
+}
+
+/// The value of an option that is a range: `4`, `4-7` or `4-`.
+fn range(sorted: &Sorted, option: &str) -> Result<Option<Range>, Fault> {
+    let Some(value) = sorted.value(option) else {
+        return Ok(None);
+    };
+    match value.to_str().and_then(read_range) {
+        Some(range) => Ok(Some(range)),
+        None => Err(Topic::Cells.fault(format!(
+            "'{}' is no range for {option}: write 4, 4-7 or 4-",
+            names::file(value)
+        ))),
+    }
+}
+
+fn read_range(text: &str) -> Option<Range> {
+    let (first, last) = match text.split_once('-') {
+        None => {
+            let only = number(text)?;
+            (only, Some(only))
+        }
+        Some((first, "")) => (number(first)?, None),
+        Some((first, last)) => (number(first)?, Some(number(last)?)),
+    };
+    match last {
+        Some(last) if last < first => None,
+        _ => Some(Range { first, last }),
+    }
+}
+
+/// Decimal digits and nothing else.
+fn number(text: &str) -> Option<usize> {
+    match text.bytes().all(|byte| byte.is_ascii_digit()) {
+        true => text.parse().ok(),
+        false => None,
+    }
+}

@@ -1,0 +1,538 @@
+//! The words of a refusal: which song, instrument, envelope, pattern or sample the fault lies in, and what is wrong with it.
+//!
+//! Number and place are the library's and proved; the words are not. They come from looking at the bytes around the place, since a
+//! refused module cannot be queried. Whatever the bytes are, this decides nothing and changes neither number nor place; where it does
+//! not find what it looks for, it says less: then the words are those of the number alone.
+
+use crate::library::{self, Refusal};
+use crate::names::quoted;
+use crate::reader::{self, Block, Blocks, Chunk, Name};
+
+/// A line: `refused 14 at 540: ` and the words.
+pub fn line(module: &[u8], refusal: Refusal) -> String {
+    let Refusal { number, place } = refusal;
+    format!("refused {number} at {place}: {}", words(module, refusal))
+}
+
+/// What is known of a refusal, or at least what its number means.
+fn words(module: &[u8], refusal: Refusal) -> String {
+    particular(module, refusal).unwrap_or_else(|| general(refusal.number).to_string())
+}
+
+/// What each number means.
+fn general(number: u64) -> &'static str {
+    match number {
+        1 => "the module has more than 16777216 bytes",
+        2 => "this is no DBM0 module",
+        3 => "the version or the revision is not a known one",
+        4 => "a chunk is cut",
+        5 => "a chunk's identifier is not four letters A to Z",
+        6 => "a chunk stands a second time",
+        7 => "a chunk stands before INFO",
+        8 => "a chunk that must be there is missing",
+        9 => "NAME or INFO has the wrong length",
+        10 => "a number of INFO is out of range",
+        11 => "the blocks do not fill their chunk, or a sample's flags are wrong",
+        12 => "a pattern, sample or instrument that is named does not exist",
+        13 => "a field is out of range",
+        14 => "a loop is outside its sample",
+        15 => "the packed rows of a pattern are broken",
+        16 => "rows or tracks are out of range",
+        17 => "the output is too short",
+        18 => "there is no such thing in the module",
+        _ => "the library refuses it",
+    }
+}
+
+fn particular(module: &[u8], refusal: Refusal) -> Option<String> {
+    let place = usize::try_from(refusal.place).ok()?;
+    match refusal.number {
+        2 => beginning(module),
+        3 => version(module),
+        4 => cut(module, place),
+        5 => letters(module, place),
+        6 => repeated(module, place),
+        7 => before_info(module, place),
+        8 => missing(module),
+        9 => wrong_length(module, place),
+        10 => info(module, place),
+        11 => unfilled(module, place),
+        12 | 13 => field(module, place),
+        14 => outside(module, place),
+        15 => broken(module, place),
+        _ => None,
+    }
+}
+
+/// 2.
+fn beginning(module: &[u8]) -> Option<String> {
+    Some(match module.get(..8) {
+        None => format!(
+            "this is no DBM0 module: it has {}, and the header alone has 8",
+            many(module.len() as u64, "byte")
+        ),
+        Some(header) => format!(
+            "this is no DBM0 module: it begins with {}, not with \"DBM0\"",
+            all_bytes(header.get(..4)?)
+        ),
+    })
+}
+
+/// 3.
+fn version(module: &[u8]) -> Option<String> {
+    let (version, revision) = (*module.get(4)?, *module.get(5)?);
+    Some(if version != 2 && version != 3 {
+        format!("version {version:x} is not a known one: it must be 2 or 3")
+    } else {
+        format!("revision {revision:02x} is not two decimal digits")
+    })
+}
+
+/// 4.
+fn cut(module: &[u8], place: usize) -> Option<String> {
+    let left = module.get(place..)?.len();
+    if left < reader::HEADER {
+        return Some(format!(
+            "the header of a chunk is cut: {} left, it has 8",
+            are(left as u64, "byte")
+        ));
+    }
+    let name = reader::identifier(module, place)?;
+    let length = reader::number(module, place + 4, 4)?;
+    Some(format!(
+        "chunk {} is cut: it has {length} bytes of data, and {} left",
+        shown(&name),
+        are((left - reader::HEADER) as u64, "byte")
+    ))
+}
+
+/// 5.
+fn letters(module: &[u8], place: usize) -> Option<String> {
+    let name = module.get(place..place.checked_add(4)?)?;
+    Some(format!(
+        "the chunk's identifier {} is not four letters A to Z",
+        all_bytes(name)
+    ))
+}
+
+/// 6.
+fn repeated(module: &[u8], place: usize) -> Option<String> {
+    let name = reader::identifier(module, place)?;
+    let first = reader::find(module, &name)?.place;
+    Some(format!(
+        "chunk {} stands a second time, the first is at {first}",
+        shown(&name)
+    ))
+}
+
+/// 7.
+fn before_info(module: &[u8], place: usize) -> Option<String> {
+    let name = reader::identifier(module, place)?;
+    Some(format!("chunk {} stands before INFO", shown(&name)))
+}
+
+/// 8.
+fn missing(module: &[u8]) -> Option<String> {
+    let missing: Vec<String> = [b"INFO", b"SONG", b"INST", b"PATT", b"SMPL"]
+        .into_iter()
+        .filter(|name| reader::find(module, name).is_none())
+        .map(shown)
+        .collect();
+    match missing.as_slice() {
+        [] => None,
+        [one] => Some(format!("chunk {one} is missing")),
+        [some @ .., last] => Some(format!(
+            "the chunks {} and {last} are missing",
+            some.join(", ")
+        )),
+    }
+}
+
+/// 9.
+fn wrong_length(module: &[u8], place: usize) -> Option<String> {
+    let name = reader::identifier(module, place)?;
+    let length = reader::number(module, place.checked_add(4)?, 4)?;
+    let due = match &name {
+        b"NAME" => 44,
+        b"INFO" => 10,
+        _ => return None,
+    };
+    Some(format!(
+        "chunk {} has {}, it must have {due}",
+        shown(&name),
+        many(length, "byte")
+    ))
+}
+
+/// 10.
+fn info(module: &[u8], place: usize) -> Option<String> {
+    let chunk = reader::find(module, b"INFO")?;
+    let value = reader::number(module, place, 2)?;
+    let (what, range) = match place.checked_sub(chunk.data_place())? {
+        0 => ("instruments", "0 to 255"),
+        2 => ("samples", "0 to 255"),
+        4 => ("songs", "0 to 32767"),
+        6 => ("patterns", "0 to 1024"),
+        8 => ("tracks", "an even number from 4 to 254"),
+        _ => return None,
+    };
+    Some(format!("INFO says {value} {what}, it must be {range}"))
+}
+
+/// 11: the first block that does not fit, the first sample with other flags, or how much is left over.
+fn unfilled(module: &[u8], place: usize) -> Option<String> {
+    let chunk = reader::chunks(module).find(|chunk| chunk.place == place)?;
+    let kind = Blocks::of(&chunk.name)?;
+    let counts = reader::counts(module)?;
+    let name = shown(&chunk.name);
+    let Some(count) = kind.count(&counts, chunk.data) else {
+        let length = many(chunk.data.len() as u64, "byte");
+        return Some(format!(
+            "chunk {name} has {length}, too few for the number of its envelopes"
+        ));
+    };
+    let mut whole = 0;
+    let mut end = kind.first();
+    for block in reader::blocks(kind, chunk.data, count) {
+        if let Some(flags) = other_flags(kind, block.bytes) {
+            let sample = block_name(module, kind, &block);
+            return Some(format!(
+                "{sample}: flags {flags} are not 1, 2 or 4 (8, 16 or 32 bits)"
+            ));
+        }
+        whole = block.index + 1;
+        end = block.place + block.bytes.len();
+    }
+    let left = chunk.data.get(end..)?;
+    if whole == count {
+        return Some(format!(
+            "chunk {name} has {} more than its {} need",
+            many(left.len() as u64, "byte"),
+            many(count, noun(kind))
+        ));
+    }
+    let begun = Block {
+        index: whole,
+        place: end,
+        bytes: left,
+    };
+    if let Some(flags) = other_flags(kind, left) {
+        let sample = block_name(module, kind, &begun);
+        return Some(format!(
+            "{sample}: flags {flags} are not 1, 2 or 4 (8, 16 or 32 bits)"
+        ));
+    }
+    let of_count = format!("chunk {name} should hold {}", many(count, noun(kind)));
+    let bytes = are(left.len() as u64, "byte");
+    Some(match kind.length(left) {
+        Some(length) => format!(
+            "{of_count}: {} needs {length} bytes, and {bytes} left",
+            block_name(module, kind, &begun)
+        ),
+        None => format!(
+            "{of_count}: of {} only {bytes} left",
+            numbered_noun(kind, whole)
+        ),
+    })
+}
+
+/// The flags of a sample, where they are none that a sample has.
+fn other_flags(kind: Blocks, bytes: &[u8]) -> Option<u64> {
+    let flags = reader::number(bytes, 0, 4)?;
+    (kind == Blocks::Samples && ![1, 2, 4].contains(&flags)).then_some(flags)
+}
+
+/// 12 and 13: the field at this place.
+fn field(module: &[u8], place: usize) -> Option<String> {
+    let (kind, block) = block_at(module, place)?;
+    let counts = reader::counts(module)?;
+    let what = match kind {
+        Blocks::Songs => entry(&counts, &block, place),
+        Blocks::Instruments => instrument_field(&counts, &block, place),
+        Blocks::VolumeEnvelopes | Blocks::PanningEnvelopes => {
+            envelope_field(module, kind, &counts, &block, place)
+        }
+        Blocks::Patterns | Blocks::Samples => None,
+    }?;
+    Some(format!("{}: {what}", block_name(module, kind, &block)))
+}
+
+/// The block in which this place lies. Here a block's place is that in the module.
+fn block_at(module: &[u8], place: usize) -> Option<(Blocks, Block<'_>)> {
+    let chunk = reader::chunks(module).find(|chunk| within(chunk, place))?;
+    let kind = Blocks::of(&chunk.name)?;
+    let count = kind.count(&reader::counts(module)?, chunk.data)?;
+    let offset = place - chunk.data_place();
+    let block = reader::blocks(kind, chunk.data, count)
+        .find(|block| (block.place..block.place + block.bytes.len()).contains(&offset))?;
+    let place = chunk.data_place() + block.place;
+    Some((kind, Block { place, ..block }))
+}
+
+fn within(chunk: &Chunk, place: usize) -> bool {
+    let start = chunk.data_place();
+    (start..start + chunk.data.len()).contains(&place)
+}
+
+/// 12 in a song.
+fn entry(counts: &reader::Counts, song: &Block, place: usize) -> Option<String> {
+    let offset = (place - song.place).checked_sub(46)?;
+    let pattern = reader::number(song.bytes, 46 + offset, 2)?;
+    Some(format!(
+        "entry {} of its playlist is pattern {pattern}, {}",
+        offset / 2,
+        there_are(counts.patterns, "pattern", 0)
+    ))
+}
+
+/// 12 and 13 in an instrument.
+fn instrument_field(counts: &reader::Counts, block: &Block, place: usize) -> Option<String> {
+    let offset = place - block.place;
+    let value = reader::number(block.bytes, offset, 2)?;
+    Some(match offset {
+        30 => format!(
+            "its sample is {value}, {}",
+            there_are(counts.samples, "sample", 1)
+        ),
+        32 => format!("its volume is {value}, it must be 0 to 64"),
+        46 => format!(
+            "its panning is {}, it must be -128 to 128",
+            reader::signed(block.bytes, offset)?
+        ),
+        48 => format!("its flags are {value}, only bits 0 and 1 may be set"),
+        _ => return None,
+    })
+}
+
+/// 12 and 13 in an envelope.
+fn envelope_field(
+    module: &[u8],
+    kind: Blocks,
+    counts: &reader::Counts,
+    block: &Block,
+    place: usize,
+) -> Option<String> {
+    let offset = place - block.place;
+    let byte = u64::from(*block.bytes.get(offset)?);
+    let sections = u64::from(*block.bytes.get(3)?);
+    Some(match offset {
+        0 => format!(
+            "its instrument is {}, {}",
+            reader::number(block.bytes, 0, 2)?,
+            there_are(counts.instruments, "instrument", 1)
+        ),
+        2 => format!("its flags are {byte}, only bits 0 to 3 may be set"),
+        3 => format!("it has {byte} sections, 31 at most may be"),
+        4 => point("first sustain", byte, sections),
+        5 => point("loop's first", byte, sections),
+        6 if byte <= sections => format!(
+            "its loop goes from point {} back to point {byte}",
+            block.bytes.get(5)?
+        ),
+        6 => point("loop's last", byte, sections),
+        7 => point("second sustain", byte, sections),
+        8.. => value(module, kind, block, offset)?,
+        _ => return None,
+    })
+}
+
+fn point(which: &str, point: u64, sections: u64) -> String {
+    format!("its {which} point is {point}, it has points 0 to {sections}")
+}
+
+/// 13 at a value of an envelope: points have four bytes, two of them the value.
+fn value(module: &[u8], kind: Blocks, block: &Block, offset: usize) -> Option<String> {
+    let index = (offset - 8) / 4;
+    let stored = reader::number(block.bytes, offset, 2)?;
+    let signed = reader::signed(block.bytes, offset)?;
+    let version = *module.get(4)?;
+    Some(if kind == Blocks::PanningEnvelopes && version != 2 {
+        format!("the value of its point {index} is {signed}, it must be -128 to 128")
+    } else {
+        format!("the value of its point {index} is {stored}, it must be 0 to 64")
+    })
+}
+
+/// 14: the instrument's loop, and how long its sample is.
+fn outside(module: &[u8], place: usize) -> Option<String> {
+    let (kind, block) = block_at(module, place)?;
+    if kind != Blocks::Instruments || block.place != place {
+        return None;
+    }
+    let sample = reader::number(block.bytes, 30, 2)?;
+    let start = reader::number(block.bytes, 38, 4)?;
+    let length = reader::number(block.bytes, 42, 4)?;
+    let name = block_name(module, kind, &block);
+    let Some(index) = sample.checked_sub(1) else {
+        return Some(format!("{name}: loop {start} + {length}, but no sample"));
+    };
+    let samples = reader::find(module, b"SMPL")?;
+    let count = reader::counts(module)?.samples;
+    let of_sample = reader::blocks(Blocks::Samples, samples.data, count)
+        .find(|block| block.index == index)
+        .and_then(|block| reader::number(block.bytes, 4, 4))?;
+    Some(format!(
+        "{name}: loop {start} + {length} is outside its sample {sample} ({})",
+        many(of_sample, "frame")
+    ))
+}
+
+/// 15: the pattern, and what the check of its stream alone says: the row, the place in the stream, and the fault there.
+fn broken(module: &[u8], place: usize) -> Option<String> {
+    let (kind, block) = block_at(module, place)?;
+    if kind != Blocks::Patterns || block.place != place {
+        return None;
+    }
+    let rows = reader::number(block.bytes, 0, 2)?;
+    let packed = usize::try_from(reader::number(block.bytes, 2, 4)?).ok()?;
+    let stream = block.bytes.get(6..)?.get(..packed)?;
+    let tracks = reader::counts(module)?.tracks;
+    let name = format!("pattern {} ({})", block.index, many(rows, "row"));
+    let Err(refusal) = library::check_pattern(stream, rows, tracks) else {
+        return Some(format!("{name}: its packed rows are broken"));
+    };
+    let at = usize::try_from(refusal.place).ok()?;
+    let Some(fault) = stream_fault(stream, rows, tracks, at) else {
+        return Some(format!("{name}: its packed rows are broken at {at}"));
+    };
+    Some(format!(
+        "{name}: {fault} (at {at} of its {packed} packed bytes)"
+    ))
+}
+
+/// What is wrong at this place of a stream, where the library says that it breaks. All before the place is sound.
+fn stream_fault(stream: &[u8], rows: u64, tracks: u64, at: usize) -> Option<String> {
+    let row = row_ends_before(stream, at)?;
+    let left = (stream.len() as u64).checked_sub(at as u64)?;
+    if left == 0 {
+        return Some(format!("its packed rows end before row {row} does"));
+    }
+    if row == rows {
+        return Some(format!(
+            "{} left over after its last row",
+            are(left, "byte")
+        ));
+    }
+    let track = u64::from(*stream.get(at)?);
+    let fault = if track > tracks {
+        format!("is about track {track}, there are {tracks}")
+    } else {
+        match stream.get(at.checked_add(1)?) {
+            Some(mask) if mask & 0xC0 != 0 => {
+                format!("for track {track} has the mask {mask:02x}, bits 6 and 7 must be 0")
+            }
+            _ => format!("for track {track} is cut by the end"),
+        }
+    };
+    Some(format!("an entry of row {row} {fault}"))
+}
+
+/// How many rows end before this place. None: no entry or row end begins just there.
+fn row_ends_before(stream: &[u8], at: usize) -> Option<u64> {
+    let mut place = 0;
+    let mut rows = 0;
+    while place < at {
+        if *stream.get(place)? == 0 {
+            rows += 1;
+            place += 1;
+        } else {
+            let mask = *stream.get(place + 1)?;
+            place += 2 + mask.count_ones() as usize;
+        }
+    }
+    (place == at).then_some(rows)
+}
+
+/// A block by its number and its name: instruments and samples are counted from 1, all else from 0. An envelope has no name, but its
+/// instrument has.
+fn block_name(module: &[u8], kind: Blocks, block: &Block) -> String {
+    let title = numbered_noun(kind, block.index);
+    match kind {
+        Blocks::Songs => with_name(title, block.bytes.get(..44)),
+        Blocks::Instruments => with_name(title, block.bytes.get(..30)),
+        Blocks::VolumeEnvelopes | Blocks::PanningEnvelopes => {
+            match instrument_of(module, block.bytes) {
+                Some(instrument) => format!("{title} (of {instrument})"),
+                None => title,
+            }
+        }
+        Blocks::Patterns | Blocks::Samples => title,
+    }
+}
+
+fn with_name(title: String, name: Option<&[u8]>) -> String {
+    match name {
+        Some(name) => format!("{title} {}", quoted(name)),
+        None => title,
+    }
+}
+
+/// The instrument of an envelope, by number and name.
+fn instrument_of(module: &[u8], envelope: &[u8]) -> Option<String> {
+    let index = reader::number(envelope, 0, 2)?.checked_sub(1)?;
+    let chunk = reader::find(module, b"INST")?;
+    let count = reader::counts(module)?.instruments;
+    let block = reader::blocks(Blocks::Instruments, chunk.data, count)
+        .find(|block| block.index == index)?;
+    Some(block_name(module, Blocks::Instruments, &block))
+}
+
+/// `song 0`, `instrument 1`.
+fn numbered_noun(kind: Blocks, index: u64) -> String {
+    let first = match kind {
+        Blocks::Instruments | Blocks::Samples => 1,
+        _ => 0,
+    };
+    format!("{} {}", noun(kind), index + first)
+}
+
+fn noun(kind: Blocks) -> &'static str {
+    match kind {
+        Blocks::Songs => "song",
+        Blocks::Instruments => "instrument",
+        Blocks::Patterns => "pattern",
+        Blocks::Samples => "sample",
+        Blocks::VolumeEnvelopes => "volume envelope",
+        Blocks::PanningEnvelopes => "panning envelope",
+    }
+}
+
+/// `1 byte`, `2 bytes`.
+fn many(count: u64, noun: &str) -> String {
+    match count {
+        1 => format!("1 {noun}"),
+        _ => format!("{count} {noun}s"),
+    }
+}
+
+/// `1 byte is`, `2 bytes are`.
+fn are(count: u64, noun: &str) -> String {
+    match count {
+        1 => format!("1 {noun} is"),
+        _ => format!("{} are", many(count, noun)),
+    }
+}
+
+/// What there is, counted from 0 or 1.
+fn there_are(count: u64, noun: &str, first: u64) -> String {
+    match count {
+        0 => format!("there are no {noun}s"),
+        1 => format!("there is only {noun} {first}"),
+        _ => format!("there are {noun}s {first} to {}", count - 1 + first),
+    }
+}
+
+/// An identifier as it stands, where it is letters.
+fn shown(name: &Name) -> String {
+    match name.iter().all(u8::is_ascii_uppercase) {
+        true => String::from_utf8_lossy(name).into_owned(),
+        false => all_bytes(name),
+    }
+}
+
+/// Bytes between quotes, with the zeros at the end.
+fn all_bytes(bytes: &[u8]) -> String {
+    let zeros = bytes.iter().rev().take_while(|&&byte| byte == 0).count();
+    let text = crate::names::escaped(bytes);
+    format!("\"{text}{}\"", "\\x00".repeat(zeros))
+}

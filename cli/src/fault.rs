@@ -1,0 +1,74 @@
+//! Why a command ends early: one line for standard error, and the exit status.
+
+use std::ffi::OsStr;
+use std::io::{self, ErrorKind, Write};
+
+use crate::explain;
+use crate::library::Refusal;
+use crate::names;
+
+/// The exit statuses.
+pub const FINE: u8 = 0;
+pub const REFUSED: u8 = 1;
+pub const FAILED: u8 = 2;
+
+pub struct Fault {
+    pub status: u8,
+    line: String,
+}
+
+impl Fault {
+    /// The arguments are wrong.
+    pub fn usage(what: impl AsRef<str>, help: &str) -> Fault {
+        Fault {
+            status: FAILED,
+            line: format!("dbm0: {}: see '{help}'", what.as_ref()),
+        }
+    }
+
+    /// Something could not be done; the line ends with what to do about it.
+    pub fn failed(what: String) -> Fault {
+        Fault {
+            status: FAILED,
+            line: format!("dbm0: {what}"),
+        }
+    }
+
+    /// The library refuses the module: the line is the one that `check` prints.
+    pub fn refused(file: &OsStr, module: &[u8], refusal: Refusal) -> Fault {
+        Fault {
+            status: REFUSED,
+            line: refused_line(file, module, refusal),
+        }
+    }
+
+    /// Prints the line. Where that fails, nobody is there to be told.
+    pub fn tell(&self) {
+        let _ = writeln!(io::stderr(), "{}", self.line);
+    }
+}
+
+/// `FILE: refused 14 at 540: ..`.
+pub fn refused_line(file: &OsStr, module: &[u8], refusal: Refusal) -> String {
+    let words = explain::line(module, refusal);
+    format!("{}: {words}", names::file(file))
+}
+
+/// What an error of the system says, without its number.
+pub fn reason(error: &io::Error) -> String {
+    let text = error.to_string();
+    match text.split_once(" (os error") {
+        Some((words, _)) => words.to_string(),
+        None => text,
+    }
+}
+
+/// What to do about a file that cannot be read.
+pub fn advice(error: &io::Error) -> &'static str {
+    match error.kind() {
+        ErrorKind::NotFound => "check its name",
+        ErrorKind::PermissionDenied => "ask for the right to read it",
+        ErrorKind::IsADirectory => "name the files in it",
+        _ => "check the name and the disk, and try again",
+    }
+}

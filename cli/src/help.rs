@@ -1,0 +1,133 @@
+//! What `--help` prints.
+
+use crate::fault::Fault;
+
+/// What help is about.
+#[derive(Clone, Copy)]
+pub enum Topic {
+    Program,
+    Check,
+    Report,
+    Cells,
+    Repack,
+}
+
+/// The command of this name.
+pub fn topic(command: &str) -> Option<Topic> {
+    match command {
+        "check" => Some(Topic::Check),
+        "report" => Some(Topic::Report),
+        "cells" => Some(Topic::Cells),
+        "repack" => Some(Topic::Repack),
+        _ => None,
+    }
+}
+
+impl Topic {
+    /// Wrong arguments, with where to read on.
+    pub fn fault(self, what: impl AsRef<str>) -> Fault {
+        let help = match self {
+            Topic::Program => "dbm0 --help",
+            Topic::Check => "dbm0 check --help",
+            Topic::Report => "dbm0 report --help",
+            Topic::Cells => "dbm0 cells --help",
+            Topic::Repack => "dbm0 repack --help",
+        };
+        Fault::usage(what, help)
+    }
+
+    pub fn text(self) -> &'static str {
+        match self {
+            Topic::Program => PROGRAM,
+            Topic::Check => CHECK,
+            Topic::Report => REPORT,
+            Topic::Cells => CELLS,
+            Topic::Repack => REPACK,
+        }
+    }
+}
+
+const PROGRAM: &str = "\
+dbm0: checks, reports, shows and repacks DBM0 modules of up to 16777216 bytes
+
+usage:
+  dbm0 check FILE..             say of each file whether it is accepted, or why it is refused
+  dbm0 report [--json] FILE     print what goes into the register
+  dbm0 cells FILE PATTERN       print a pattern as trackers show it
+  dbm0 repack IN OUT            write the module with its patterns packed as short as they can be
+  dbm0 COMMAND --help           say more about a command
+  dbm0 --version                print the version
+
+A FILE of - is standard input, an OUT of - is standard output; a file that is named so is ./-.
+Behind -- all arguments are files, also those that begin with -.
+
+exit status:
+  0  all is well
+  1  a module is refused
+  2  a file cannot be read or written, or the arguments are wrong
+";
+
+const CHECK: &str = "\
+usage: dbm0 check FILE..
+
+Prints one line for each file:
+  FILE: accepted
+  FILE: refused 14 at 540: instrument 2 \"organ\": loop 16 + 48 is outside its sample 2 (40 frames)
+Number and place are those of docs/FORMAT.md; the words say what is wrong there. - is standard input.
+
+exit status:
+  0  all files are accepted
+  1  one is refused
+  2  one cannot be read (the others are checked), or the arguments are wrong
+";
+
+const REPORT: &str = "\
+usage: dbm0 report [--json] FILE
+
+Prints what goes into the register: version, name, counts; then the songs with their playlists, the instruments with
+sample, volume, panning, rate and loop (start + length), the patterns with their rows, the samples with their width,
+frames and bytes, and the envelopes with their points (position:value). - is standard input.
+
+Songs, patterns and envelopes are counted from 0, instruments and samples from 1. A name is printed without the zeros
+at its end; what is not printable ASCII, and \" and \\, is printed as \\xHH.
+
+  --json  the same as JSON, with every field; docs/CLI.md has the schema
+
+exit status:
+  0  the report is printed
+  1  the module is refused; the line that check prints is on standard error
+  2  the file cannot be read, or the arguments are wrong
+";
+
+const CELLS: &str = "\
+usage: dbm0 cells FILE PATTERN [--rows RANGE] [--tracks RANGE]
+
+Prints a pattern, counted from 0: a line for each row, and in it a cell for each track, such as 'G-4 01 000 F70'. That
+is the note, the instrument and two commands, each with its parameter; all numbers of a cell are hexadecimal.
+  ---    no note
+  ===    key off
+  ?5F    an unknown note, with its byte
+A command is one digit, 0 to 9 and then A to Z; one above Z is printed as its byte in brackets. - is standard input.
+
+  --rows RANGE    only these rows, counted from 0
+  --tracks RANGE  only these tracks, counted from 1
+A RANGE is 4, or 4-7, or 4- for all from 4 on.
+
+exit status:
+  0  the cells are printed
+  1  the module is refused; the line that check prints is on standard error
+  2  there is no such pattern, row or track, the file cannot be read, or the arguments are wrong
+";
+
+const REPACK: &str = "\
+usage: dbm0 repack IN OUT
+
+Writes the module of IN to OUT with its patterns packed as short as they can be; all else stays byte for byte. Says how
+many bytes were saved. IN and OUT may be the same file. OUT is written as a whole or not at all: what stood there
+stays until the new file is complete. - is standard input for IN and standard output for OUT.
+
+exit status:
+  0  OUT is written
+  1  the module is refused and nothing is written; the line that check prints is on standard error
+  2  IN cannot be read, OUT cannot be written (it is as it was), or the arguments are wrong
+";

@@ -1,0 +1,315 @@
+//! The proved library: libdbm0.a (include/dbm0.h) and libpattern.a (include/dbm0_pattern.h), made safe. All that is unsafe in this
+//! program stands here.
+
+#![allow(unsafe_code)]
+
+/// The most bytes that a module may have. The library refuses longer ones; the program only needs to know how much to read.
+pub const MOST_BYTES: usize = 16_777_216;
+
+/// The number of the refusal for an output that is shorter than needed. Its place is the needed length.
+const OUTPUT_TOO_SHORT: u64 = 17;
+
+/// What the library refused, and where.
+#[derive(Clone, Copy, Debug, PartialEq, Eq)]
+pub struct Refusal {
+    pub number: u64,
+    pub place: u64,
+}
+
+/// The answer of a call that shows a record, which is all zeros on a refusal. In C each record has its own struct, with number and
+/// place before its fields; no field needs more alignment than these two, so the layout is the same.
+#[repr(C)]
+struct Told<Record> {
+    number: u64,
+    place: u64,
+    record: Record,
+}
+
+impl<Record> Told<Record> {
+    fn result(self) -> Result<Record, Refusal> {
+        match self.number {
+            0 => Ok(self.record),
+            number => Err(Refusal {
+                number,
+                place: self.place,
+            }),
+        }
+    }
+}
+
+/// The answer of the check of a module.
+#[repr(C)]
+struct Verdict {
+    number: u64,
+    place: u64,
+}
+
+/// The length that a call has written. The check of a stream has it too, and leaves it 0.
+type Length = u64;
+
+#[repr(C)]
+#[derive(Clone, Copy)]
+pub struct Version {
+    pub version: u8,
+    pub revision: u8,
+}
+
+/// How many there are of each. The names are those of INFO's fields, in their order.
+#[repr(C)]
+#[derive(Clone, Copy)]
+pub struct Info {
+    pub instruments: u16,
+    pub samples: u16,
+    pub songs: u16,
+    pub patterns: u16,
+    pub tracks: u16,
+}
+
+#[repr(C)]
+#[derive(Clone, Copy)]
+pub struct Song {
+    pub name: [u8; 44],
+    pub length: u16,
+}
+
+#[repr(C)]
+#[derive(Clone, Copy)]
+pub struct Instrument {
+    pub name: [u8; 30],
+    pub sample: u16,
+    pub volume: u16,
+    pub panning: i16,
+    pub flags: u16,
+    pub rate: u32,
+    pub loop_start: u32,
+    pub loop_length: u32,
+}
+
+/// The points in use are sections + 1; the others are zeros.
+#[repr(C)]
+#[derive(Clone, Copy)]
+pub struct Envelope {
+    pub instrument: u16,
+    pub flags: u8,
+    pub sections: u8,
+    pub first_sustain: u8,
+    pub loop_first: u8,
+    pub loop_last: u8,
+    pub second_sustain: u8,
+    pub positions: [u16; 32],
+    pub values: [i32; 32],
+}
+
+/// The kinds of a cell's note.
+pub const NOTE_NONE: u8 = 0;
+pub const NOTE_KEY_OFF: u8 = 1;
+pub const NOTE_PITCH: u8 = 2;
+
+/// The kind of the note is one of the three above, or 3 for an unknown one.
+#[repr(C)]
+#[derive(Clone, Copy)]
+pub struct Cell {
+    pub kind: u8,
+    pub octave: u8,
+    pub semitone: u8,
+    pub unknown: u8,
+    pub instrument: u8,
+    pub command1: u8,
+    pub parameter1: u8,
+    pub command2: u8,
+    pub parameter2: u8,
+}
+
+#[repr(C)]
+#[derive(Clone, Copy)]
+pub struct Sample {
+    pub width: u8,
+    pub frames: u32,
+}
+
+/// Where the frames of a sample stand in the module, and how many bytes they have.
+#[repr(C)]
+#[derive(Clone, Copy)]
+pub struct Frames {
+    pub offset: u64,
+    pub length: u64,
+}
+
+/// The two kinds of envelopes.
+#[derive(Clone, Copy, Debug, PartialEq, Eq)]
+pub enum Kind {
+    Volume,
+    Panning,
+}
+
+extern "C" {
+    fn dbm0_check_module(module: *const u8, length: usize) -> Verdict;
+    fn dbm0_version(module: *const u8, length: usize) -> Told<Version>;
+    fn dbm0_name(module: *const u8, length: usize) -> Told<[u8; 44]>;
+    fn dbm0_info(module: *const u8, length: usize) -> Told<Info>;
+    fn dbm0_song(module: *const u8, length: usize, song: usize) -> Told<Song>;
+    fn dbm0_playlist(
+        module: *const u8,
+        length: usize,
+        song: usize,
+        out: *mut u8,
+        out_length: usize,
+    ) -> Told<Length>;
+    fn dbm0_instrument(module: *const u8, length: usize, instrument: usize) -> Told<Instrument>;
+    fn dbm0_volume_envelopes(module: *const u8, length: usize) -> Told<u16>;
+    fn dbm0_panning_envelopes(module: *const u8, length: usize) -> Told<u16>;
+    fn dbm0_volume_envelope(module: *const u8, length: usize, envelope: usize) -> Told<Envelope>;
+    fn dbm0_panning_envelope(module: *const u8, length: usize, envelope: usize) -> Told<Envelope>;
+    fn dbm0_rows(module: *const u8, length: usize, pattern: usize) -> Told<u16>;
+    fn dbm0_cell(
+        module: *const u8,
+        length: usize,
+        pattern: usize,
+        row: usize,
+        track: usize,
+    ) -> Told<Cell>;
+    fn dbm0_cells(
+        module: *const u8,
+        length: usize,
+        pattern: usize,
+        out: *mut u8,
+        out_length: usize,
+    ) -> Told<Length>;
+    fn dbm0_sample(module: *const u8, length: usize, sample: usize) -> Told<Sample>;
+    fn dbm0_frames(module: *const u8, length: usize, sample: usize) -> Told<Frames>;
+    fn dbm0_repack(
+        module: *const u8,
+        length: usize,
+        out: *mut u8,
+        out_length: usize,
+    ) -> Told<Length>;
+    fn dbm0_check_pattern(stream: *const u8, length: usize, rows: u64, tracks: u64)
+        -> Told<Length>;
+}
+
+// All calls below are sound for the same reasons: a pointer and a length are those of a slice that lives through the call, a lent
+// `&mut` slice overlaps no other, and the answers are laid out as the headers say.
+
+pub fn check(module: &[u8]) -> Result<(), Refusal> {
+    let Verdict { number, place } = unsafe { dbm0_check_module(module.as_ptr(), module.len()) };
+    match number {
+        0 => Ok(()),
+        number => Err(Refusal { number, place }),
+    }
+}
+
+pub fn version(module: &[u8]) -> Result<Version, Refusal> {
+    unsafe { dbm0_version(module.as_ptr(), module.len()) }.result()
+}
+
+pub fn name(module: &[u8]) -> Result<[u8; 44], Refusal> {
+    unsafe { dbm0_name(module.as_ptr(), module.len()) }.result()
+}
+
+pub fn info(module: &[u8]) -> Result<Info, Refusal> {
+    unsafe { dbm0_info(module.as_ptr(), module.len()) }.result()
+}
+
+/// A song, counted from 0.
+pub fn song(module: &[u8], song: usize) -> Result<Song, Refusal> {
+    unsafe { dbm0_song(module.as_ptr(), module.len(), song) }.result()
+}
+
+/// All entries of a song, which are expected to be so many, 2 bytes each.
+pub fn playlist(module: &[u8], song: usize, expected: u16) -> Result<Vec<u8>, Refusal> {
+    filled(2 * usize::from(expected), |out| {
+        let (start, length) = (out.as_mut_ptr(), out.len());
+        unsafe { dbm0_playlist(module.as_ptr(), module.len(), song, start, length) }
+    })
+}
+
+/// An instrument, counted from 1.
+pub fn instrument(module: &[u8], instrument: usize) -> Result<Instrument, Refusal> {
+    unsafe { dbm0_instrument(module.as_ptr(), module.len(), instrument) }.result()
+}
+
+/// How many envelopes of a kind there are.
+pub fn envelopes(module: &[u8], kind: Kind) -> Result<u16, Refusal> {
+    let call = match kind {
+        Kind::Volume => dbm0_volume_envelopes,
+        Kind::Panning => dbm0_panning_envelopes,
+    };
+    unsafe { call(module.as_ptr(), module.len()) }.result()
+}
+
+/// An envelope of a kind, counted from 0.
+pub fn envelope(module: &[u8], kind: Kind, envelope: usize) -> Result<Envelope, Refusal> {
+    let call = match kind {
+        Kind::Volume => dbm0_volume_envelope,
+        Kind::Panning => dbm0_panning_envelope,
+    };
+    unsafe { call(module.as_ptr(), module.len(), envelope) }.result()
+}
+
+/// The rows of a pattern, counted from 0.
+pub fn rows(module: &[u8], pattern: usize) -> Result<u16, Refusal> {
+    unsafe { dbm0_rows(module.as_ptr(), module.len(), pattern) }.result()
+}
+
+/// A cell: pattern and row counted from 0, track from 1.
+pub fn cell(module: &[u8], pattern: usize, row: usize, track: usize) -> Result<Cell, Refusal> {
+    unsafe { dbm0_cell(module.as_ptr(), module.len(), pattern, row, track) }.result()
+}
+
+/// All cells of a pattern, which are expected to be so many, six bytes each.
+pub fn cells(module: &[u8], pattern: usize, expected: usize) -> Result<Vec<u8>, Refusal> {
+    filled(6 * expected, |out| {
+        let (start, length) = (out.as_mut_ptr(), out.len());
+        unsafe { dbm0_cells(module.as_ptr(), module.len(), pattern, start, length) }
+    })
+}
+
+/// A sample, counted from 1.
+pub fn sample(module: &[u8], sample: usize) -> Result<Sample, Refusal> {
+    unsafe { dbm0_sample(module.as_ptr(), module.len(), sample) }.result()
+}
+
+/// The frames of a sample, counted from 1.
+pub fn frames(module: &[u8], sample: usize) -> Result<Frames, Refusal> {
+    unsafe { dbm0_frames(module.as_ptr(), module.len(), sample) }.result()
+}
+
+/// The module repacked. It is never longer than the module, so that is the room to begin with.
+pub fn repack(module: &[u8]) -> Result<Vec<u8>, Refusal> {
+    filled(module.len(), |out| {
+        let (start, length) = (out.as_mut_ptr(), out.len());
+        unsafe { dbm0_repack(module.as_ptr(), module.len(), start, length) }
+    })
+}
+
+/// The check of a packed stream.
+pub fn check_pattern(stream: &[u8], rows: u64, tracks: u64) -> Result<(), Refusal> {
+    unsafe { dbm0_check_pattern(stream.as_ptr(), stream.len(), rows, tracks) }
+        .result()
+        .map(drop)
+}
+
+/// What a call writes into an output of so much room, or, where it says that this is too short, of the length that it asks for.
+fn filled(room: usize, call: impl Fn(&mut [u8]) -> Told<Length>) -> Result<Vec<u8>, Refusal> {
+    let mut out = vec![0; room];
+    let mut answer = call(&mut out);
+    if answer.number == OUTPUT_TOO_SHORT {
+        out = vec![0; answer.place as usize];
+        answer = call(&mut out);
+    }
+    let written = answer.result()?;
+    out.truncate(written as usize);
+    Ok(out)
+}
+
+/// A file that grows past the limit of the process ends the process by a signal, unless that is ignored; then the write fails like
+/// on a full disk, and the program can clean up and say so.
+pub fn ignore_file_size_signal() {
+    const SIGXFSZ: i32 = 25;
+    const SIG_IGN: usize = 1;
+    extern "C" {
+        fn signal(number: i32, handler: usize) -> usize;
+    }
+    // The numbers are those of Linux on x86-64, which is all that the archives are for. No handler runs.
+    unsafe { signal(SIGXFSZ, SIG_IGN) };
+}

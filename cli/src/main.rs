@@ -1,0 +1,57 @@
+//! The inspector's command line: checks, reports, shows and repacks DBM0 modules.
+//!
+//! All that decides is the proved library (library.rs). The rest reads files, calls it, finds words and prints.
+
+#![deny(unsafe_code)]
+
+mod args;
+mod cells;
+mod check;
+mod explain;
+mod fault;
+mod help;
+mod input;
+mod json;
+mod library;
+mod names;
+mod output;
+mod reader;
+mod records;
+mod repack;
+mod report;
+mod small;
+
+use std::process::ExitCode;
+
+use args::Command;
+use fault::{Fault, FINE};
+use output::Output;
+
+fn main() -> ExitCode {
+    library::ignore_file_size_signal();
+    let mut out = Output::new();
+    let status = run(&mut out).unwrap_or_else(|fault| {
+        fault.tell();
+        fault.status
+    });
+    ExitCode::from(status)
+}
+
+fn run(out: &mut Output) -> Result<u8, Fault> {
+    let status = match args::parse(std::env::args_os().skip(1).collect())? {
+        Command::Help(topic) => {
+            out.text(topic.text())?;
+            FINE
+        }
+        Command::Version => {
+            out.line(concat!("dbm0 ", env!("CARGO_PKG_VERSION")))?;
+            FINE
+        }
+        Command::Check { files } => check::run(&files, out)?,
+        Command::Report { file, json } => report::run(&file, json, out)?,
+        Command::Cells { file, asked } => cells::run(&file, &asked, out)?,
+        Command::Repack { from, to } => repack::run(&from, &to, out)?,
+    };
+    out.flush()?;
+    Ok(status)
+}

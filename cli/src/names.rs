@@ -1,0 +1,63 @@
+//! Bytes and file names as they are printed.
+
+use std::ffi::OsStr;
+use std::fmt::Write;
+use std::os::unix::ffi::OsStrExt;
+
+/// A name of a module, which is bytes, between quotes. The zeros at its end are padding and not printed. Printable ASCII is printed as
+/// it is, but for the quote and the backslash; these and all other bytes are printed as \xHH.
+pub fn quoted(name: &[u8]) -> String {
+    format!("\"{}\"", escaped(name))
+}
+
+/// The same without the quotes.
+pub fn escaped(name: &[u8]) -> String {
+    let end = name
+        .iter()
+        .rposition(|&byte| byte != 0)
+        .map_or(0, |last| last + 1);
+    let mut text = String::new();
+    for &byte in &name[..end] {
+        match byte {
+            b'"' | b'\\' => push_hex(&mut text, byte),
+            0x20..=0x7E => text.push(char::from(byte)),
+            _ => push_hex(&mut text, byte),
+        }
+    }
+    text
+}
+
+/// All bytes, two hexadecimal digits each.
+pub fn hex(bytes: &[u8]) -> String {
+    let mut text = String::new();
+    for byte in bytes {
+        let _ = write!(text, "{byte:02x}");
+    }
+    text
+}
+
+/// The name of a file: as it was given, but for what could not stand in one line of text. Control characters, backslashes and bytes
+/// that are not UTF-8 are printed as \xHH.
+pub fn file(name: &OsStr) -> String {
+    let mut text = String::new();
+    for part in name.as_bytes().utf8_chunks() {
+        for character in part.valid().chars() {
+            if character.is_control() || character == '\\' {
+                let mut bytes = [0; 4];
+                for &byte in character.encode_utf8(&mut bytes).as_bytes() {
+                    push_hex(&mut text, byte);
+                }
+            } else {
+                text.push(character);
+            }
+        }
+        for &byte in part.invalid() {
+            push_hex(&mut text, byte);
+        }
+    }
+    text
+}
+
+fn push_hex(text: &mut String, byte: u8) {
+    let _ = write!(text, "\\x{byte:02x}");
+}
