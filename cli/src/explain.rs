@@ -100,8 +100,9 @@ fn cut(module: &[u8], place: usize) -> Option<String> {
     let name = reader::identifier(module, place)?;
     let length = reader::number(module, place + 4, 4)?;
     Some(format!(
-        "chunk {} is cut: it has {length} bytes of data, and {} left",
+        "chunk {} is cut: it should have {}, and {} left",
         shown(&name),
+        many(length, "byte"),
         are((left - reader::HEADER) as u64, "byte")
     ))
 }
@@ -206,7 +207,7 @@ fn unfilled(module: &[u8], place: usize) -> Option<String> {
     let left = chunk.data.get(end..)?;
     if whole == count {
         return Some(format!(
-            "chunk {name} has {} more than its {} need",
+            "chunk {name} has {} left over behind its {}",
             many(left.len() as u64, "byte"),
             many(count, noun(kind))
         ));
@@ -535,4 +536,46 @@ fn all_bytes(bytes: &[u8]) -> String {
     let zeros = bytes.iter().rev().take_while(|&&byte| byte == 0).count();
     let text = crate::names::escaped(bytes);
     format!("\"{text}{}\"", "\\x00".repeat(zeros))
+}
+
+#[cfg(test)]
+mod tests {
+    use super::line;
+    use crate::library::Refusal;
+    use reference::generate::{damage, module, Most, Random};
+
+    /// Whatever number and place it is asked about, it finds words, and they stand in one line.
+    fn has_words(module: &[u8], number: u64, place: u64) {
+        let line = line(module, Refusal { number, place });
+        let begins = format!("refused {number} at {place}: ");
+        assert!(line.starts_with(&begins) && line.len() > begins.len());
+        assert!(line.bytes().all(|byte| (b' '..=b'~').contains(&byte)));
+    }
+
+    /// Also where number and place have nothing to do with the module, which the library never gives.
+    #[test]
+    fn any_number_and_any_place() {
+        for seed in 1..=300 {
+            let mut random = Random::new(seed);
+            let mut draft = module(&mut random, &Most::SMALL);
+            damage(&mut random, &mut draft);
+            let mut module = draft.bytes();
+            if seed % 3 == 0 {
+                module.truncate(random.below(module.len() as u64 + 1) as usize);
+            }
+            let length = module.len() as u64;
+            for number in 0..=20 {
+                for place in (0..length.min(64)).chain([length - length.min(1), length, length + 1])
+                {
+                    has_words(&module, number, place);
+                }
+                for _ in 0..40 {
+                    has_words(&module, number, random.below(length + 2));
+                }
+                for place in [u64::MAX, u64::MAX - 8, 1 << 32, 1 << 63] {
+                    has_words(&module, number, place);
+                }
+            }
+        }
+    }
 }

@@ -3,6 +3,7 @@
 use std::ffi::OsStr;
 use std::fs::File;
 use std::io::{self, Read};
+use std::os::fd::AsFd;
 
 use crate::fault::{advice, reason, Fault};
 use crate::library::MOST_BYTES;
@@ -14,7 +15,9 @@ pub const STANDARD: &str = "-";
 /// The bytes of a file; of a longer one than a module may be only as many as the library needs to refuse it.
 pub fn read(file: &OsStr) -> Result<Vec<u8>, Fault> {
     let read = if file == STANDARD {
-        up_to_limit(io::stdin().lock(), 0)
+        // As a file: that of the standard library would take one that cannot be read for an empty one.
+        let opened = io::stdin().as_fd().try_clone_to_owned();
+        opened.and_then(|opened| up_to_limit(File::from(opened), 0))
     } else {
         File::open(file).and_then(|opened| {
             let length = opened.metadata().map_or(0, |about| about.len());

@@ -29,15 +29,15 @@ use output::Output;
 
 fn main() -> ExitCode {
     library::ignore_file_size_signal();
-    let mut out = Output::new();
-    let status = run(&mut out).unwrap_or_else(|fault| {
+    let status = run().unwrap_or_else(|fault| {
         fault.tell();
         fault.status
     });
     ExitCode::from(status)
 }
 
-fn run(out: &mut Output) -> Result<u8, Fault> {
+fn run() -> Result<u8, Fault> {
+    let out = &mut Output::new()?;
     let status = match args::parse(std::env::args_os().skip(1).collect())? {
         Command::Help(topic) => {
             out.text(topic.text())?;

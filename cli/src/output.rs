@@ -3,21 +3,26 @@
 //! Where its reader has gone (a closed pipe), nothing more is printed and nothing is said about it. Any other error, a full disk for
 //! one, is a fault.
 
-use std::io::{self, BufWriter, ErrorKind, StdoutLock, Write};
+use std::fs::File;
+use std::io::{self, BufWriter, ErrorKind, Write};
+use std::os::fd::AsFd;
 
 use crate::fault::{reason, Fault};
 
 pub struct Output {
-    to: BufWriter<StdoutLock<'static>>,
+    to: BufWriter<File>,
     closed: bool,
 }
 
 impl Output {
-    pub fn new() -> Output {
-        Output {
-            to: BufWriter::with_capacity(1 << 16, io::stdout().lock()),
+    /// Standard output as a file: that of the standard library would not tell of one that cannot be written to.
+    pub fn new() -> Result<Output, Fault> {
+        let opened = io::stdout().as_fd().try_clone_to_owned();
+        let file = File::from(opened.map_err(|error| not_written(&error))?);
+        Ok(Output {
+            to: BufWriter::with_capacity(1 << 16, file),
             closed: false,
-        }
+        })
     }
 
     /// Whether nobody reads on.
@@ -61,11 +66,15 @@ impl Output {
             Err(error) => {
                 // What is still held back shall not be tried again.
                 self.closed = true;
-                Err(Fault::failed(format!(
-                    "standard output: cannot be written: {}: make room or send it elsewhere",
-                    reason(&error)
-                )))
+                Err(not_written(&error))
             }
         }
     }
+}
+
+fn not_written(error: &io::Error) -> Fault {
+    Fault::failed(format!(
+        "standard output: cannot be written: {}: make room or send it elsewhere",
+        reason(error)
+    ))
 }

@@ -21,20 +21,38 @@ pub struct Report {
 
 /// Refusals: the module's own.
 pub fn gather(module: &[u8]) -> Result<Report, Refusal> {
+    gather_or_ask(module, module)
+}
+
+/// The same, with the module that is asked where a small one is refused.
+fn gather_or_ask(module: &[u8], whole: &[u8]) -> Result<Report, Refusal> {
     let version = library::version(module)?;
     let info = library::info(module)?;
+    let source = Source {
+        module,
+        whole,
+        info,
+    };
     Ok(Report {
         bytes: module.len(),
         version,
         name: library::name(module)?,
         info,
-        songs: songs(module, info)?,
-        instruments: instruments(module, info)?,
-        patterns: patterns(module, info)?,
-        samples: samples(module, info)?,
-        volume_envelopes: envelopes(module, info, Kind::Volume)?,
-        panning_envelopes: envelopes(module, info, Kind::Panning)?,
+        songs: songs(source)?,
+        instruments: instruments(source)?,
+        patterns: patterns(source)?,
+        samples: samples(source)?,
+        volume_envelopes: envelopes(source, Kind::Volume)?,
+        panning_envelopes: envelopes(source, Kind::Panning)?,
     })
+}
+
+/// The module that small ones are cut from, the one that is asked where a small one is refused, and the numbers of INFO.
+#[derive(Clone, Copy)]
+struct Source<'m> {
+    module: &'m [u8],
+    whole: &'m [u8],
+    info: Info,
 }
 
 /// The data of a chunk of the module; none where it is missing.
@@ -43,7 +61,12 @@ fn data<'m>(module: &'m [u8], name: &Name) -> &'m [u8] {
 }
 
 /// Each beside as many empty patterns as its playlist needs.
-fn songs(module: &[u8], info: Info) -> Result<Vec<(Song, Vec<u16>)>, Refusal> {
+fn songs(source: Source) -> Result<Vec<(Song, Vec<u16>)>, Refusal> {
+    let Source {
+        module,
+        whole,
+        info,
+    } = source;
     let of_block = |block: &[u8]| {
         let highest = entries(block.get(46..).unwrap_or_default()).max();
         let patterns = highest.map_or(0, |entry| entry.saturating_add(1));
@@ -59,7 +82,7 @@ fn songs(module: &[u8], info: Info) -> Result<Vec<(Song, Vec<u16>)>, Refusal> {
     };
     let numbers = 0..usize::from(info.songs);
     each(module, b"SONG", numbers, of_block, |number| {
-        song(module, number)
+        song(whole, number)
     })
 }
 
@@ -76,7 +99,12 @@ fn entries(stored: &[u8]) -> impl Iterator<Item = u16> + '_ {
 }
 
 /// Each beside all samples, in which its loop lies.
-fn instruments(module: &[u8], info: Info) -> Result<Vec<Instrument>, Refusal> {
+fn instruments(source: Source) -> Result<Vec<Instrument>, Refusal> {
+    let Source {
+        module,
+        whole,
+        info,
+    } = source;
     let beside = Info {
         instruments: 1,
         samples: info.samples,
@@ -88,11 +116,16 @@ fn instruments(module: &[u8], info: Info) -> Result<Vec<Instrument>, Refusal> {
     let of_block = |block: &[u8]| library::instrument(small.with(b"INST", &[block]), 1);
     let numbers = 1..usize::from(info.instruments) + 1;
     each(module, b"INST", numbers, of_block, |number| {
-        library::instrument(module, number)
+        library::instrument(whole, number)
     })
 }
 
-fn patterns(module: &[u8], info: Info) -> Result<Vec<u16>, Refusal> {
+fn patterns(source: Source) -> Result<Vec<u16>, Refusal> {
+    let Source {
+        module,
+        whole,
+        info,
+    } = source;
     let beside = Info {
         patterns: 1,
         ..nothing(info.tracks)
@@ -102,12 +135,17 @@ fn patterns(module: &[u8], info: Info) -> Result<Vec<u16>, Refusal> {
     let of_block = |block: &[u8]| library::rows(small.with(b"PATT", &[block]), 0);
     let numbers = 0..usize::from(info.patterns);
     each(module, b"PATT", numbers, of_block, |number| {
-        library::rows(module, number)
+        library::rows(whole, number)
     })
 }
 
 /// All samples are asked of one module, which has nothing else: their frames are not read, and would be much to copy for each.
-fn samples(module: &[u8], info: Info) -> Result<Vec<(Sample, u64)>, Refusal> {
+fn samples(source: Source) -> Result<Vec<(Sample, u64)>, Refusal> {
+    let Source {
+        module,
+        whole,
+        info,
+    } = source;
     let beside = Info {
         samples: info.samples,
         ..nothing(info.tracks)
@@ -116,7 +154,7 @@ fn samples(module: &[u8], info: Info) -> Result<Vec<(Sample, u64)>, Refusal> {
     let mut small = Small::new(module, beside, &chunks);
     let small = small.with(b"SMPL", &[data(module, b"SMPL")]);
     (1..=usize::from(info.samples))
-        .map(|number| sample(small, number).or_else(|_| sample(module, number)))
+        .map(|number| sample(small, number).or_else(|_| sample(whole, number)))
         .collect()
 }
 
@@ -127,7 +165,12 @@ fn sample(module: &[u8], number: usize) -> Result<(Sample, u64), Refusal> {
 }
 
 /// Each beside as many empty instruments as the module has.
-fn envelopes(module: &[u8], info: Info, kind: Kind) -> Result<Vec<Envelope>, Refusal> {
+fn envelopes(source: Source, kind: Kind) -> Result<Vec<Envelope>, Refusal> {
+    let Source {
+        module,
+        whole,
+        info,
+    } = source;
     let name = match kind {
         Kind::Volume => b"VENV",
         Kind::Panning => b"PENV",
@@ -148,7 +191,7 @@ fn envelopes(module: &[u8], info: Info, kind: Kind) -> Result<Vec<Envelope>, Ref
     let of_block = |block: &[u8]| library::envelope(small.with(name, &[&one, block]), kind, 0);
     let numbers = 0..usize::from(library::envelopes(module, kind)?);
     each(module, name, numbers, of_block, |number| {
-        library::envelope(module, kind, number)
+        library::envelope(whole, kind, number)
     })
 }
 
@@ -187,3 +230,20 @@ pub const ON: u8 = 0;
 pub const FIRST_SUSTAIN: u8 = 1;
 pub const LOOP: u8 = 2;
 pub const SECOND_SUSTAIN: u8 = 3;
+
+#[cfg(test)]
+mod tests {
+    use super::gather_or_ask;
+    use reference::generate::{module, Most, Random};
+
+    /// No small module is refused: the whole one, for which an empty one stands here, is never asked.
+    #[test]
+    fn small_modules_are_enough() {
+        for seed in 1..=2_000 {
+            for most in [Most::SMALL, Most::USUAL] {
+                let module = module(&mut Random::new(seed), &most).bytes();
+                assert!(gather_or_ask(&module, &[]).is_ok(), "seed {seed}");
+            }
+        }
+    }
+}

@@ -1,0 +1,161 @@
+//! What the tests share: running the built program, folders of their own, and the sample modules.
+
+#![allow(dead_code)]
+
+use std::ffi::OsStr;
+use std::fs;
+use std::io::Write;
+use std::path::{Path, PathBuf};
+use std::process::{Command, Output, Stdio};
+use std::sync::atomic::{AtomicU32, Ordering};
+
+pub const PROGRAM: &str = env!("CARGO_BIN_EXE_dbm0");
+
+/// What a run of the program left: its exit status (none where a signal ended it), and what it printed.
+#[derive(Debug)]
+pub struct Run {
+    pub status: Option<i32>,
+    pub out: Vec<u8>,
+    pub err: String,
+}
+
+impl Run {
+    pub fn of(output: Output) -> Run {
+        let err = String::from_utf8(output.stderr).expect("standard error is text");
+        assert!(!err.contains("panicked"), "{err}");
+        Run {
+            status: output.status.code(),
+            out: output.stdout,
+            err,
+        }
+    }
+
+    pub fn text(&self) -> String {
+        String::from_utf8(self.out.clone()).expect("standard output is text")
+    }
+
+    /// It ended with this status and printed just this.
+    #[track_caller]
+    pub fn is(&self, status: i32, out: &str, err: &str) {
+        let found = (self.status, self.text(), self.err.clone());
+        assert_eq!(found, (Some(status), out.to_string(), err.to_string()));
+    }
+
+    /// It failed: status 2, nothing on standard output, and one line on standard error that has these words.
+    #[track_caller]
+    pub fn fails(&self, words: &str) {
+        assert_eq!(self.status, Some(2), "{self:?}");
+        assert!(self.out.is_empty(), "{self:?}");
+        self.one_line(words);
+    }
+
+    #[track_caller]
+    pub fn one_line(&self, words: &str) {
+        assert_eq!(self.err.matches('\n').count(), 1, "{self:?}");
+        assert!(self.err.ends_with('\n'), "{self:?}");
+        assert!(self.err.starts_with("dbm0: "), "{self:?}");
+        assert!(self.err.contains(words), "{self:?}");
+    }
+}
+
+/// Runs the program with nothing on standard input.
+pub fn run<Argument: AsRef<OsStr>>(arguments: &[Argument]) -> Run {
+    let mut command = Command::new(PROGRAM);
+    command.args(arguments).stdin(Stdio::null());
+    Run::of(command.output().expect("the program runs"))
+}
+
+/// Runs the program with these bytes on standard input.
+pub fn run_on<Argument: AsRef<OsStr>>(arguments: &[Argument], input: &[u8]) -> Run {
+    let mut child = Command::new(PROGRAM)
+        .args(arguments)
+        .stdin(Stdio::piped())
+        .stdout(Stdio::piped())
+        .stderr(Stdio::piped())
+        .spawn()
+        .expect("the program runs");
+    let mut stdin = child.stdin.take().expect("a pipe");
+    let output = std::thread::scope(|scope| {
+        scope.spawn(move || {
+            // A program that has seen enough may be gone.
+            let _ = stdin.write_all(input);
+        });
+        child.wait_with_output().expect("the program ends")
+    });
+    Run::of(output)
+}
+
+/// A folder that is gone when the test is over.
+pub struct Folder(pub PathBuf);
+
+impl Folder {
+    pub fn new() -> Folder {
+        static COUNT: AtomicU32 = AtomicU32::new(0);
+        let count = COUNT.fetch_add(1, Ordering::Relaxed);
+        let name = format!("dbm0-test-{}-{count}", std::process::id());
+        let path = std::env::temp_dir().join(name);
+        fs::create_dir(&path).expect("a new folder");
+        Folder(path)
+    }
+
+    pub fn file(&self, name: &str, bytes: &[u8]) -> PathBuf {
+        let path = self.0.join(name);
+        fs::write(&path, bytes).expect("written");
+        path
+    }
+
+    /// The names of all files in it.
+    pub fn names(&self) -> Vec<String> {
+        names(&self.0)
+    }
+}
+
+pub fn names(folder: &Path) -> Vec<String> {
+    let mut names: Vec<String> = fs::read_dir(folder)
+        .expect("a folder")
+        .map(|entry| {
+            let name = entry.expect("an entry").file_name();
+            name.to_string_lossy().into_owned()
+        })
+        .collect();
+    names.sort();
+    names
+}
+
+impl Drop for Folder {
+    fn drop(&mut self) {
+        let _ = fs::remove_dir_all(&self.0);
+    }
+}
+
+/// The path of a sample module.
+pub fn sample(name: &str) -> PathBuf {
+    Path::new(env!("CARGO_MANIFEST_DIR"))
+        .join("../samples")
+        .join(name)
+}
+
+pub fn sample_bytes(name: &str) -> Vec<u8> {
+    fs::read(sample(name)).expect("a sample module")
+}
+
+/// A path as text.
+pub fn text(path: &Path) -> &str {
+    path.to_str().expect("UTF-8")
+}
+
+/// A name as the program should print it, without quotes.
+pub fn escaped(name: &[u8]) -> String {
+    let mut bytes = name.to_vec();
+    while bytes.last() == Some(&0) {
+        bytes.pop();
+    }
+    let printable = |byte: u8| (b' '..=b'~').contains(&byte) && byte != b'"' && byte != b'\\';
+    bytes
+        .into_iter()
+        .map(|byte| match printable(byte) {
+            true => char::from(byte).to_string(),
+            false => format!("\\x{byte:02x}"),
+        })
+        .collect()
+}

@@ -1,0 +1,200 @@
+//! Damaged files and any bytes: no panic, the number and the place that the second program gives, and words for them.
+
+mod common;
+
+use std::collections::BTreeMap;
+use std::path::PathBuf;
+
+use common::{run, run_on, sample_bytes, text, Folder};
+use reference::generate::{self, Most, Random};
+use reference::module;
+use reference::tunes;
+
+/// How many files one run of the program checks.
+const AT_ONCE: usize = 250;
+
+/// Checks modules in runs of many files, and compares each line. Gives how often each number came, 0 for accepted.
+fn compare(modules: &[Vec<u8>]) -> BTreeMap<u64, u32> {
+    let mut numbers = BTreeMap::new();
+    for some in modules.chunks(AT_ONCE) {
+        let folder = Folder::new();
+        let files: Vec<PathBuf> = some
+            .iter()
+            .enumerate()
+            .map(|(number, module)| folder.file(&format!("{number}.dbm"), module))
+            .collect();
+        let mut arguments = vec!["check"];
+        arguments.extend(files.iter().map(|file| text(file)));
+        let run = run(&arguments);
+        assert_eq!(run.err, "");
+        let printed = run.text();
+        let lines: Vec<&str> = printed.lines().collect();
+        assert_eq!(lines.len(), some.len());
+        let mut any = false;
+        for ((module, file), line) in some.iter().zip(&files).zip(lines) {
+            let number = compare_line(module, text(file), line);
+            any |= number != 0;
+            *numbers.entry(number).or_insert(0) += 1;
+        }
+        assert_eq!(run.status, Some(i32::from(any)));
+    }
+    numbers
+}
+
+/// The line of a module is what the second program says of it. Gives the number of the refusal.
+fn compare_line(module: &[u8], file: &str, line: &str) -> u64 {
+    let Err(refusal) = module::check(module) else {
+        assert_eq!(line, format!("{file}: accepted"));
+        return 0;
+    };
+    let due = format!("{file}: refused {} at {}: ", refusal.number, refusal.place);
+    let Some(words) = line.strip_prefix(&due) else {
+        panic!("{line}\nshould begin with {due}\nmodule {module:02x?}");
+    };
+    assert!(
+        words.bytes().all(|byte| (b' '..=b'~').contains(&byte)),
+        "{words}"
+    );
+    assert!(
+        names_its_place(refusal.number, words),
+        "{line}\nmodule {module:02x?}"
+    );
+    refusal.number
+}
+
+/// The words say in what the fault lies.
+fn names_its_place(number: u64, words: &str) -> bool {
+    let begins = |with: &[&str]| with.iter().any(|with| words.starts_with(with));
+    match number {
+        1 => begins(&["the module has more than"]),
+        2 => begins(&["this is no DBM0 module: it "]),
+        3 => begins(&["version ", "revision "]),
+        4 => begins(&["chunk ", "the header of a chunk is cut: "]),
+        5 => begins(&["the chunk's identifier \""]),
+        6 | 7 => begins(&["chunk "]) && words.contains(" stands "),
+        8 => words.contains(" missing") && begins(&["chunk ", "the chunks "]),
+        9 => begins(&["chunk NAME has ", "chunk INFO has "]),
+        10 => begins(&["INFO says "]),
+        11 => begins(&["chunk ", "sample "]),
+        12 | 13 => {
+            begins(&[
+                "song ",
+                "instrument ",
+                "volume envelope ",
+                "panning envelope ",
+            ]) && words.contains(": ")
+        }
+        14 => begins(&["instrument "]) && words.contains(": loop "),
+        15 => begins(&["pattern "]) && words.ends_with(" packed bytes)"),
+        _ => false,
+    }
+}
+
+/// Modules of the generator with one to three faults.
+#[test]
+fn damaged_modules() {
+    let mut modules = Vec::new();
+    for seed in 1..=4_000 {
+        let mut random = Random::new(seed);
+        let most = if seed % 4 == 0 {
+            Most::USUAL
+        } else {
+            Most::SMALL
+        };
+        let mut draft = generate::module(&mut random, &most);
+        for _ in 0..1 + random.below(3) {
+            generate::damage(&mut random, &mut draft);
+        }
+        modules.push(draft.bytes());
+    }
+    let numbers = compare(&modules);
+    for number in [0, 2, 3, 4, 5, 6, 7, 8, 9, 10, 11, 12, 13, 14, 15] {
+        assert!(
+            numbers.contains_key(&number),
+            "no {number} among {numbers:?}"
+        );
+    }
+}
+
+/// The samples with bytes changed, cut off, taken out and put in.
+#[test]
+fn damaged_samples() {
+    let mut modules = Vec::new();
+    for (_, sample) in tunes::files() {
+        for seed in 1..=500 {
+            let mut random = Random::new(seed);
+            modules.push(generate::damaged(&mut random, &sample));
+        }
+    }
+    compare(&modules);
+}
+
+/// Every byte of a sample changed in turn, and every length of it.
+#[test]
+fn every_byte_and_every_length() {
+    let carousel = sample_bytes("carousel.dbm");
+    let mut modules = Vec::new();
+    for place in 0..carousel.len() {
+        for change in [1, 0x80, 0xFF] {
+            let mut module = carousel.clone();
+            module[place] ^= change;
+            modules.push(module);
+        }
+        modules.push(carousel[..place].to_vec());
+    }
+    compare(&modules);
+}
+
+/// Any bytes, with and without the letters in front.
+#[test]
+fn any_bytes() {
+    let mut modules = Vec::new();
+    for seed in 1..=1_000 {
+        let mut random = Random::new(seed);
+        let length = random.below(300);
+        let mut module = match random.below(3) {
+            0 => Vec::new(),
+            1 => b"DBM0\x03\0\0\0".to_vec(),
+            _ => b"DBM0\x02\x10\0\0INFO\0\0\0\x0A\0\x01\0\x01\0\x01\0\x01\0\x04".to_vec(),
+        };
+        module.extend(generate::bytes(&mut random, length));
+        modules.push(module);
+    }
+    compare(&modules);
+}
+
+/// The other commands on damaged modules: the refusal as the check words it, and no output; or what they should do.
+#[test]
+fn the_other_commands() {
+    let folder = Folder::new();
+    let out = folder.0.join("out.dbm");
+    for seed in 1..=300 {
+        let mut random = Random::new(9_000 + seed);
+        let mut draft = generate::module(&mut random, &Most::SMALL);
+        generate::damage(&mut random, &mut draft);
+        let module = draft.bytes();
+        let check = run_on(&["check", "-"], &module);
+        let accepted = check.status == Some(0);
+        assert_eq!(accepted, module::check(&module).is_ok(), "seed {seed}");
+        for arguments in [
+            &["report", "-"][..],
+            &["report", "--json", "-"],
+            &["cells", "-", "0"],
+            &["repack", "-", "-"],
+            &["repack", "-", text(&out)],
+        ] {
+            let run = run_on(arguments, &module);
+            if accepted {
+                // There may be no pattern 0.
+                let fine =
+                    run.status == Some(0) || arguments[0] == "cells" && run.status == Some(2);
+                assert!(fine, "seed {seed}: {run:?}");
+            } else {
+                run.is(1, "", &check.text());
+            }
+        }
+        assert_eq!(out.exists(), accepted, "seed {seed}");
+        let _ = std::fs::remove_file(&out);
+        assert!(folder.names().is_empty(), "seed {seed}");
+    }
+}

@@ -1,0 +1,118 @@
+//! `dbm0 repack` on a disk that is full, and on one that is read-only: nothing is lost, and nothing is left behind.
+//!
+//! The disk is a small file system in memory, mounted where only the test sees it. Where that is not allowed, the tests are not run, and
+//! counted as ignored. (The tests in repack.rs have a limit on a file's length, which needs no rights, and folders without rights.)
+
+mod common;
+
+use std::process::{Command, ExitCode};
+
+use common::{text, Folder, PROGRAM};
+use reference::draft::{Sample, Tune};
+
+/// A shell script runs with `$program`, `$module` (of 40,000 bytes) and `$disk` (64 KiB in memory, in its own name space).
+const PREPARED: &str = r#"
+program=$0 module=$1 disk=$2
+mount -t tmpfs -o size=64k tmpfs "$disk" || exit 77
+complain() { echo "$*" >&2; exit 1; }
+# refused OUT IN WORDS: the program ends with 2, says this in one line, and nothing on standard output.
+refused() {
+    said=$("$program" repack "$2" "$1" 2>&1 >"$disk/../printed"); status=$?
+    [ "$status" -eq 2 ] || complain "ended with $status: $said"
+    [ ! -s "$disk/../printed" ] || complain "printed something"
+    [ "$said" = "dbm0: $1: cannot be written, nothing was changed: $3" ] || complain "said: $said"
+}
+"#;
+
+const FULL: &str = r#"
+cp "$module" "$disk/tune.dbm" || complain "no room for one"
+words='No space left on device: make room or choose another folder'
+refused "$disk/new.dbm" "$module" "$words"
+refused "$disk/tune.dbm" "$module" "$words"
+refused "$disk/tune.dbm" "$disk/tune.dbm" "$words"
+cmp "$module" "$disk/tune.dbm" || complain "the file was changed"
+[ "$(ls -A "$disk")" = tune.dbm ] || complain "there are other files: $(ls -A "$disk")"
+rm "$disk/tune.dbm"
+"$program" repack "$module" "$disk/new.dbm" >"$disk/../printed" || complain "not written though there is room"
+cmp "$module" "$disk/new.dbm" || complain "another module was written"
+"#;
+
+const READ_ONLY: &str = r#"
+cp "$module" "$disk/tune.dbm" || complain "no room for one"
+mount -o remount,ro "$disk" || exit 77
+refused "$disk/new.dbm" "$module" 'Read-only file system: choose a folder that you may write to'
+refused "$disk/tune.dbm" "$module" 'Read-only file system: choose another file'
+cmp "$module" "$disk/tune.dbm" || complain "the file was changed"
+[ "$(ls -A "$disk")" = tune.dbm ] || complain "there are other files: $(ls -A "$disk")"
+"#;
+
+/// What came of a test.
+enum Outcome {
+    Passed,
+    Failed(String),
+    /// No such disk can be had here.
+    NotRun(String),
+}
+
+/// Root can mount a disk; others can where they may have a name space in which they are root.
+fn on_a_disk(script: &str) -> Outcome {
+    match unshared(&["--mount"], script) {
+        Outcome::NotRun(_) => unshared(&["--mount", "--map-root-user"], script),
+        outcome => outcome,
+    }
+}
+
+fn unshared(options: &[&str], script: &str) -> Outcome {
+    let folder = Folder::new();
+    let tune = Tune {
+        samples: vec![Sample::new(1, &[0x55; 40_000 - 66])],
+        ..Tune::default()
+    };
+    let module = folder.file("module.dbm", &tune.bytes());
+    let disk = folder.0.join("disk");
+    std::fs::create_dir(&disk).expect("a new folder");
+    let whole = format!("{PREPARED}{script}exit 0\n");
+    let run = Command::new("unshare")
+        .args(options)
+        .args(["sh", "-c", &whole, PROGRAM, text(&module), text(&disk)])
+        .output();
+    let output = match run {
+        Ok(output) => output,
+        Err(error) => return Outcome::NotRun(format!("unshare: {error}")),
+    };
+    let said = String::from_utf8_lossy(&output.stderr).into_owned();
+    match output.status.code() {
+        Some(0) => Outcome::Passed,
+        Some(77) => Outcome::NotRun(said),
+        Some(1) if said.starts_with("unshare:") => Outcome::NotRun(said),
+        _ => Outcome::Failed(said),
+    }
+}
+
+fn main() -> ExitCode {
+    let tests = [("a_full_disk", FULL), ("a_read_only_disk", READ_ONLY)];
+    println!("\nrunning {} tests", tests.len());
+    let (mut passed, mut failed, mut ignored) = (0, 0, 0);
+    for (name, script) in tests {
+        match on_a_disk(script) {
+            Outcome::Passed => {
+                passed += 1;
+                println!("test {name} ... ok");
+            }
+            Outcome::Failed(why) => {
+                failed += 1;
+                println!("test {name} ... FAILED\n{why}");
+            }
+            Outcome::NotRun(why) => {
+                ignored += 1;
+                println!(
+                    "test {name} ... ignored: no disk can be mounted here: {}",
+                    why.trim()
+                );
+            }
+        }
+    }
+    let result = if failed == 0 { "ok" } else { "FAILED" };
+    println!("\ntest result: {result}. {passed} passed; {failed} failed; {ignored} ignored\n");
+    ExitCode::from(u8::from(failed > 0))
+}

@@ -1,0 +1,294 @@
+//! Arguments, help, and standard input and output that are not as one would like them.
+
+mod common;
+
+use std::ffi::OsStr;
+use std::fs::File;
+use std::io::Read;
+use std::os::unix::ffi::OsStrExt;
+use std::process::{Command, Stdio};
+
+use common::{run, run_on, sample, sample_bytes, text, Folder, Run, PROGRAM};
+use reference::draft::{Pattern, Tune};
+
+#[test]
+fn help() {
+    let program = run(&["--help"]);
+    assert_eq!((program.status, program.err.as_str()), (Some(0), ""));
+    assert!(program
+        .text()
+        .starts_with("dbm0: checks, reports, shows and repacks DBM0 modules"));
+    for word in [
+        "check FILE..",
+        "report [--json] FILE",
+        "cells FILE PATTERN",
+        "repack IN OUT",
+        "--version",
+    ] {
+        assert!(program.text().contains(word), "{word}");
+    }
+    for arguments in [&["-h"][..], &["help"]] {
+        run(arguments).is(0, &program.text(), "");
+    }
+    for command in ["check", "report", "cells", "repack"] {
+        let told = run(&[command, "--help"]);
+        assert_eq!((told.status, told.err.as_str()), (Some(0), ""));
+        assert!(
+            told.text().starts_with(&format!("usage: dbm0 {command} ")),
+            "{command}"
+        );
+        assert!(told.text().contains("exit status:\n  0  "), "{command}");
+        run(&[command, "-h"]).is(0, &told.text(), "");
+        run(&["help", command]).is(0, &told.text(), "");
+        // Wherever it stands.
+        run(&[command, "a", "b", "c", "--help"]).is(0, &told.text(), "");
+        for line in told.text().lines().chain(program.text().lines()) {
+            assert!(line.len() <= 120 && line.is_ascii(), "{line}");
+        }
+    }
+}
+
+#[test]
+fn version() {
+    let line = concat!("dbm0 ", env!("CARGO_PKG_VERSION"), "\n");
+    run(&["--version"]).is(0, line, "");
+    run(&["-V"]).is(0, line, "");
+}
+
+#[test]
+fn wrong_arguments() {
+    let expected: [(&[&str], &str); 22] = [
+        (&[], "no command is named: see 'dbm0 --help'"),
+        (&[""], "there is no command '': see 'dbm0 --help'"),
+        (&["chek"], "there is no command 'chek': see 'dbm0 --help'"),
+        (
+            &["check\n"],
+            "there is no command 'check\\x0a': see 'dbm0 --help'",
+        ),
+        (&["--json"], "there is no command '--json'"),
+        (&["help", "chek"], "there is no command 'chek'"),
+        (&["help", "check", "report"], "help takes one command"),
+        (&["check"], "no file is named: see 'dbm0 check --help'"),
+        (&["check", "--"], "no file is named"),
+        (
+            &["check", "--json", "a"],
+            "there is no option '--json' (a file of that name is './--json')",
+        ),
+        (&["check", "-x"], "there is no option '-x'"),
+        (&["check", "-", "-"], "standard input can be read only once"),
+        (
+            &["report"],
+            "report takes one file: see 'dbm0 report --help'",
+        ),
+        (&["report", "a", "b"], "report takes one file"),
+        (&["report", "--json", "--json", "a"], "--json stands twice"),
+        (&["report", "--json=1", "a"], "--json takes no value"),
+        (
+            &["cells", "a"],
+            "cells takes one file and the number of a pattern: see 'dbm0 cells --help'",
+        ),
+        (
+            &["cells", "a", "1", "2"],
+            "cells takes one file and the number of a pattern",
+        ),
+        (&["cells", "a", "1", "--rows"], "--rows needs a value"),
+        (
+            &["cells", "a", "1", "--row", "1"],
+            "there is no option '--row'",
+        ),
+        (
+            &["repack", "a"],
+            "repack takes two files, IN and OUT: see 'dbm0 repack --help'",
+        ),
+        (
+            &["repack", "a", "b", "c"],
+            "repack takes two files, IN and OUT",
+        ),
+    ];
+    for (arguments, words) in expected {
+        run(arguments).fails(words);
+    }
+}
+
+/// Any bytes as arguments: a message, and the status 2.
+#[test]
+fn arguments_of_any_bytes() {
+    let wild: [&[u8]; 6] = [
+        b"\xFF",
+        b"-\xFF",
+        b"--\xFF=\xFE",
+        b"--rows=\xFF",
+        b"\x1b[2J",
+        b"-",
+    ];
+    for command in ["check", "report", "cells", "repack", "help", "\u{fc}"] {
+        for one in wild {
+            for other in wild {
+                let run = run(&[
+                    OsStr::new(command),
+                    OsStr::from_bytes(one),
+                    OsStr::from_bytes(other),
+                ]);
+                // Standard input is empty, and no module.
+                assert!(matches!(run.status, Some(1 | 2)), "{run:?}");
+                assert!(!run.err.contains('\x1b'), "{run:?}");
+            }
+        }
+    }
+}
+
+/// Behind -- every argument is a file.
+#[test]
+fn files_that_look_like_options() {
+    let folder = Folder::new();
+    for name in ["--json", "-", "--help"] {
+        folder.file(name, &sample_bytes("smallest.dbm"));
+    }
+    let in_folder = |arguments: &[&str]| {
+        let output = Command::new(PROGRAM)
+            .current_dir(&folder.0)
+            .args(arguments)
+            .stdin(Stdio::null())
+            .output()
+            .expect("the program runs");
+        Run::of(output)
+    };
+    in_folder(&["check", "--", "--json", "--help"]).is(
+        0,
+        "--json: accepted\n--help: accepted\n",
+        "",
+    );
+    in_folder(&["check", "./-", "./--json"]).is(0, "./-: accepted\n./--json: accepted\n", "");
+    let nothing =
+        "-: refused 2 at 0: this is no DBM0 module: it has 0 bytes, and the header alone has 8\n";
+    in_folder(&["check", "-"]).is(1, nothing, "");
+    in_folder(&["check", "--", "-"]).is(1, nothing, "");
+}
+
+/// A pattern that prints more than a pipe holds.
+fn long() -> Vec<u8> {
+    let tune = Tune {
+        patterns: vec![Pattern::new(20_000, &vec![0; 20_000])],
+        ..Tune::default()
+    };
+    tune.bytes()
+}
+
+/// Runs the program with a reader of standard output that goes after so many bytes.
+fn with_short_reader(arguments: &[&str], bytes: usize) -> Run {
+    let mut child = Command::new(PROGRAM)
+        .args(arguments)
+        .stdin(Stdio::null())
+        .stdout(Stdio::piped())
+        .stderr(Stdio::piped())
+        .spawn()
+        .expect("the program runs");
+    let mut stdout = child.stdout.take().expect("a pipe");
+    stdout
+        .read_exact(&mut vec![0; bytes])
+        .expect("so many come");
+    drop(stdout);
+    Run::of(child.wait_with_output().expect("it ends"))
+}
+
+/// A closed pipe ends it quietly, with the status that it would have had.
+#[test]
+fn a_closed_pipe() {
+    let folder = Folder::new();
+    let module = folder.file("long.dbm", &long());
+    with_short_reader(&["cells", text(&module), "0"], 0).is(0, "", "");
+    with_short_reader(&["cells", text(&module), "0"], 1_000).is(0, "", "");
+    let carousel = sample("carousel.dbm");
+    for arguments in [
+        &["report", text(&carousel)][..],
+        &["report", "--json", text(&carousel)],
+        &["check", text(&carousel)],
+        &["--help"],
+    ] {
+        with_short_reader(arguments, 0).is(0, "", "");
+    }
+    let refused = sample("short-organ.dbm");
+    // Many lines, and behind them the only module that is refused.
+    let mut arguments = vec!["check"];
+    arguments.extend(vec![text(&carousel); 3_000]);
+    arguments.push(text(&refused));
+    with_short_reader(&arguments, 10).is(1, "", "");
+}
+
+/// Standard output on a full disk: a line on standard error, and the status 2.
+#[test]
+fn standard_output_is_full() {
+    let folder = Folder::new();
+    let module = folder.file("long.dbm", &long());
+    let carousel = sample("carousel.dbm");
+    for arguments in [
+        &["check", text(&carousel)][..],
+        &["report", text(&carousel)],
+        &["report", "--json", text(&carousel)],
+        &["cells", text(&carousel), "0"],
+        &["cells", text(&module), "0"],
+        &["--help"],
+        &["--version"],
+    ] {
+        let full = File::options()
+            .write(true)
+            .open("/dev/full")
+            .expect("it is there");
+        let output = Command::new(PROGRAM)
+            .args(arguments)
+            .stdout(full)
+            .output()
+            .expect("the program runs");
+        Run::of(output).fails("standard output: cannot be written: No space left on device: make room or send it elsewhere");
+    }
+}
+
+/// Standard input, output or error that is closed or cannot be read: no panic, and a status.
+#[test]
+fn closed_streams() {
+    let carousel = sample("carousel.dbm");
+    let shell = |command: &str| {
+        let output = Command::new("sh")
+            .args(["-c", command, PROGRAM, text(&carousel)])
+            .output()
+            .expect("sh runs");
+        Run::of(output)
+    };
+    assert_eq!(shell("\"$0\" check \"$1\" >&-").status, Some(0));
+    assert_eq!(shell("\"$0\" check \"$1\" 2>&-").status, Some(0));
+    assert_eq!(shell("\"$0\" check nothing 2>&-").status, Some(2));
+    assert_eq!(shell("\"$0\" check nothing 2>/dev/full").status, Some(2));
+    assert_eq!(shell("\"$0\" check - <&-").status, Some(1));
+    shell("\"$0\" check \"$1\" 1</dev/null")
+        .fails("standard output: cannot be written: Bad file descriptor");
+    shell("\"$0\" check - </")
+        .fails("standard input: cannot be read: Is a directory: name the files in it");
+    shell("\"$0\" check - 0>/dev/null")
+        .fails("standard input: cannot be read: Bad file descriptor");
+}
+
+/// A pipe that gives its bytes in pieces is read to its end.
+#[test]
+fn a_slow_pipe() {
+    let carousel = sample("carousel.dbm");
+    let command = "(head -c 100 \"$1\"; sleep 0.1; tail -c +101 \"$1\") | \"$0\" check -";
+    let output = Command::new("sh")
+        .args(["-c", command, PROGRAM, text(&carousel)])
+        .output()
+        .expect("sh runs");
+    Run::of(output).is(0, "-: accepted\n", "");
+}
+
+/// An input without end is read no further than a module can be long.
+#[test]
+fn an_input_without_end() {
+    let words = "refused 1 at 0: the module has more than 16777216 bytes\n";
+    for command in [
+        &["report", "/dev/zero"][..],
+        &["cells", "/dev/zero", "0"],
+        &["repack", "/dev/zero", "-"],
+    ] {
+        run(command).is(1, "", &format!("/dev/zero: {words}"));
+    }
+    run_on(&["report", "-"], &vec![0; 17_000_000]).is(1, "", &format!("-: {words}"));
+}
