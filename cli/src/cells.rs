@@ -46,43 +46,33 @@ pub fn run(file: &OsStr, asked: &Asked, out: &mut Output) -> Result<u8, Fault> {
     Ok(FINE)
 }
 
-/// The rows and tracks to be shown, the last ones among them.
+/// The rows and tracks to be shown: the first and the last of each.
 struct Shown {
-    rows: Range,
-    tracks: Range,
-    /// A pattern of 0 rows has none, and then none need be there.
-    no_rows: bool,
+    rows: (usize, usize),
+    tracks: (usize, usize),
+    /// The whole of a pattern without rows is asked for: there is no cell in it, and none need be there.
+    nothing: bool,
 }
 
 impl Shown {
     fn new(asked: &Asked, rows: usize, tracks: usize) -> Shown {
-        let up_to = |asked: Option<Range>, first: usize, last: usize| match asked {
-            None => Range {
-                first,
-                last: Some(last),
-            },
-            Some(range) => Range {
-                first: range.first,
-                last: Some(range.last.unwrap_or(last.max(range.first))),
-            },
-        };
         Shown {
-            rows: up_to(asked.rows, 0, rows.saturating_sub(1)),
-            tracks: up_to(asked.tracks, 1, tracks),
-            no_rows: rows == 0 && asked.rows.is_none(),
+            rows: ends(asked.rows, 0, rows.saturating_sub(1)),
+            tracks: ends(asked.tracks, 1, tracks),
+            nothing: rows == 0 && asked.rows.is_none() && asked.tracks.is_none(),
         }
-    }
-
-    fn last_row(&self) -> usize {
-        self.rows.last.unwrap_or(self.rows.first)
-    }
-
-    fn last_track(&self) -> usize {
-        self.tracks.last.unwrap_or(self.tracks.first)
     }
 }
 
-/// The library says whether the first and the last cell are there. Then all between them are.
+/// The ends of a range, where all goes from `first` to `last`. One that begins behind the last is left to the library to refuse.
+fn ends(asked: Option<Range>, first: usize, last: usize) -> (usize, usize) {
+    match asked {
+        None => (first, last),
+        Some(range) => (range.first, range.last.unwrap_or(last.max(range.first))),
+    }
+}
+
+/// The library says whether the cells at the corners are there. Then all between them are.
 fn see_that_it_is_there(
     file: &OsStr,
     module: &[u8],
@@ -91,13 +81,15 @@ fn see_that_it_is_there(
     rows: u16,
     info: Info,
 ) -> Result<(), Fault> {
-    if shown.no_rows {
+    if shown.nothing {
         return Ok(());
     }
+    let (first_row, last_row) = shown.rows;
+    let (first_track, last_track) = shown.tracks;
     let corners = [
-        (shown.rows.first, shown.tracks.first),
-        (shown.last_row(), shown.tracks.first),
-        (shown.rows.first, shown.last_track()),
+        (first_row, first_track),
+        (last_row, first_track),
+        (first_row, last_track),
     ];
     for (row, track) in corners {
         if let Err(refusal) = library::cell(module, pattern, row, track) {
@@ -145,22 +137,22 @@ fn print(
     notes: &[String],
     out: &mut Output,
 ) -> Result<(), Fault> {
+    let (first_row, last_row) = shown.rows;
+    let (first_track, last_track) = shown.tracks;
     let mut line = String::from("row   ");
-    for track in shown.tracks.first..=shown.last_track() {
+    for track in first_track..=last_track {
         let _ = write!(line, "  {:<14}", format!("track {track}"));
     }
     out.line(line.trim_end())?;
     let rows = cells.chunks_exact(FIELDS * tracks).enumerate();
-    let asked = shown.rows.first..=shown.last_row();
-    for (number, row) in rows.skip(shown.rows.first).take(asked.count()) {
+    for (number, row) in rows.take(last_row + 1).skip(first_row) {
         if out.is_closed() {
             break;
         }
         line.clear();
         let _ = write!(line, "{number:<6}");
         let row = row.chunks_exact(FIELDS);
-        let here = row.take(shown.last_track()).skip(shown.tracks.first - 1);
-        for cell in here {
+        for cell in row.take(last_track).skip(first_track - 1) {
             line.push_str("  ");
             push_cell(&mut line, cell, notes);
         }

@@ -72,6 +72,9 @@ struct Target {
 impl Target {
     /// A link is followed, so that it stays one. Only a regular file is ever replaced.
     fn find(to: &Path) -> Result<Target, String> {
+        if to.as_os_str().is_empty() {
+            return Err("it has no name: name a file".to_string());
+        }
         let there = match fs::metadata(to) {
             Ok(there) => Some(there),
             Err(error) if error.kind() == ErrorKind::NotFound => None,

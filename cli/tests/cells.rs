@@ -181,9 +181,13 @@ fn a_pattern_without_rows() {
     let module = tune.bytes();
     let shown = "pattern 0: 0 rows, 4 tracks\nrow     track 1         track 2         track 3         track 4\n";
     run_on(&["cells", "-", "0"], &module).is(0, shown, "");
+    let line = "dbm0: -: refused 18 at 0: there is no row 0: pattern 0 has none\n";
     for range in ["0", "0-"] {
-        let line = "dbm0: -: refused 18 at 0: there is no row 0: pattern 0 has none\n";
         run_on(&["cells", "-", "0", "--rows", range], &module).is(2, "", line);
+    }
+    // With no row there is no track either.
+    for range in ["0", "1", "1-4", "0-", "1-18446744073709551615"] {
+        run_on(&["cells", "-", "0", "--tracks", range], &module).is(2, "", line);
     }
 }
 

@@ -176,7 +176,7 @@ fn out_cannot_be_written() {
     symlink("nowhere", &link).expect("a link");
     fails(&link, "it is a link to nothing: name the file itself");
     fails(&folder.0.join("n".repeat(256)), "File name too long");
-    run(&["repack", from, ""]).fails("cannot be written");
+    fails(Path::new(""), "it has no name: name a file");
     holds(&file, b"stays");
     assert_eq!(folder.names(), ["file", "link"]);
 }

@@ -8,7 +8,7 @@ use std::io::Read;
 use std::os::unix::ffi::OsStrExt;
 use std::process::{Command, Stdio};
 
-use common::{run, run_on, sample, sample_bytes, text, Folder, Run, PROGRAM};
+use common::{finish_child, run, run_on, sample, sample_bytes, text, Folder, Run, PROGRAM};
 use reference::draft::{Pattern, Tune};
 
 #[test]
@@ -188,7 +188,7 @@ fn with_short_reader(arguments: &[&str], bytes: usize) -> Run {
         .read_exact(&mut vec![0; bytes])
         .expect("so many come");
     drop(stdout);
-    Run::of(child.wait_with_output().expect("it ends"))
+    finish_child(child)
 }
 
 /// A closed pipe ends it quietly, with the status that it would have had.

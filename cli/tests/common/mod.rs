@@ -4,10 +4,12 @@
 
 use std::ffi::OsStr;
 use std::fs;
-use std::io::Write;
+use std::io::{Read, Write};
 use std::path::{Path, PathBuf};
-use std::process::{Command, Output, Stdio};
+use std::process::{Child, Command, ExitStatus, Output, Stdio};
 use std::sync::atomic::{AtomicU32, Ordering};
+use std::thread;
+use std::time::{Duration, Instant};
 
 pub const PROGRAM: &str = env!("CARGO_BIN_EXE_dbm0");
 
@@ -58,11 +60,59 @@ impl Run {
     }
 }
 
+/// How long a run may take before it counts as hung.
+const MOST_TIME: Duration = Duration::from_secs(60);
+
+/// Starts a command and sees to it that it ends.
+pub fn finish(command: &mut Command) -> Run {
+    command.stdout(Stdio::piped()).stderr(Stdio::piped());
+    finish_child(command.spawn().expect("the command runs"))
+}
+
+/// The same for a child that was started. What it prints is read, as far as that is a pipe which nobody took.
+pub fn finish_child(mut child: Child) -> Run {
+    let (out, err) = (child.stdout.take(), child.stderr.take());
+    thread::scope(|scope| {
+        let out = scope.spawn(|| all_of(out));
+        let err = scope.spawn(|| all_of(err));
+        let status = wait(&mut child);
+        Run::of(Output {
+            status,
+            stdout: out.join().expect("read"),
+            stderr: err.join().expect("read"),
+        })
+    })
+}
+
+fn all_of(pipe: Option<impl Read>) -> Vec<u8> {
+    let mut bytes = Vec::new();
+    if let Some(mut pipe) = pipe {
+        pipe.read_to_end(&mut bytes).expect("a pipe can be read");
+    }
+    bytes
+}
+
+/// Waits for the end, with pauses that grow.
+fn wait(child: &mut Child) -> ExitStatus {
+    let began = Instant::now();
+    let mut pause = Duration::from_micros(200);
+    loop {
+        if let Some(status) = child.try_wait().expect("it can be waited for") {
+            return status;
+        }
+        if began.elapsed() > MOST_TIME {
+            child.kill().expect("it can be ended");
+            child.wait().expect("it ends");
+            panic!("it did not end by itself");
+        }
+        thread::sleep(pause);
+        pause = (pause * 2).min(Duration::from_millis(20));
+    }
+}
+
 /// Runs the program with nothing on standard input.
 pub fn run<Argument: AsRef<OsStr>>(arguments: &[Argument]) -> Run {
-    let mut command = Command::new(PROGRAM);
-    command.args(arguments).stdin(Stdio::null());
-    Run::of(command.output().expect("the program runs"))
+    finish(Command::new(PROGRAM).args(arguments).stdin(Stdio::null()))
 }
 
 /// Runs the program with these bytes on standard input.
@@ -75,14 +125,13 @@ pub fn run_on<Argument: AsRef<OsStr>>(arguments: &[Argument], input: &[u8]) -> R
         .spawn()
         .expect("the program runs");
     let mut stdin = child.stdin.take().expect("a pipe");
-    let output = std::thread::scope(|scope| {
+    thread::scope(|scope| {
         scope.spawn(move || {
             // A program that has seen enough may be gone.
             let _ = stdin.write_all(input);
         });
-        child.wait_with_output().expect("the program ends")
-    });
-    Run::of(output)
+        finish_child(child)
+    })
 }
 
 /// A folder that is gone when the test is over.
