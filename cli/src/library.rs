@@ -48,7 +48,7 @@ struct Verdict {
 type Length = u64;
 
 #[repr(C)]
-#[derive(Clone, Copy)]
+#[derive(Clone, Copy, PartialEq, Eq)]
 pub struct Version {
     pub version: u8,
     pub revision: u8,
@@ -56,7 +56,7 @@ pub struct Version {
 
 /// How many there are of each. The names are those of INFO's fields, in their order.
 #[repr(C)]
-#[derive(Clone, Copy)]
+#[derive(Clone, Copy, PartialEq, Eq)]
 pub struct Info {
     pub instruments: u16,
     pub samples: u16,
@@ -66,14 +66,14 @@ pub struct Info {
 }
 
 #[repr(C)]
-#[derive(Clone, Copy)]
+#[derive(Clone, Copy, PartialEq, Eq)]
 pub struct Song {
     pub name: [u8; 44],
     pub length: u16,
 }
 
 #[repr(C)]
-#[derive(Clone, Copy)]
+#[derive(Clone, Copy, PartialEq, Eq)]
 pub struct Instrument {
     pub name: [u8; 30],
     pub sample: u16,
@@ -87,7 +87,7 @@ pub struct Instrument {
 
 /// The points in use are sections + 1; the others are zeros.
 #[repr(C)]
-#[derive(Clone, Copy)]
+#[derive(Clone, Copy, PartialEq, Eq)]
 pub struct Envelope {
     pub instrument: u16,
     pub flags: u8,
@@ -107,7 +107,7 @@ pub const NOTE_PITCH: u8 = 2;
 
 /// The kind of the note is one of the three above, or 3 for an unknown one.
 #[repr(C)]
-#[derive(Clone, Copy)]
+#[derive(Clone, Copy, PartialEq, Eq)]
 pub struct Cell {
     pub kind: u8,
     pub octave: u8,
@@ -121,7 +121,7 @@ pub struct Cell {
 }
 
 #[repr(C)]
-#[derive(Clone, Copy)]
+#[derive(Clone, Copy, PartialEq, Eq)]
 pub struct Sample {
     pub width: u8,
     pub frames: u32,
@@ -129,7 +129,7 @@ pub struct Sample {
 
 /// Where the frames of a sample stand in the module, and how many bytes they have.
 #[repr(C)]
-#[derive(Clone, Copy)]
+#[derive(Clone, Copy, PartialEq, Eq)]
 pub struct Frames {
     pub offset: u64,
     pub length: u64,

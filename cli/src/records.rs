@@ -4,6 +4,7 @@ use crate::library::{self, Envelope, Info, Instrument, Kind, Refusal, Sample, So
 use crate::reader::{self, Name};
 use crate::small::{each, nothing, Small};
 
+#[derive(PartialEq, Eq)]
 pub struct Report {
     pub bytes: usize,
     pub version: Version,
@@ -21,17 +22,21 @@ pub struct Report {
 
 /// Refusals: the module's own.
 pub fn gather(module: &[u8]) -> Result<Report, Refusal> {
-    gather_or_ask(module, module)
+    gather_or_ask(module, module, ASKED_WHOLE)
 }
 
-/// The same, with the module that is asked where a small one is refused.
-fn gather_or_ask(module: &[u8], whole: &[u8]) -> Result<Report, Refusal> {
+/// How many bytes the checks for a report may go over together, where each record is asked of the whole module: a quarter of a second.
+const ASKED_WHOLE: u64 = 1 << 28;
+
+/// The same, with the module that is asked where a small one is refused, and the most bytes for which it is asked at once.
+fn gather_or_ask(module: &[u8], whole: &[u8], most: u64) -> Result<Report, Refusal> {
     let version = library::version(module)?;
     let info = library::info(module)?;
     let source = Source {
         module,
         whole,
         info,
+        small: bytes_to_check(module, info)? > most,
     };
     Ok(Report {
         bytes: module.len(),
@@ -47,12 +52,25 @@ fn gather_or_ask(module: &[u8], whole: &[u8]) -> Result<Report, Refusal> {
     })
 }
 
-/// The module that small ones are cut from, the one that is asked where a small one is refused, and the numbers of INFO.
+/// How many bytes the library goes over if each record is asked of the whole module. It does not read the frames of samples.
+fn bytes_to_check(module: &[u8], info: Info) -> Result<u64, Refusal> {
+    let envelopes = u64::from(library::envelopes(module, Kind::Volume)?)
+        + u64::from(library::envelopes(module, Kind::Panning)?);
+    // A song and a sample take two queries each.
+    let twice = 2 * (u64::from(info.songs) + u64::from(info.samples));
+    let once = u64::from(info.instruments) + u64::from(info.patterns) + envelopes;
+    let samples = data(module, b"SMPL").len();
+    Ok((twice + once) * (module.len() - samples) as u64)
+}
+
+/// The module that small ones are cut from, the one that is asked where a small one is refused, the numbers of INFO, and whether small
+/// ones are asked at all.
 #[derive(Clone, Copy)]
 struct Source<'m> {
     module: &'m [u8],
     whole: &'m [u8],
     info: Info,
+    small: bool,
 }
 
 /// The data of a chunk of the module; none where it is missing.
@@ -66,6 +84,7 @@ fn songs(source: Source) -> Result<Vec<(Song, Vec<u16>)>, Refusal> {
         module,
         whole,
         info,
+        small: cut,
     } = source;
     let of_block = |block: &[u8]| {
         let highest = entries(block.get(46..).unwrap_or_default()).max();
@@ -81,7 +100,7 @@ fn songs(source: Source) -> Result<Vec<(Song, Vec<u16>)>, Refusal> {
         song(small.with(b"SONG", &[block]), 0)
     };
     let numbers = 0..usize::from(info.songs);
-    each(module, b"SONG", numbers, of_block, |number| {
+    each(module, cut, b"SONG", numbers, of_block, |number| {
         song(whole, number)
     })
 }
@@ -104,6 +123,7 @@ fn instruments(source: Source) -> Result<Vec<Instrument>, Refusal> {
         module,
         whole,
         info,
+        small: cut,
     } = source;
     let beside = Info {
         instruments: 1,
@@ -115,7 +135,7 @@ fn instruments(source: Source) -> Result<Vec<Instrument>, Refusal> {
     let mut small = Small::new(module, beside, &chunks);
     let of_block = |block: &[u8]| library::instrument(small.with(b"INST", &[block]), 1);
     let numbers = 1..usize::from(info.instruments) + 1;
-    each(module, b"INST", numbers, of_block, |number| {
+    each(module, cut, b"INST", numbers, of_block, |number| {
         library::instrument(whole, number)
     })
 }
@@ -125,6 +145,7 @@ fn patterns(source: Source) -> Result<Vec<u16>, Refusal> {
         module,
         whole,
         info,
+        small: cut,
     } = source;
     let beside = Info {
         patterns: 1,
@@ -134,7 +155,7 @@ fn patterns(source: Source) -> Result<Vec<u16>, Refusal> {
     let mut small = Small::new(module, beside, &chunks);
     let of_block = |block: &[u8]| library::rows(small.with(b"PATT", &[block]), 0);
     let numbers = 0..usize::from(info.patterns);
-    each(module, b"PATT", numbers, of_block, |number| {
+    each(module, cut, b"PATT", numbers, of_block, |number| {
         library::rows(whole, number)
     })
 }
@@ -145,15 +166,20 @@ fn samples(source: Source) -> Result<Vec<(Sample, u64)>, Refusal> {
         module,
         whole,
         info,
+        small: cut,
     } = source;
     let beside = Info {
         samples: info.samples,
         ..nothing(info.tracks)
     };
+    let numbers = 1..=usize::from(info.samples);
+    if !cut {
+        return numbers.map(|number| sample(whole, number)).collect();
+    }
     let chunks: [(&Name, &[u8]); 3] = [(b"SONG", &[]), (b"INST", &[]), (b"PATT", &[])];
     let mut small = Small::new(module, beside, &chunks);
     let small = small.with(b"SMPL", &[data(module, b"SMPL")]);
-    (1..=usize::from(info.samples))
+    numbers
         .map(|number| sample(small, number).or_else(|_| sample(whole, number)))
         .collect()
 }
@@ -170,6 +196,7 @@ fn envelopes(source: Source, kind: Kind) -> Result<Vec<Envelope>, Refusal> {
         module,
         whole,
         info,
+        small: cut,
     } = source;
     let name = match kind {
         Kind::Volume => b"VENV",
@@ -190,7 +217,7 @@ fn envelopes(source: Source, kind: Kind) -> Result<Vec<Envelope>, Refusal> {
     let one = 1u16.to_be_bytes();
     let of_block = |block: &[u8]| library::envelope(small.with(name, &[&one, block]), kind, 0);
     let numbers = 0..usize::from(library::envelopes(module, kind)?);
-    each(module, name, numbers, of_block, |number| {
+    each(module, cut, name, numbers, of_block, |number| {
         library::envelope(whole, kind, number)
     })
 }
@@ -242,7 +269,20 @@ mod tests {
         for seed in 1..=2_000 {
             for most in [Most::SMALL, Most::USUAL] {
                 let module = module(&mut Random::new(seed), &most).bytes();
-                assert!(gather_or_ask(&module, &[]).is_ok(), "seed {seed}");
+                assert!(gather_or_ask(&module, &[], 0).is_ok(), "seed {seed}");
+            }
+        }
+    }
+
+    /// A report is the same, whether each record is asked of the whole module or of a small one.
+    #[test]
+    fn small_modules_show_the_same() {
+        for seed in 1..=2_000 {
+            for most in [Most::SMALL, Most::USUAL] {
+                let module = module(&mut Random::new(seed), &most).bytes();
+                let whole = gather_or_ask(&module, &module, u64::MAX).expect("it is accepted");
+                let small = gather_or_ask(&module, &module, 0).expect("it is accepted");
+                assert!(whole == small, "seed {seed}");
             }
         }
     }

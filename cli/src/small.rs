@@ -1,9 +1,9 @@
 //! Small modules, cut from an accepted one, to ask the library about.
 //!
 //! Every query of the library checks the whole module that it is given. A report has up to some hundred thousand records, and the
-//! check of a module of 16 MiB takes up to some ten milliseconds, so asking the whole module for each of them would take minutes. So
-//! each record is asked of a small module that has the same header and the record's own block, byte for byte, and of all else just as
-//! much as the rules demand beside it: empty patterns for a playlist, empty instruments for an envelope, the samples for a loop. It
+//! check of a module of 16 MiB takes up to some ten milliseconds, so asking the whole module for each of them would take minutes.
+//! Where that would take too long (records.rs), each record is asked of a small module that has the same header and the record's own
+//! block, byte for byte, and of all else just as much as the rules demand beside it: empty patterns for a playlist, empty instruments for an envelope, the samples for a loop. It
 //! is the library that checks the small module and shows the record. Where it refuses the small module, or where no block was found,
 //! the whole module is asked.
 //!
@@ -66,15 +66,19 @@ fn push_chunk(bytes: &mut Vec<u8>, name: &Name, parts: &[&[u8]]) {
     }
 }
 
-/// Asks for every block of a chunk of the module: `of_block` asks a small module that has the block, `of_module` the whole one, by the
-/// number that the library gives the block.
+/// Asks for every block of a chunk of the module: `of_block` asks a small module that has the block, where small ones are cut,
+/// `of_module` the whole one, by the number that the library gives the block.
 pub fn each<Record>(
     module: &[u8],
+    cut: bool,
     name: &Name,
     numbers: std::ops::Range<usize>,
     mut of_block: impl FnMut(&[u8]) -> Result<Record, Refusal>,
     of_module: impl Fn(usize) -> Result<Record, Refusal>,
 ) -> Result<Vec<Record>, Refusal> {
+    if !cut {
+        return numbers.map(of_module).collect();
+    }
     let data = reader::find(module, name).map_or(&[][..], |chunk| chunk.data);
     let count = numbers.len() as u64;
     let mut blocks = Blocks::of(name)
