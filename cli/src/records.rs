@@ -52,15 +52,17 @@ fn gather_or_ask(module: &[u8], whole: &[u8], most: u64) -> Result<Report, Refus
     })
 }
 
-/// How many bytes the library goes over if each record is asked of the whole module. It does not read the frames of samples.
+/// How many bytes the library goes over if each record is asked of the whole module. It does not read the frames of samples, but for an
+/// instrument's loop it goes over the samples before its own.
 fn bytes_to_check(module: &[u8], info: Info) -> Result<u64, Refusal> {
     let envelopes = u64::from(library::envelopes(module, Kind::Volume)?)
         + u64::from(library::envelopes(module, Kind::Panning)?);
     // A song and a sample take two queries each.
     let twice = 2 * (u64::from(info.songs) + u64::from(info.samples));
     let once = u64::from(info.instruments) + u64::from(info.patterns) + envelopes;
-    let samples = data(module, b"SMPL").len();
-    Ok((twice + once) * (module.len() - samples) as u64)
+    let loops = 8 * u64::from(info.instruments) * u64::from(info.samples);
+    let read = module.len() - data(module, b"SMPL").len();
+    Ok((twice + once) * (read as u64 + loops))
 }
 
 /// The module that small ones are cut from, the one that is asked where a small one is refused, the numbers of INFO, and whether small
