@@ -9,7 +9,7 @@ use lib.Seq.{take-at, drop-at, take-append-add, take-append-le, length-take-le}
 use lib.Dec.{eqb}
 use borrow.Author.Tests.{eq-eqb, ne-eqb}
 use Rattle.cells.specs.Cells.{joined}
-use Rattle.numbers.specs.Numbers.{number32, partOf}
+use Rattle.numbers.specs.Numbers.{number32, partOf, bytes32}
 use Rattle.layout.specs.Chunks.{PATT, chunks, whole}
 use Rattle.layout.specs.declared.Place.{Place}
 use Rattle.layout.specs.declared.Layout.{Layout}
@@ -24,7 +24,7 @@ use Rattle.grammar.proofs.Recorded.{recordsFrom, joined-append, There, among-fr
 use Rattle.grammar.proofs.Chunking.{read-whole}
 use Rattle.grammar.proofs.Turns.{fits-turn}
 use Rattle.grammar.proofs.ChunkHalf.{chunks-part, bytes-split}
-use Rattle.repack.specs.Repacked.{bytes32, repackedPatterns, repackedChunk, repackedModule}
+use Rattle.repack.specs.Repacked.{repackedPatterns, repackedChunk, repackedModule}
 use Rattle.repack.specs.Steps.{replaced}
 
 -- PATT with other data, and a chunk of a module of which PATT gets them.

@@ -6,7 +6,7 @@ use native.Mathlib.Omega.{arith}
 use lib.ListN.{length, take, drop, length-append, length-drop}
 use lib.Seq.{take-take, take-append-le, take-at, drop-at, drop-drop, length-take-le}
 use borrow.Rule.Slice.PartMut.{midOf, putMid}
-use Rattle.repack.specs.Repacked.{bytes32}
+use Rattle.numbers.specs.Numbers.{bytes32}
 use Rattle.repack.proofs.Ends.{mid-end, put-end}
 
 -- The output once it is written up to the place of the length.

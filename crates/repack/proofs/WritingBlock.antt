@@ -9,10 +9,10 @@ use lib.ListN.{length, getD, take, drop, set, replicate, length-append}
 use lib.Seq.{drop-cons, set-at}
 use borrow.Rule.Slice.PartMut.{midOf, putMid}
 use Rattle.refusal.specs.declared.Verdict.the-variants.{Accepted}
-use Rattle.numbers.specs.Numbers.{number32, partOf}
+use Rattle.numbers.specs.Numbers.{number32, partOf, bytes32}
 use Rattle.module.specs.Streams.{streamVerdict}
 use Rattle.grammar.proofs.Locating.{part-length}
-use Rattle.repack.specs.Repacked.{bytes32, packed, repackedStream, repackedBlock}
+use Rattle.repack.specs.Repacked.{packed, repackedStream, repackedBlock}
 use Rattle.repack.proofs.Anew.{block-size}
 use Rattle.repack.proofs.Ends.{copied}
 use Rattle.repack.proofs.LengthBefore.{lent-length, third-is}

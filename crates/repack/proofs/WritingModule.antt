@@ -9,7 +9,7 @@ use lib.Seq.{length-take-le}
 use borrow.Rule.Slice.PartMut.{midOf, putMid}
 use Rattle.layout.specs.declared.Place.{Place}
 use Rattle.blocks.specs.Filling.{dataEnd}
-use Rattle.repack.specs.Repacked.{bytes32}
+use Rattle.numbers.specs.Numbers.{bytes32}
 use Rattle.repack.specs.Steps.{replaced}
 use Rattle.repack.proofs.Ends.{mid-end, copied, put-next, written-length}
 use Rattle.repack.proofs.LengthBefore.{third-is}

@@ -1,6 +1,6 @@
 -- FORMAT.md, X1 to X4 (document 01, "Repacking a module keeps .."): a module repacked. Its header and its chunks stand in order and byte
 -- for byte, except that PATT holds the packer's streams and the lengths that follow.
-use Prim.Native.Nat.{ℕ, _+_, _/_, _%_}
+use Prim.Native.Nat.{ℕ, _+_, _%_}
 use mathlib.Core.List.{List, [], _∷_, _++_, map}
 use mathlib.Core.Bool.{cond}
 use lib.ListN.{length, replicate}
@@ -9,7 +9,7 @@ use Rattle.cells.specs.Cells.{joined}
 use Rattle.packed_rows.specs.Entries.{rowsFrom}
 use Rattle.packed_rows.specs.Stream.{readStream, entriesRead}
 use Rattle.packed_rows.specs.Packer.{packedStream}
-use Rattle.numbers.specs.Numbers.{number16, partOf}
+use Rattle.numbers.specs.Numbers.{number16, partOf, bytes32}
 use Rattle.layout.specs.Chunks.{PATT, Chunk, Walk, whole, stopped, chunks}
 use Rattle.layout.specs.declared.Layout.{Layout}
 use Rattle.layout.specs.declared.Outline.{Outline}
@@ -19,10 +19,6 @@ use Rattle.module.specs.Streams.{packedBytes}
 use Rattle.module.specs.Verdicts.{opened}
 use Rattle.queries.specs.Lengths.{refusedLength, lengthIf, outputIf}
 use Rattle.queries.specs.declared.LengthAnswer.{LengthAnswer}
-
--- M1: a number as 4 bytes, big-endian.
-abbrev pub bytes32 : ℕ → List ℕ
-bytes32 n = n / 16777216 ∷ n / 65536 % 256 ∷ n / 256 % 256 ∷ n % 256 ∷ []
 
 -- X3: the packer's stream (W1 to W3) of the cells of the pattern at a place, with its rows and the module's tracks.
 abbrev pub repackedStream : List ℕ → ℕ → ℕ → List ℕ

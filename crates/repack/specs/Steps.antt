@@ -11,7 +11,8 @@ use Rattle.blocks.specs.Sizes.{sizeOf, placeAfter, placesFrom, firstBlock}
 use Rattle.blocks.specs.Filling.{dataEnd}
 use Rattle.blocks.specs.declared.Kind.the-variants.{Pattern}
 use Rattle.module.specs.Streams.{streamVerdict}
-use Rattle.repack.specs.Repacked.{bytes32, repackedBlock}
+use Rattle.numbers.specs.Numbers.{bytes32}
+use Rattle.repack.specs.Repacked.{repackedBlock}
 
 -- The blocks anew of so many patterns from a place on.
 abbrev pub blocksAnew : List ℕ → ℕ → ℕ → ℕ → List ℕ

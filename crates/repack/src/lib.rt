@@ -21,13 +21,13 @@ ghost use mathlib.Core.List.{_++_};
 ghost use Prim.Native.Nat.{_+_, _<_, _≤_};
 ghost use lib.ListN.{length, drop};
 ghost use Rattle.refusal.specs.declared.Verdict.the-variants.{Accepted};
-ghost use Rattle.numbers.specs.Numbers.{number32 as number32At};
+ghost use Rattle.numbers.specs.Numbers.{number32 as number32At, bytes32};
 ghost use Rattle.layout.specs.declared.Outline.the-variants.{Found};
 ghost use Rattle.blocks.specs.Sizes.{firstBlock};
 ghost use Rattle.blocks.specs.declared.Kind.the-variants.{Pattern};
 ghost use Rattle.module.specs.Streams.{streamVerdict};
 ghost use Rattle.module.specs.Verdicts.{opened};
-ghost use Rattle.repack.specs.Repacked.{bytes32, repackedStream, repackedBlock, repackAnswerIf, repackAnswer, repackOutputIf, repackOutput};
+ghost use Rattle.repack.specs.Repacked.{repackedStream, repackedBlock, repackAnswerIf, repackAnswer, repackOutputIf, repackOutput};
 ghost use Rattle.repack.specs.Steps.{blocksAnew, replaced, PatternsIn};
 
 // Writes the packer's stream of the pattern at a place to the front of an output that has room for it, and answers its length, also

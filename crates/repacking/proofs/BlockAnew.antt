@@ -9,7 +9,7 @@ use lib.Seq.{take-at, length-take-le}
 use Rattle.refusal.specs.declared.Verdict.the-variants.{Accepted}
 use Rattle.cells.specs.Cells.{joined}
 use Rattle.packed_rows.specs.Packer.{packedStream}
-use Rattle.numbers.specs.Numbers.{number16, number32, partOf}
+use Rattle.numbers.specs.Numbers.{number16, number32, partOf, bytes32}
 use Rattle.blocks.specs.Sizes.{sizeOf, placesFrom}
 use Rattle.blocks.specs.declared.Kind.the-variants.{Pattern}
 use Rattle.module.specs.Streams.{packedBytes, streamVerdict}
@@ -17,7 +17,7 @@ use Rattle.grammar.specs.Rules.{Every, none, also}
 use Rattle.grammar.proofs.Locating.{PartAt, number16-start, number16-front, number16-take, part-length, part-there, part-is}
 use Rattle.grammar.proofs.Cutting.{Sized, sized-least, part-first, part-rest, part-size}
 use Rattle.grammar.proofs.BlockStreams.{stream-same}
-use Rattle.repack.specs.Repacked.{bytes32, packed, repackedStream, repackedBlock}
+use Rattle.repack.specs.Repacked.{packed, repackedStream, repackedBlock}
 use Rattle.repack.proofs.Anew.{block-size, block-shorter}
 use Rattle.repack.proofs.ChunksAnew.{part-front}
 use Rattle.repacking.proofs.PackedAgain.{rowsHeld, packed-accepted, packed-rows}

@@ -7,7 +7,7 @@ use lib.ListN.{length, take, drop, replicate, length-append, length-map, length-
 use lib.Seq.{take-at, length-take-le}
 use Rattle.refusal.specs.declared.Verdict.the-variants.{Accepted}
 use Rattle.cells.specs.Cells.{joined}
-use Rattle.numbers.specs.Numbers.{number16, number32}
+use Rattle.numbers.specs.Numbers.{number16, number32, bytes32}
 use Rattle.layout.specs.declared.Place.{Place}
 use Rattle.layout.specs.declared.Layout.{Layout}
 use Rattle.layout.specs.declared.Outline.the-variants.{Found}
@@ -27,7 +27,7 @@ use Rattle.grammar.proofs.FillingChunks.{BlocksIn, filled-blocks}
 use Rattle.grammar.proofs.BlockStreams.{TracksFit, accepted-says, pattern-sized, pattern-holds}
 use Rattle.grammar.proofs.ContentHalf.{counted, content-follows, content-exactly}
 use Rattle.grammar.proofs.FoundBlocks.{Opens, module-opens}
-use Rattle.repack.specs.Repacked.{bytes32, packed, repackedStream, repackedBlock, repackedPatterns, repackedModule}
+use Rattle.repack.specs.Repacked.{packed, repackedStream, repackedBlock, repackedPatterns, repackedModule}
 use Rattle.repack.proofs.Anew.{packed-size}
 use Rattle.repack.proofs.ChunksAnew.{pattAnew, chunkAnew, module-anew}
 use Rattle.repack.proofs.Accepting.{patterns-in, outlined, module-replaced}

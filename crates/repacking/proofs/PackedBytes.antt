@@ -7,7 +7,7 @@ use mathlib.Core.Logic.{_↔_}
 use mathlib.Core.List.{List, [], _∷_, _++_, map}
 use mathlib.Core.Bool.{Bool, true, false, cond}
 use native.Mathlib.Omega.{arith}
-use native.Mathlib.Nat.{add-zero, mod-lt, div-add-mod', div-div-eq-div-mul, div-lt-iff-lt-mul}
+use native.Mathlib.Nat.{add-zero, mod-lt, div-lt-iff-lt-mul}
 use lib.ListN.{length, getD, drop}
 use lib.Dec.{eqb}
 use Rattle.refusal.specs.declared.Verdict.the-variants.{Accepted}
@@ -21,13 +21,13 @@ use Rattle.packed_rows.proofs.Shapes.{Each, none as no-cell, one as one-cell, B
 use Rattle.packed_rows.proofs.PackedRow.{Packs, done, written, passed, packs}
 use Rattle.packed_rows.proofs.Soundness.{packed-sound}
 use Rattle.packed_rows.proofs.Accepted.{accepted-stream}
-use Rattle.numbers.specs.Numbers.{byteAt, number16, number32}
+use Rattle.numbers.specs.Numbers.{number32, bytes32}
+use Rattle.numbers.proofs.Stored.{bytes32-again}
 use Rattle.grammar.specs.Rules.{Bytes, Every, none, also}
 use Rattle.grammar.proofs.Locating.{number32-part}
 use Rattle.grammar.proofs.Holding.{every-first, every-rest, every-of}
 use Rattle.grammar.proofs.BlockStreams.{accepted-sizes}
 use Rattle.grammar.proofs.FoundPatterns.{holds}
-use Rattle.repack.specs.Repacked.{bytes32}
 use Rattle.repacking.proofs.AllBytes.{every-map, bytes-getD, bytes-nil, bytes-cons, bytes-first, bytes-rest, bytes-append, bytes-front, bytes-drop, bytes-joined, bytes-replicate}
 
 -- A number as four bytes.
@@ -38,18 +38,7 @@ bytes32-bytes n h =
     (bytes-cons _ _ (mod-lt (n / 256) (omega arith))
     (bytes-cons _ _ (mod-lt n (omega arith)) bytes-nil)))
 
--- And read again: a number is its last byte behind the number that stands before it, and so three times.
-four-bytes : (n a b c r s t : ℕ) → a * 256 + r ≡ n → b * 256 + s ≡ a → c * 256 + t ≡ b → (c * 256 + t) * 65536 + (s * 256 + r) ≡ n
-four-bytes n a b c r s t p q u = omega arith
-
-pub bytes32-again : (n : ℕ) → number32 (bytes32 n) 0 ≡ n
-unfolding byteAt number16 number32
-bytes32-again n =
-    four-bytes n (n / 256) (n / 65536) (n / 16777216) (n % 256) (n / 256 % 256) (n / 65536 % 256)
-    (div-add-mod' n 256)
-    (rw (← div-div-eq-div-mul n 256 256) (div-add-mod' (n / 256) 256))
-    (rw (← div-div-eq-div-mul n 65536 256) (div-add-mod' (n / 65536) 256))
-
+-- And read again.
 pub bytes32-number : (n : ℕ) (front rest : List ℕ) → number32 (front ++ (bytes32 n ++ rest)) (length front) ≡ n
 bytes32-number n front rest = rw add-zero at (number32-part front (bytes32 n) rest 0 (omega arith)) ∙ bytes32-again n
 

@@ -8,13 +8,12 @@ use lib.ListN.{length, take, length-append}
 use lib.Seq.{take-at, length-take-le}
 use lib.Dec.{eqb}
 use borrow.Author.Tests.{eqb-true, eq-eqb, ne-eqb}
-use Rattle.numbers.specs.Numbers.{byteAt, number16, number32}
+use Rattle.numbers.specs.Numbers.{byteAt, number16, number32, bytes32}
 use Rattle.layout.specs.Chunks.{PATT}
 use Rattle.grammar.specs.Rules.{ChunkBytes, nameLetters, infoLetters, songLetters, instLetters, pattLetters, smplLetters, venvLetters, penvLetters, Covered}
 use Rattle.grammar.proofs.Locating.{byteAt-front, byteAt-take}
 use Rattle.grammar.proofs.Holding.{false-never}
 use Rattle.grammar.proofs.Identifiers.{chunk-named}
-use Rattle.repack.specs.Repacked.{bytes32}
 use Rattle.repack.proofs.ChunksAnew.{pattAnew, chunkAnew}
 use Rattle.repacking.proofs.PackedBytes.{bytes32-number}
 use Rattle.repacking.proofs.MappedChunks.{KeepsLetters, Leaves}

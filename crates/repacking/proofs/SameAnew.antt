@@ -9,7 +9,7 @@ use lib.ListN.{length, getD, take, drop, replicate, length-append, length-drop, 
 use lib.Seq.{take-at, drop-at, drop-drop, take-all, length-take-le}
 use borrow.Author.Tests.{le-leb, lt-ltb}
 use Rattle.cells.specs.Cells.{joined}
-use Rattle.numbers.specs.Numbers.{number16, number32, partOf}
+use Rattle.numbers.specs.Numbers.{number16, number32, partOf, bytes32}
 use Rattle.layout.specs.declared.Layout.{Layout}
 use Rattle.layout.specs.declared.Outline.the-variants.{Found}
 use Rattle.blocks.specs.Sizes.{sizeOf, placeAfter}
@@ -26,12 +26,13 @@ use Rattle.grammar.proofs.Holding.{every-at, every-of}
 use Rattle.grammar.proofs.Cutting.{Sized, sized-least, block-there}
 use Rattle.grammar.proofs.Identifiers.{number-letters}
 use Rattle.grammar.proofs.FoundBlocks.{found-numbered}
-use Rattle.repack.specs.Repacked.{bytes32, packed, repackedStream, repackedPatterns, repackedModule}
+use Rattle.repack.specs.Repacked.{packed, repackedStream, repackedPatterns, repackedModule}
 use Rattle.repack.proofs.ChunksAnew.{pattAnew, split-anew}
 use Rattle.repack.proofs.Accepting.{patterns-in, module-replaced}
 use Rattle.repacking.specs.Packed.{fillerOf, PackedAt}
 use Rattle.repacking.proofs.AllBytes.{bytes-drop}
-use Rattle.repacking.proofs.PackedBytes.{bytes32-bytes, bytes32-again}
+use Rattle.numbers.proofs.Stored.{bytes32-again}
+use Rattle.repacking.proofs.PackedBytes.{bytes32-bytes}
 use Rattle.repacking.proofs.BlockAnew.{blockAnew, packed-same, rows-same, SoundBlock, anew-length, anew-stream, filler-part, anew-shorter}
 use Rattle.repacking.proofs.ModuleAnew.{header, patt, pattThere, content-of, blocks, blocks-in, blocks-bytes, sound-blocks, rules, data-is, joined-shorter, patt-bytes, patt-below, patt-size, repacked-size, repacked-bytes}
 

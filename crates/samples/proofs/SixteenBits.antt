@@ -7,8 +7,8 @@ use native.Mathlib.Omega.{arith}
 use lib.Dec.{ltb}
 use lib.IntN.{ℤ, pos, negsuc, negℤ, _*ℤ_, pos-*ℤ-pos, negsuc-*ℤ-pos}
 use borrow.Author.Tests.{lt-ltb, le-ltb, ltb-true, ltb-false}
-use Rattle.numbers.specs.Numbers.{signedBy, signed16}
-use Rattle.samples.specs.Shown.{frameBytes, frameCount, dividedDown, frame16, frameOf, frameIn, unsigned16}
+use Rattle.numbers.specs.Numbers.{signedBy, signed16, unsigned16}
+use Rattle.samples.specs.Shown.{frameBytes, frameCount, dividedDown, frame16, frameOf, frameIn}
 
 -- 8 bits: times 256.
 pub times-256 : (b : ℕ) → b < 256 → signed16 (b * 256) ≡ signedBy 128 b *ℤ pos 256

@@ -12,25 +12,24 @@ use lib.ListN.{length, set, length-append}
 use lib.Seq.{set-at, append-snoc}
 use lib.IntN.{ℤ}
 use Rattle.cells.specs.Cells.{joined}
-use Rattle.numbers.specs.Numbers.{signed16, eachFrom}
-use Rattle.samples.specs.Shown.{unsigned16, bytes16}
+use Rattle.numbers.specs.Numbers.{signed16, eachFrom, bytes16, unsigned16}
 use Rattle.samples.proofs.SixteenBits.{stored-again}
 
 module _ (f : ℕ → ℤ) where
   -- The numbers from a number on, so many of them, 2 bytes each.
   abbrev pub pairs : ℕ → ℕ → List ℕ
-  pairs k n = joined (eachFrom (λ (i : ℕ). bytes16 (f i)) k n)
+  pairs k n = joined (eachFrom (λ (i : ℕ). bytes16 (unsigned16 (f i))) k n)
 
   pub pairs-length : (n k : ℕ) → length (pairs k n) ≡ 2 * n
   pairs-length zero k = refl
   pairs-length (suc n) k = omega (arith, pairs-length n (k + 1))
 
   -- One more, with what stands behind it.
-  pairs-more : (n k : ℕ) (rest : List ℕ) → pairs k (suc n) ++ rest ≡ pairs k n ++ (bytes16 (f (k + n)) ++ rest)
-  pairs-more zero k rest = ap (λ (i : ℕ). bytes16 (f i) ++ rest) (omega arith)
+  pairs-more : (n k : ℕ) (rest : List ℕ) → pairs k (suc n) ++ rest ≡ pairs k n ++ (bytes16 (unsigned16 (f (k + n))) ++ rest)
+  pairs-more zero k rest = ap (λ (i : ℕ). bytes16 (unsigned16 (f i)) ++ rest) (omega arith)
   pairs-more (suc n) k rest =
       let again = pairs-more n (k + 1) rest in
-      ap (λ (t : List ℕ). bytes16 (f k) ++ t) (again ∙ ap (λ (i : ℕ). pairs (k + 1) n ++ (bytes16 (f i) ++ rest)) (omega arith))
+      ap (λ (t : List ℕ). bytes16 (unsigned16 (f k)) ++ t) (again ∙ ap (λ (i : ℕ). pairs (k + 1) n ++ (bytes16 (unsigned16 (f i)) ++ rest)) (omega arith))
 
 -- So many of the numbers are written, and room is left for the others.
 pub record Writing (f : ℕ → ℤ) (n : ℕ) (out : List ℕ) (i : ℕ) : Type 0 where
@@ -50,7 +49,7 @@ module _ (f : ℕ → ℤ) (n : ℕ) where
   pub writing-turn : (out : List ℕ) (i v : ℕ) → Writing f n out i → i < n → v < 65536 → signed16 v ≡ f i → Writing f n (set (set out (2 * i) (v / 256)) (2 * i + 1) (v % 256)) (i + 1)
   writing-turn out i v h less small e = go (h .rest) (h .same) (h .room)
     where
-      bytes : (rest : List ℕ) → v / 256 ∷ v % 256 ∷ rest ≡ bytes16 (f (0 + i)) ++ rest
+      bytes : (rest : List ℕ) → v / 256 ∷ v % 256 ∷ rest ≡ bytes16 (unsigned16 (f (0 + i))) ++ rest
       bytes rest = ap (λ (s : ℕ). s / 256 ∷ s % 256 ∷ rest) (sym (stored-again v small) ∙ ap unsigned16 e ∙ ap (λ (k : ℕ). unsigned16 (f k)) (omega arith))
 
       go : (rest : List ℕ) → out ≡ pairs f 0 i ++ rest → 2 * i + length rest ≡ 2 * n → Writing f n (set (set out (2 * i) (v / 256)) (2 * i + 1) (v % 256)) (i + 1)

@@ -1,7 +1,7 @@
 -- FORMAT.md, B5 and Q11 to Q13 (document 01, "Layout"): a sample and its frames as they are shown. Each answer begins with the
 -- refusal's number and place, 0 and 0 where there is none; on a refusal all else is 0.
-use Prim.Native.Nat.{ℕ, _+_, _-_, _*_, _/_, _%_}
-use mathlib.Core.List.{List, [], _∷_}
+use Prim.Native.Nat.{ℕ, _+_, _*_, _/_}
+use mathlib.Core.List.{List}
 use mathlib.Core.Bool.{cond}
 use lib.ListN.{length}
 use lib.Dec.{eqb, ltb}
@@ -10,7 +10,7 @@ use Rattle.refusal.specs.Numbers.{refusal}
 use Rattle.refusal.specs.declared.Cause.the-variants.{NotThere}
 use Rattle.refusal.specs.declared.Refusal.{Refusal}
 use Rattle.cells.specs.Cells.{joined}
-use Rattle.numbers.specs.Numbers.{byteAt, number16, number32, partOf, signedBy, signed16, eachFrom}
+use Rattle.numbers.specs.Numbers.{byteAt, number16, number32, partOf, signedBy, signed16, eachFrom, bytes16, unsigned16}
 use Rattle.blocks.specs.Sizes.{widthOf}
 use Rattle.queries.specs.Finding.{found}
 use Rattle.queries.specs.Lengths.{refusedLength, lengthIf, outputIf}
@@ -97,17 +97,9 @@ frameIf m frame (Refused r) = noFrame r
 abbrev pub frameAnswer : List ℕ → ℕ → ℕ → FrameAnswer
 frameAnswer m sample frame = frameIf m frame (found m Sample sample)
 
--- M1: a signed number as 2 bytes.
-abbrev pub unsigned16 : ℤ → ℕ
-unsigned16 (pos n) = n
-unsigned16 (negsuc n) = 65535 - n
-
-abbrev pub bytes16 : ℤ → List ℕ
-bytes16 z = unsigned16 z / 256 ∷ unsigned16 z % 256 ∷ []
-
 -- Q13: all frames of the sample at a place at 16 bits, 2 bytes each.
 abbrev pub allFrames : List ℕ → ℕ → List ℕ
-allFrames m at = joined (eachFrom (λ frame. bytes16 (frameOf m at frame)) 0 (frameCount m at))
+allFrames m at = joined (eachFrom (λ frame. bytes16 (unsigned16 (frameOf m at frame))) 0 (frameCount m at))
 
 -- 17, else the length: 2 bytes for each frame.
 abbrev pub allFramesIn : List ℕ → ℕ → ℕ → LengthAnswer

@@ -2,8 +2,8 @@
 use Prim.Native.Nat.{ℕ, _+_, _*_}
 use mathlib.Core.List.{List}
 use Rattle.cells.specs.Cells.{joined}
-use Rattle.numbers.specs.Numbers.{eachFrom}
-use Rattle.samples.specs.Shown.{frame16, bytes16}
+use Rattle.numbers.specs.Numbers.{eachFrom, bytes16, unsigned16}
+use Rattle.samples.specs.Shown.{frame16}
 
 abbrev pub framesFrom : List ℕ → ℕ → ℕ → ℕ → List ℕ
-framesFrom m bytes start n = joined (eachFrom (λ frame. bytes16 (frame16 m bytes (start + frame * bytes))) 0 n)
+framesFrom m bytes start n = joined (eachFrom (λ frame. bytes16 (unsigned16 (frame16 m bytes (start + frame * bytes)))) 0 n)

@@ -7,13 +7,14 @@ use mathlib.Core.List.{List}
 use native.Mathlib.Omega.{arith}
 use native.Mathlib.Nat.{add-assoc, mul-le-mul-right}
 use lib.Dec.{ltb}
+use lib.IntN.{ℤ}
 use borrow.Author.Tests.{ltb-true}
 use Rattle.cells.specs.Cells.{joined}
-use Rattle.numbers.specs.Numbers.{number32, partOf}
+use Rattle.numbers.specs.Numbers.{number32, partOf, bytes16, unsigned16}
 use Rattle.blocks.specs.Sizes.{sizeOf}
 use Rattle.blocks.specs.declared.Kind.the-variants.{Sample as SampleKind}
 use Rattle.queries.specs.declared.Thing.the-variants.{Sample}
-use Rattle.samples.specs.Shown.{frameBytes, frameCount, shownSample, sampleIf, sampleAnswer, framesIf, frame16, frameOf, frameIn, frameIf, frameAnswer, bytes16, allFrames, allFramesIf, allFramesAnswer, allFramesOutputIn, allFramesOutputIf, allFramesOutput}
+use Rattle.samples.specs.Shown.{frameBytes, frameCount, shownSample, sampleIf, sampleAnswer, framesIf, frame16, frameOf, frameIn, frameIf, frameAnswer, allFrames, allFramesIf, allFramesAnswer, allFramesOutputIn, allFramesOutputIf, allFramesOutput}
 use Rattle.grammar.proofs.SampleFrames.{frames-in}
 use Rattle.showing.specs.Showing.{SameFrames}
 use Rattle.showing.proofs.Alike.{SameBlock, Alike}
@@ -53,7 +54,7 @@ module _ {m n : List ℕ} {at to : ℕ} (s : SameBlock SampleKind m n at to) whe
     frame-same frame = rw count-same (same-if (ltb frame (frameCount m at)) _ (λ h. rw (frameOf-same frame (ltb-true frame _ h))))
 
     allFrames-same : allFrames n to ≡ allFrames m at
-    allFrames-same = rw count-same (ap joined (each-same (λ frame. bytes16 (frameOf n to frame)) (λ frame. bytes16 (frameOf m at frame)) (frameCount m at) 0 0 (λ i h. ap bytes16 (frameOf-same (0 + i) (omega arith)))))
+    allFrames-same = rw count-same (ap joined (each-same (λ frame. bytes16 (unsigned16 (frameOf n to frame))) (λ frame. bytes16 (unsigned16 (frameOf m at frame))) (frameCount m at) 0 0 (λ i h. ap (λ (z : ℤ). bytes16 (unsigned16 z)) (frameOf-same (0 + i) (omega arith)))))
 
     output-same : (out : List ℕ) → allFramesOutputIn n to out ≡ allFramesOutputIn m at out
     output-same out = rw (allFrames-same, count-same)
