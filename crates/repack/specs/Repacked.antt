@@ -1,7 +1,7 @@
 -- FORMAT.md, X1 to X4 (document 01, "Repacking a module keeps .."): a module repacked. Its header and its chunks stand in order and byte
 -- for byte, except that PATT holds the packer's streams and the lengths that follow.
 use Prim.Native.Nat.{ℕ, _+_, _%_}
-use mathlib.Core.List.{List, [], _∷_, _++_, map}
+use mathlib.Core.List.{List, [], _++_, map}
 use mathlib.Core.Bool.{cond}
 use lib.ListN.{length, replicate}
 use lib.Dec.{eqb}

@@ -11,24 +11,24 @@ use Rattle.grammar.proofs.Recorded.{every-among}
 use Rattle.grammar.proofs.Turns.{ChunksFit}
 use Rattle.repack.proofs.ChunksAnew.{map-append}
 
--- A split of the changed chunks comes from a split of the chunks.
-pub record MapSplit (f : List ℕ → List ℕ) (all before : List (List ℕ)) (chunk : List ℕ) (after : List (List ℕ)) : Type 0 where
-  pub front : List (List ℕ)
-  pub one : List ℕ
-  pub back : List (List ℕ)
+-- A split of what a function gives comes from a split of the list.
+pub record MapSplit {A B : Type 0} (f : A → B) (all : List A) (before : List B) (chunk : B) (after : List B) : Type 0 where
+  pub front : List A
+  pub one : A
+  pub back : List A
   pub splits : all ≡ front ++ (one ∷ back)
   pub frontIs : before ≡ map f front
   pub oneIs : chunk ≡ f one
   pub backIs : after ≡ map f back
 
-pub map-split : (f : List ℕ → List ℕ) (all before after : List (List ℕ)) (chunk : List ℕ) → map f all ≡ before ++ (chunk ∷ after) → MapSplit f all before chunk after
+pub map-split : {A B : Type 0} (f : A → B) (all : List A) (before after : List B) (chunk : B) → map f all ≡ before ++ (chunk ∷ after) → MapSplit f all before chunk after
 map-split f [] [] after chunk e = let z : _≡_ {A = ℕ} 0 1 = cc in absurd (omega arith)
 map-split f [] (b ∷ before) after chunk e = let z : _≡_ {A = ℕ} 0 1 = cc in absurd (omega arith)
 map-split f (x ∷ all) [] after chunk e =
     let same : f x ≡ chunk = cc in
     let rest : map f all ≡ after = cc in
     record { front = []; one = x; back = all; splits = refl; frontIs = refl; oneIs = sym same; backIs = sym rest }
-map-split f (x ∷ all) (b ∷ before) after chunk e =
+map-split {A} {B} f (x ∷ all) (b ∷ before) after chunk e =
     let same : f x ≡ b = cc in
     let rest : map f all ≡ before ++ (chunk ∷ after) = cc in
     let s = map-split f all before after chunk rest in
@@ -36,8 +36,8 @@ map-split f (x ∷ all) (b ∷ before) after chunk e =
       front = x ∷ s .front;
       one = s .one;
       back = s .back;
-      splits = ap (λ (l : List (List ℕ)). x ∷ l) (s .splits);
-      frontIs = ap (λ (l : List (List ℕ)). b ∷ l) (s .frontIs) ∙ ap (λ (c : List ℕ). c ∷ map f (s .front)) (sym same);
+      splits = ap (λ (l : List A). x ∷ l) (s .splits);
+      frontIs = ap (λ (l : List B). b ∷ l) (s .frontIs) ∙ ap (λ (c : B). c ∷ map f (s .front)) (sym same);
       oneIs = s .oneIs;
       backIs = s .backIs;
     }

@@ -1,7 +1,7 @@
 -- What a packed pattern is made of is bytes, where the stream that it was read from is: a length as four bytes, which read again is the
 -- length; and the packer's stream, since every field of a cell is 0 or was stored by an entry of the stream read, tracks are at most 254
 -- and masks are below 64.
-use Prim.Native.Nat.{ℕ, _+_, _-_, _*_, _/_, _%_, _<_, _≤_}
+use Prim.Native.Nat.{ℕ, _+_, _-_, _/_, _<_, _≤_}
 use mathlib.Core.Path.{_≡_, _∙_}
 use mathlib.Core.Logic.{_↔_}
 use mathlib.Core.List.{List, [], _∷_, _++_, map}
@@ -43,7 +43,7 @@ pub bytes32-number : (n : ℕ) (front rest : List ℕ) → number32 (front ++ (b
 bytes32-number n front rest = rw add-zero at (number32-part front (bytes32 n) rest 0 (omega arith)) ∙ bytes32-again n
 
 -- A stream is bytes exactly when its entries are.
-abbrev EntriesBytes : List Entry → Type 0
+abbrev pub EntriesBytes : List Entry → Type 0
 EntriesBytes es = Every (λ e. Bytes (entryBytes e)) es
 
 row-stream-bytes : (es : List Entry) → EntriesBytes es ↔ Bytes (rowStream es)
@@ -52,7 +52,7 @@ row-stream-bytes es = (
   λ h. every-map entryBytes es .0 (bytes-joined (map entryBytes es) .1 (bytes-front (joined (map entryBytes es)) (0 ∷ []) h)),
 )
 
-stream-bytes : (rows : List (List Entry)) → Every EntriesBytes rows ↔ Bytes (streamOf rows)
+pub stream-bytes : (rows : List (List Entry)) → Every EntriesBytes rows ↔ Bytes (streamOf rows)
 stream-bytes rows = (
   λ e. bytes-joined (map rowStream rows) .0 (every-map rowStream rows .1 (every-of (λ es. row-stream-bytes es .0) e)),
   λ h. every-of (λ es. row-stream-bytes es .1) (every-map rowStream rows .0 (bytes-joined (map rowStream rows) .1 h)),
@@ -97,7 +97,7 @@ entries-bytes (written {track = track} {cell = cell} q p) (one-cell l b) (one-ce
     also (packed-entry-bytes track cell low (omega arith) l c) (entries-bytes p b cs (omega arith) (omega arith))
 entries-bytes (passed q p) (one-cell l b) (one-cell c cs) low fits = entries-bytes p b cs (omega arith) (omega arith)
 
-repacked-bytes : (tracks : ℕ) → tracks ≤ 254 → (entries : List (List Entry)) → Every EntriesBytes entries → Every EntriesBytes (map packedEntries (rowsFrom tracks entries))
+pub repacked-bytes : (tracks : ℕ) → tracks ≤ 254 → (entries : List (List Entry)) → Every EntriesBytes entries → Every EntriesBytes (map packedEntries (rowsFrom tracks entries))
 repacked-bytes tracks few entries h =
     every-map packedEntries (rowsFrom tracks entries) .1
     (every-map (rowFrom tracks) entries .1

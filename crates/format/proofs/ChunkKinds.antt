@@ -1,0 +1,149 @@
+-- The kind of a chunk: which of the covered ones it is, or another. Its bytes tell the kind, and so what it holds.
+use Prim.Native.Nat.{ℕ}
+use mathlib.Core.Path.{_≡_, refl, sym, ap, subst, _∙_}
+use mathlib.Core.List.{List, _++_}
+use mathlib.Core.Bool.{false, cond}
+use lib.ListN.{length, take}
+use lib.Seq.{take-at}
+use lib.Dec.{eqb}
+use borrow.Author.Tests.{ne-eqb}
+use Rattle.numbers.specs.Numbers.{byteAt, number16, number32, bytes32}
+use Rattle.grammar.specs.Rules.{Every, ChunkBytes, Covered, nameLetters, infoLetters, songLetters, instLetters, pattLetters, smplLetters, venvLetters, penvLetters}
+use Rattle.grammar.proofs.Identifiers.{identifierOf, chunk-named}
+use Rattle.format.specs.Description.{Info, Song, Instrument, Pattern, Sample, Envelope, Chunk, NAME, INFO, SONG, INST, PATT, SMPL, VENV, PENV, Other}
+use Rattle.format.specs.Encoding.{songBytes, instrumentBytes, patternBytes, sampleBytes, chunkBytes}
+use Rattle.format.specs.WellFormed.{PatternFits, OtherFits}
+use Rattle.format.proofs.Delimited.{front-same, next32, all-same, every-any, info-same, song-delimited, song-some, instrument-delimited, instrument-some, pattern-delimited, pattern-some, sample-delimited, sample-some, envelopes-same}
+
+pub data Kind : Type 0 where
+  named counted songs instruments patterns samples volumes pannings others : Kind
+
+abbrev pub kindOf : Chunk → Kind
+kindOf (NAME name) = named
+kindOf (INFO info) = counted
+kindOf (SONG list) = songs
+kindOf (INST list) = instruments
+kindOf (PATT list) = patterns
+kindOf (SMPL list) = samples
+kindOf (VENV list) = volumes
+kindOf (PENV list) = pannings
+kindOf (Other letters bytes) = others
+
+-- What a chunk of a kind holds, and the chunk that holds it.
+abbrev pub Holding : Kind → Type 0
+Holding named = List ℕ
+Holding counted = Info
+Holding songs = List Song
+Holding instruments = List Instrument
+Holding patterns = List Pattern
+Holding samples = List Sample
+Holding volumes = List Envelope
+Holding pannings = List Envelope
+Holding others = List ℕ × List ℕ
+
+abbrev pub holder : (k : Kind) → Holding k → Chunk
+holder named name = NAME name
+holder counted info = INFO info
+holder songs list = SONG list
+holder instruments list = INST list
+holder patterns list = PATT list
+holder samples list = SMPL list
+holder volumes list = VENV list
+holder pannings list = PENV list
+holder others other = Other (other .0) (other .1)
+
+held : (c : Chunk) → (h : Holding (kindOf c)) × (c ≡ holder (kindOf c) h)
+held (NAME name) = (name, refl)
+held (INFO info) = (info, refl)
+held (SONG list) = (list, refl)
+held (INST list) = (list, refl)
+held (PATT list) = (list, refl)
+held (SMPL list) = (list, refl)
+held (VENV list) = (list, refl)
+held (PENV list) = (list, refl)
+held (Other letters bytes) = ((letters, bytes), refl)
+
+pub held-as : (c : Chunk) (k : Kind) → kindOf c ≡ k → (h : Holding k) × (c ≡ holder k h)
+held-as c k e = subst (λ (k : Kind). (h : Holding k) × (c ≡ holder k h)) e (held c)
+
+-- What makes the encoding of a chunk tell its end.
+abbrev pub Told : ℕ → Chunk → Type 0
+Told tracks (NAME name) = Unit {0}
+Told tracks (INFO info) = Unit {0}
+Told tracks (SONG list) = Every (λ s. length (s .name) ≡ 44) list
+Told tracks (INST list) = Every (λ i. length (i .name) ≡ 30) list
+Told tracks (PATT list) = Every (PatternFits tracks) list
+Told tracks (SMPL list) = Unit {0}
+Told tracks (VENV list) = Every (λ e. length (e .points) ≡ 32) list
+Told tracks (PENV list) = Every (λ e. length (e .points) ≡ 32) list
+Told tracks (Other letters bytes) = OtherFits letters bytes
+
+-- The kind by the identifier as one number.
+kindBy : ℕ → Kind
+kindBy n =
+    cond (eqb n (identifierOf Covered.name)) named
+    (cond (eqb n (identifierOf Covered.info)) counted
+    (cond (eqb n (identifierOf Covered.song)) songs
+    (cond (eqb n (identifierOf Covered.inst)) instruments
+    (cond (eqb n (identifierOf Covered.patt)) patterns
+    (cond (eqb n (identifierOf Covered.smpl)) samples
+    (cond (eqb n (identifierOf Covered.venv)) volumes
+    (cond (eqb n (identifierOf Covered.penv)) pannings others)))))))
+
+pub not-covered : (letters bytes : List ℕ) → OtherFits letters bytes → ChunkBytes (chunkBytes (Other letters bytes)) → {covering : List ℕ} (covers : Covered covering) → eqb (number32 (chunkBytes (Other letters bytes)) 0) (identifierOf covers) ≡ false
+not-covered letters bytes fits c {covering} covers =
+    let four : take 4 (chunkBytes (Other letters bytes)) ≡ letters = take-at letters (bytes32 (length bytes) ++ bytes) 4 (fits .four) in
+    ne-eqb _ _ (λ same. fits .notCovered (subst Covered (sym (chunk-named c covers .0 same) ∙ four) covers))
+
+other-read : (letters bytes : List ℕ) → OtherFits letters bytes → ChunkBytes (chunkBytes (Other letters bytes)) → kindBy (number32 (chunkBytes (Other letters bytes)) 0) ≡ others
+unfolding kindBy
+other-read letters bytes h c =
+    simp (not-covered letters bytes h c Covered.name, not-covered letters bytes h c Covered.info, not-covered letters bytes h c Covered.song, not-covered letters bytes h c Covered.inst, not-covered letters bytes h c Covered.patt, not-covered letters bytes h c Covered.smpl, not-covered letters bytes h c Covered.venv, not-covered letters bytes h c Covered.penv)
+
+kind-read : (tracks : ℕ) (c : Chunk) → Told tracks c → ChunkBytes (chunkBytes c) → kindBy (number32 (chunkBytes c) 0) ≡ kindOf c
+unfolding kindBy number32 number16 byteAt
+kind-read tracks (NAME name) h c = refl
+kind-read tracks (INFO info) h c = refl
+kind-read tracks (SONG list) h c = refl
+kind-read tracks (INST list) h c = refl
+kind-read tracks (PATT list) h c = refl
+kind-read tracks (SMPL list) h c = refl
+kind-read tracks (VENV list) h c = refl
+kind-read tracks (PENV list) h c = refl
+kind-read tracks (Other letters bytes) h c = other-read letters bytes h c
+
+-- A chunk of which the bytes tell the end, and that is whole.
+pub record Plain (tracks : ℕ) (c : Chunk) : Type 0 where
+  pub told : Told tracks c
+  pub whole : ChunkBytes (chunkBytes c)
+
+pub kind-same : {tracks tracks′ : ℕ} {c other : Chunk} → Plain tracks c → Plain tracks′ other → chunkBytes c ≡ chunkBytes other → kindOf c ≡ kindOf other
+kind-same {tracks} {tracks′} {c} {other} p q e =
+    sym (kind-read tracks c (p .told) (p .whole)) ∙ ap (λ (chunk : List ℕ). kindBy (number32 chunk 0)) e ∙ kind-read tracks′ other (q .told) (q .whole)
+
+-- The parts of a chunk: its identifier, and its data behind their length.
+pub parts-same : (letters letters′ bytes bytes′ : List ℕ) → length letters ≡ length letters′ → letters ++ (bytes32 (length bytes) ++ bytes) ≡ letters′ ++ (bytes32 (length bytes′) ++ bytes′) → (letters ≡ letters′) × (bytes ≡ bytes′)
+parts-same letters letters′ bytes bytes′ h e =
+    let first = front-same letters letters′ h e in
+    (first .0, next32 (length bytes) (length bytes′) (first .1) .1)
+
+-- What chunks of one kind with the same bytes hold is the same.
+holding-same : (tracks : ℕ) (k : Kind) (a b : Holding k) → Told tracks (holder k a) → Told tracks (holder k b) → chunkBytes (holder k a) ≡ chunkBytes (holder k b) → holder k a ≡ holder k b
+holding-same tracks named a b p q e = ap NAME (parts-same nameLetters nameLetters a b refl e .1)
+holding-same tracks counted a b p q e = ap INFO (info-same a b (parts-same infoLetters infoLetters _ _ refl e .1))
+holding-same tracks songs a b p q e = ap SONG (all-same songBytes song-delimited song-some a b p q (parts-same songLetters songLetters _ _ refl e .1))
+holding-same tracks instruments a b p q e = ap INST (all-same instrumentBytes instrument-delimited instrument-some a b p q (parts-same instLetters instLetters _ _ refl e .1))
+holding-same tracks patterns a b p q e = ap PATT (all-same patternBytes (pattern-delimited tracks) (pattern-some tracks) a b p q (parts-same pattLetters pattLetters _ _ refl e .1))
+holding-same tracks samples a b p q e = ap SMPL (all-same sampleBytes sample-delimited sample-some a b (every-any a) (every-any b) (parts-same smplLetters smplLetters _ _ refl e .1))
+holding-same tracks volumes a b p q e = ap VENV (envelopes-same a b p q (parts-same venvLetters venvLetters _ _ refl e .1))
+holding-same tracks pannings a b p q e = ap PENV (envelopes-same a b p q (parts-same penvLetters penvLetters _ _ refl e .1))
+holding-same tracks others a b p q e =
+    let parts = parts-same (a .0) (b .0) (a .1) (b .1) (p .four ∙ sym (q .four)) e in
+    λ i. Other (parts .0 i) (parts .1 i)
+
+pub chunk-same : (tracks : ℕ) (c other : Chunk) → Plain tracks c → Plain tracks other → chunkBytes c ≡ chunkBytes other → c ≡ other
+chunk-same tracks c other p q e = go (kindOf other) (held-as c (kindOf other) (kind-same p q e)) (held other)
+  where
+    go : (k : Kind) → (a : Holding k) × (c ≡ holder k a) → (b : Holding k) × (other ≡ holder k b) → c ≡ other
+    go k (a, x) (b, y) =
+        x ∙ holding-same tracks k a b (subst (Told tracks) x (p .told)) (subst (Told tracks) y (q .told)) (ap chunkBytes (sym x) ∙ e ∙ ap chunkBytes y) ∙ sym y

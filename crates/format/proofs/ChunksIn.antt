@@ -1,0 +1,47 @@
+-- The chunks of a description by where they stand: what holds of each that stands there holds of every one, a covered chunk stands there
+-- once, and chunks with the same bytes stand in the same order.
+use Prim.Native.Nat.{ℕ}
+use mathlib.Core.Path.{_≡_, refl, sym, subst, _∙_}
+use mathlib.Core.List.{List, [], _∷_, _++_, map}
+use native.Mathlib.Omega.{arith}
+use Rattle.grammar.specs.Rules.{Every, also, Covered}
+use Rattle.format.specs.Description.{Chunk}
+use Rattle.format.specs.Encoding.{identifier}
+use Rattle.format.specs.WellFormed.{In, Once}
+use Rattle.format.proofs.Splits.{within-front, within-behind, within-every, every-within, only-one, in-within, within-in}
+
+pub in-front : (c : Chunk) (chunks : List Chunk) → In (c ∷ chunks) c
+in-front c chunks = within-in (within-front c chunks)
+
+pub in-behind : {chunks : List Chunk} {c : Chunk} (first : Chunk) → In chunks c → In (first ∷ chunks) c
+in-behind first i = within-in (within-behind first (in-within i))
+
+-- Each, and every one.
+module _ {P : Chunk → Type 0} where
+  pub every-in : (chunks : List Chunk) → ((c : Chunk) → In chunks c → P c) → Every P chunks
+  every-in chunks h = every-within chunks (λ c w. h c (within-in w))
+
+  pub in-every : {chunks : List Chunk} {c : Chunk} → Every P chunks → In chunks c → P c
+  in-every every i = within-every every (in-within i)
+
+-- M6: a covered chunk is the only one of its letters.
+pub in-once : {chunks : List Chunk} → Once chunks → {one two : Chunk} → In chunks one → In chunks two → Covered (identifier one) → identifier one ≡ identifier two → one ≡ two
+in-once once {one} i j covers same =
+    only-one (λ (c : Chunk). identifier c ≡ identifier one) (λ before between after c other s p q. once before between after c other s (subst Covered (sym p) covers) (p ∙ sym q)) (in-within i) (in-within j) refl (sym same)
+
+-- Chunks of which a function gives the same, one by one.
+module _ {A : Type 0} (f : Chunk → A) where
+  pub in-other : (before after others : List Chunk) (c : Chunk) → map f (before ++ (c ∷ after)) ≡ map f others → (other : Chunk) × In others other × (f c ≡ f other)
+  in-other [] after [] c e = let z : _≡_ {A = ℕ} 0 1 = cc in absurd (omega arith)
+  in-other [] after (x ∷ others) c e = (x, in-front x others, cc)
+  in-other (b ∷ before) after [] c e = let z : _≡_ {A = ℕ} 0 1 = cc in absurd (omega arith)
+  in-other (b ∷ before) after (x ∷ others) c e = let found = in-other before after others c (cc) in (found .0, in-behind x (found .1), found .2)
+
+  pub each-same : {P : Chunk → Type 0} → ((c other : Chunk) → P c → P other → f c ≡ f other → c ≡ other) → (chunks others : List Chunk) → Every P chunks → Every P others → map f chunks ≡ map f others → chunks ≡ others
+  each-same one [] [] p q e = refl
+  each-same one [] (x ∷ others) p q e = let z : _≡_ {A = ℕ} 0 1 = cc in absurd (omega arith)
+  each-same one (c ∷ chunks) [] p q e = let z : _≡_ {A = ℕ} 0 1 = cc in absurd (omega arith)
+  each-same one (c ∷ chunks) (x ∷ others) (also p ps) (also q qs) e =
+      let first = one c x p q (cc) in
+      let rest = each-same one chunks others ps qs (cc) in
+      λ i. first i ∷ rest i

@@ -1,0 +1,299 @@
+-- The encoding of a well-formed description is accepted: the rules of a module hold of it, with its header and the encodings of its chunks.
+use Prim.Native.Nat.{ℕ, _≤_, _<_}
+use mathlib.Core.Path.{_≡_, refl, sym, ap, subst, _∙_}
+use mathlib.Core.Logic.{_⊎_, inl, inr}
+use mathlib.Core.List.{List, [], _∷_, _++_, map, append-assoc}
+use mathlib.Core.Bool.{Bool, true, _&&_}
+use native.Mathlib.Omega.{arith}
+use lib.ListN.{length, take, length-append, length-map}
+use lib.Seq.{take-at}
+use lib.Dec.{leb}
+use Rattle.refusal.specs.declared.Verdict.the-variants.{Accepted}
+use Rattle.cells.specs.Cells.{joined}
+use Rattle.packed_rows.specs.Theorems.{every}
+use Rattle.packed_rows.proofs.Reading.{both-true}
+use Rattle.module.specs.Verdicts.{moduleVerdict}
+use Rattle.numbers.specs.Numbers.{byteAt, number32, bytes32}
+use Rattle.grammar.specs.Rules.{Bytes, Every, none, also, ChunkBytes, Covered, NeedsInfo, nameLetters, infoLetters, songLetters, instLetters, pattLetters, smplLetters, venvLetters, penvLetters, Among, AtMostOnce, BehindInfo, InfoRules, Filled, EnvelopesRules, VolumeFits, PanningValueFits, Content, ChunkRules, Rules}
+use Rattle.grammar.proofs.Locating.{byteAt-front}
+use Rattle.grammar.proofs.Holding.{leb-says, and-says, every-at, every-of}
+use Rattle.grammar.proofs.Acceptance.{accepted-exactly}
+use Rattle.repack.proofs.ChunksAnew.{map-append}
+use Rattle.repacking.proofs.AllBytes.{bytes-nil, bytes-cons, bytes-append, bytes-every, bytes-joined, every-map}
+use Rattle.repacking.proofs.PackedBytes.{bytes32-bytes, bytes32-number}
+use Rattle.repacking.proofs.MappedChunks.{map-split}
+use Rattle.format.specs.Description.{Info, Song, Instrument, Pattern, Sample, Envelope, Chunk, NAME, INFO, SONG, INST, PATT, SMPL, VENV, PENV, Other, Description}
+use Rattle.format.specs.Encoding.{songBytes, instrumentBytes, patternBytes, sampleBytes, envelopesBytes, identifier, contents, chunkBytes, headerBytes, encoded}
+use Rattle.format.specs.WellFormed.{In, Fits32, WellFormed}
+use Rattle.format.proofs.Stored.{bytes16-bytes}
+use Rattle.format.proofs.ReadingBlocks.{info-instruments, info-samples, info-songs, info-patterns, info-tracks}
+use Rattle.format.proofs.ChunksIn.{every-in, in-every, in-once}
+use Rattle.format.proofs.EncodedBlocks.{all-bytes, filled-by, info-at, info-bytes, info-rules, song-bytes, song-rules, instrument-bytes, instrument-rules, pattern-bytes, pattern-rules, sample-bytes, sample-rules, envelopes-bytes, envelopes-rules}
+
+-- M5: an identifier is four letters A to Z.
+pub record Capitals (letters : List ℕ) : Type 0 where
+  pub four : length letters ≡ 4
+  pub each : Every (λ letter. (65 ≤ letter) × (letter ≤ 90)) letters
+
+-- So it can be computed.
+abbrev capital : ℕ → Bool
+capital letter = leb 65 letter && leb letter 90
+
+capitals : (letters : List ℕ) → length letters ≡ 4 → every capital letters ≡ true → Capitals letters
+capitals letters four h = record { four = four; each = go letters h }
+  where
+    go : (ls : List ℕ) → every capital ls ≡ true → Every (λ letter. (65 ≤ letter) × (letter ≤ 90)) ls
+    go [] e = none
+    go (l ∷ ls) e =
+        let parts = both-true (capital l) (every capital ls) e in
+        let one = and-says (leb 65 l) (leb l 90) .0 (parts .0) in
+        also (leb-says 65 l .0 (one .0), leb-says l 90 .0 (one .1)) (go ls (parts .1))
+
+-- M5: a chunk is bytes of its own length.
+module _ (c : Chunk) (letters : Capitals (identifier c)) where
+  pub chunk-named : take 4 (chunkBytes c) ≡ identifier c
+  chunk-named = take-at (identifier c) _ 4 (letters .four)
+
+  chunk-length : number32 (chunkBytes c) 4 ≡ length (contents c)
+  chunk-length = ap (number32 (chunkBytes c)) (sym (letters .four)) ∙ bytes32-number (length (contents c)) (identifier c) (contents c)
+
+  chunk-whole : ChunkBytes (chunkBytes c)
+  unfolding byteAt
+  chunk-whole = record {
+    size = omega (arith, chunk-length, letters .four, length-append (identifier c) (bytes32 (length (contents c)) ++ contents c));
+    letters = λ i h. rw (byteAt-front (identifier c) (bytes32 (length (contents c)) ++ contents c) i (omega (arith, letters .four))) (every-at i 0 (omega (arith, letters .four)) (letters .each));
+  }
+
+  chunk-bytes : Fits32 (length (contents c)) → Bytes (contents c) → Bytes (chunkBytes c)
+  chunk-bytes long held =
+      bytes-append (identifier c) _ (bytes-every (identifier c) .1 (every-of (λ letter h. omega (arith, h .1)) (letters .each)))
+      (bytes-append (bytes32 (length (contents c))) (contents c) (bytes32-bytes _ long) held)
+
+-- A chunk of the description stands among the encodings. Its identifier has four letters: of a covered chunk that is so by computing.
+pub in-among : (chunks : List Chunk) (c : Chunk) → In chunks c → length (identifier c) ≡ 4 → Among (map chunkBytes chunks) (identifier c) (chunkBytes c)
+in-among chunks c i four = record {
+  before = map chunkBytes (i .before);
+  after = map chunkBytes (i .after);
+  splits = ap (map chunkBytes) (i .splits) ∙ map-append chunkBytes (i .before) (c ∷ i .after);
+  named = take-at (identifier c) _ 4 four;
+}
+
+-- A covered chunk, by its letters.
+pub data Known : List ℕ → Chunk → Type 0 where
+  name : (held : List ℕ) → Known nameLetters (NAME held)
+  info : (held : Info) → Known infoLetters (INFO held)
+  song : (held : List Song) → Known songLetters (SONG held)
+  inst : (held : List Instrument) → Known instLetters (INST held)
+  patt : (held : List Pattern) → Known pattLetters (PATT held)
+  smpl : (held : List Sample) → Known smplLetters (SMPL held)
+  venv : (held : List Envelope) → Known venvLetters (VENV held)
+  penv : (held : List Envelope) → Known penvLetters (PENV held)
+
+module _ (d : Description) (w : WellFormed d) where
+  pub known-by : (c : Chunk) → In (d .chunks) c → Covered (identifier c) → Known (identifier c) c
+  known-by (NAME held) i covers = Known.name held
+  known-by (INFO held) i covers = Known.info held
+  known-by (SONG held) i covers = Known.song held
+  known-by (INST held) i covers = Known.inst held
+  known-by (PATT held) i covers = Known.patt held
+  known-by (SMPL held) i covers = Known.smpl held
+  known-by (VENV held) i covers = Known.venv held
+  known-by (PENV held) i covers = Known.penv held
+  known-by (Other letters held) i covers = absurd (w .others letters held i .notCovered covers)
+
+  -- M5: the identifier of each is of four letters.
+  chunk-letters : (c : Chunk) → In (d .chunks) c → Capitals (identifier c)
+  chunk-letters (NAME held) i = capitals nameLetters refl refl
+  chunk-letters (INFO held) i = capitals infoLetters refl refl
+  chunk-letters (SONG held) i = capitals songLetters refl refl
+  chunk-letters (INST held) i = capitals instLetters refl refl
+  chunk-letters (PATT held) i = capitals pattLetters refl refl
+  chunk-letters (SMPL held) i = capitals smplLetters refl refl
+  chunk-letters (VENV held) i = capitals venvLetters refl refl
+  chunk-letters (PENV held) i = capitals penvLetters refl refl
+  chunk-letters (Other letters held) i = record { four = w .others letters held i .four; each = w .others letters held i .capitals }
+
+  -- M9, B1: the records are so few that their numbers fit 2 bytes.
+  few-patterns : length (w .patterns) ≤ 65536
+  few-patterns = omega (arith, w .patternCount, w .infoFits .patterns)
+
+  few-samples : length (w .samples) < 65536
+  few-samples = omega (arith, w .sampleCount, w .infoFits .samples)
+
+  few-instruments : length (w .instruments) < 65536
+  few-instruments = omega (arith, w .instrumentCount, w .infoFits .instruments)
+
+  -- What a chunk holds is bytes: of the mandatory ones, which are there once, what the description has of them.
+  same-bytes : {c e : Chunk} → In (d .chunks) c → In (d .chunks) e → Covered (identifier c) → identifier c ≡ identifier e → Bytes (contents e) → Bytes (contents c)
+  same-bytes i j covers letters = subst (λ (c : Chunk). Bytes (contents c)) (sym (in-once (w .once) i j covers letters))
+
+  held-bytes : (c : Chunk) → In (d .chunks) c → Bytes (contents c)
+  held-bytes (NAME held) i = w .name held i .1
+  held-bytes (INFO held) i = same-bytes i (w .infoThere) Covered.info refl (info-bytes (w .info) (w .infoFits))
+  held-bytes (SONG held) i =
+      same-bytes i (w .songsThere) Covered.song refl (all-bytes songBytes (λ s h. song-bytes (length (w .patterns)) s h few-patterns) (w .songs) (w .songsFit))
+  held-bytes (INST held) i =
+      same-bytes i (w .instrumentsThere) Covered.inst refl (all-bytes instrumentBytes (λ n h. instrument-bytes (w .samples) n h few-samples) (w .instruments) (w .instrumentsFit))
+  held-bytes (PATT held) i =
+      same-bytes i (w .patternsThere) Covered.patt refl (all-bytes patternBytes (λ p h. pattern-bytes (w .info .tracks) p h (w .infoFits .tracks .1)) (w .patterns) (w .patternsFit))
+  held-bytes (SMPL held) i = same-bytes i (w .samplesThere) Covered.smpl refl (all-bytes sampleBytes sample-bytes (w .samples) (w .samplesFit))
+  held-bytes (VENV held) i = envelopes-bytes (length (w .instruments)) _ held (w .volumeEnvelopes held i) few-instruments
+  held-bytes (PENV held) i = envelopes-bytes (length (w .instruments)) _ held (w .panningEnvelopes held i) few-instruments
+  held-bytes (Other letters held) i = w .others letters held i .bytes
+
+  version-small : d .version < 256
+  version-small = go (w .version)
+    where
+      go : (d .version ≡ 2) ⊎ (d .version ≡ 3) → d .version < 256
+      go (inl e) = omega arith
+      go (inr e) = omega arith
+
+  header-bytes : Bytes (headerBytes d)
+  header-bytes =
+      bytes-append (68 ∷ 66 ∷ 77 ∷ 48 ∷ []) _
+      (bytes-cons 68 _ (omega arith) (bytes-cons 66 _ (omega arith) (bytes-cons 77 _ (omega arith) (bytes-cons 48 _ (omega arith) bytes-nil))))
+      (bytes-cons (d .version) _ version-small (bytes-cons (d .revision) _ (omega (arith, w .revision .0)) (bytes16-bytes (d .reserved) (w .reserved))))
+
+  pub encoded-bytes : Bytes (encoded d)
+  encoded-bytes =
+      bytes-append (headerBytes d) (joined (map chunkBytes (d .chunks))) header-bytes
+      (bytes-joined (map chunkBytes (d .chunks)) .0
+      (every-map chunkBytes (d .chunks) .1 (every-in (d .chunks) (λ c i. chunk-bytes c (chunk-letters c i) (in-every (w .lengths) i) (held-bytes c i)))))
+
+  -- A chunk of the encoding is that of a chunk of the description, which has the same letters.
+  letters-of : (c : Chunk) → In (d .chunks) c → {chunk letters : List ℕ} → chunk ≡ chunkBytes c → take 4 chunk ≡ letters → identifier c ≡ letters
+  letters-of c i same named = sym (chunk-named c (chunk-letters c i)) ∙ ap (take 4) (sym same) ∙ named
+
+  pub among-in : (letters chunk : List ℕ) → Among (map chunkBytes (d .chunks)) letters chunk → (c : Chunk) × In (d .chunks) c × (identifier c ≡ letters) × (chunk ≡ chunkBytes c)
+  among-in letters chunk a =
+      let s = map-split chunkBytes (d .chunks) (a .before) (a .after) chunk (a .splits) in
+      let i : In (d .chunks) (s .one) = record { before = s .front; after = s .back; splits = s .splits } in
+      (s .one, i, letters-of (s .one) i (s .oneIs) (a .named), s .oneIs)
+
+  -- So a chunk with covered letters is what they name.
+  pub known-among : (letters chunk : List ℕ) → Covered letters → Among (map chunkBytes (d .chunks)) letters chunk → (c : Chunk) × In (d .chunks) c × Known letters c × (chunk ≡ chunkBytes c)
+  known-among letters chunk covers a =
+      let found = among-in letters chunk a in
+      (found .0, found .1, subst (λ (l : List ℕ). Known l (found .0)) (found .2) (known-by (found .0) (found .1) (subst Covered (sym (found .2)) covers)), found .3)
+
+  -- Such a chunk is the encoding of one of the description, with what it holds.
+  abbrev pub Encodes : {A : Type 0} → (A → Chunk) → List ℕ → Type 0
+  Encodes {A} make chunk = (held : A) × In (d .chunks) (make held) × (chunk ≡ chunkBytes (make held))
+
+  pub among-name : (chunk : List ℕ) → Among (map chunkBytes (d .chunks)) nameLetters chunk → Encodes NAME chunk
+  among-name chunk a = let (c, i, known, same) = known-among nameLetters chunk Covered.name a in go known i same
+    where
+      go : {c : Chunk} → Known nameLetters c → In (d .chunks) c → chunk ≡ chunkBytes c → Encodes NAME chunk
+      go (Known.name held) i same = (held, i, same)
+
+  pub among-info : (chunk : List ℕ) → Among (map chunkBytes (d .chunks)) infoLetters chunk → Encodes INFO chunk
+  among-info chunk a = let (c, i, known, same) = known-among infoLetters chunk Covered.info a in go known i same
+    where
+      go : {c : Chunk} → Known infoLetters c → In (d .chunks) c → chunk ≡ chunkBytes c → Encodes INFO chunk
+      go (Known.info held) i same = (held, i, same)
+
+  pub among-venv : (chunk : List ℕ) → Among (map chunkBytes (d .chunks)) venvLetters chunk → Encodes VENV chunk
+  among-venv chunk a = let (c, i, known, same) = known-among venvLetters chunk Covered.venv a in go known i same
+    where
+      go : {c : Chunk} → Known venvLetters c → In (d .chunks) c → chunk ≡ chunkBytes c → Encodes VENV chunk
+      go (Known.venv held) i same = (held, i, same)
+
+  pub among-penv : (chunk : List ℕ) → Among (map chunkBytes (d .chunks)) penvLetters chunk → Encodes PENV chunk
+  among-penv chunk a = let (c, i, known, same) = known-among penvLetters chunk Covered.penv a in go known i same
+    where
+      go : {c : Chunk} → Known penvLetters c → In (d .chunks) c → chunk ≡ chunkBytes c → Encodes PENV chunk
+      go (Known.penv held) i same = (held, i, same)
+
+  encoded-once : (letters : List ℕ) → Covered letters → AtMostOnce (map chunkBytes (d .chunks)) letters
+  encoded-once letters covers before between after one two e named-one named-two =
+      let s = map-split chunkBytes (d .chunks) before (between ++ (two ∷ after)) one e in
+      let t = map-split chunkBytes (s .back) between after two (sym (s .backIs)) in
+      let both : d .chunks ≡ s .front ++ (s .one ∷ (t .front ++ (t .one ∷ t .back))) = s .splits ∙ ap (λ (l : List Chunk). s .front ++ (s .one ∷ l)) (t .splits) in
+      let i : In (d .chunks) (s .one) = record { before = s .front; after = s .back; splits = s .splits } in
+      let j : In (d .chunks) (t .one) = record { before = s .front ++ (s .one ∷ t .front); after = t .back; splits = both ∙ sym (append-assoc (s .front) (s .one ∷ t .front) (t .one ∷ t .back)) } in
+      let first = letters-of (s .one) i (s .oneIs) named-one in
+      let second = letters-of (t .one) j (t .oneIs) named-two in
+      w .once (s .front) (t .front) (t .back) (s .one) (t .one) both (subst Covered (sym first) covers) (first ∙ sym second)
+
+  encoded-behind : (letters : List ℕ) → NeedsInfo letters → BehindInfo (map chunkBytes (d .chunks)) letters
+  encoded-behind letters needs before after chunk e named =
+      let s = map-split chunkBytes (d .chunks) before after chunk e in
+      let i : In (d .chunks) (s .one) = record { before = s .front; after = s .back; splits = s .splits } in
+      let found = w .infoFirst (s .front) (s .back) (s .one) (s .splits) (subst NeedsInfo (sym (letters-of (s .one) i (s .oneIs) named)) needs) in
+      let info = chunkBytes (INFO (found .0)) in
+      (info, subst (λ (l : List (List ℕ)). Among l infoLetters info) (sym (s .frontIs)) (in-among (s .front) (INFO (found .0)) (found .1) refl))
+
+  pub encoded-chunks : ChunkRules (encoded d) (headerBytes d) (map chunkBytes (d .chunks))
+  unfolding byteAt
+  encoded-chunks = record {
+    bytes = refl;
+    limit = w .limit;
+    headerSize = refl;
+    begins = refl;
+    version = w .version;
+    revision = w .revision;
+    whole = every-map chunkBytes (d .chunks) .1 (every-in (d .chunks) (λ c i. chunk-whole c (chunk-letters c i)));
+    once = encoded-once;
+    behindInfo = encoded-behind;
+    name = λ chunk a. (
+        let (held, i, same) = among-name chunk a in
+        ap length same ∙ omega (arith, w .name held i .0)
+        );
+    info = λ chunk a. (
+        let (held, i, same) = among-info chunk a in
+        subst InfoRules (sym (same ∙ ap chunkBytes (in-once (w .once) i (w .infoThere) Covered.info refl))) (info-rules (w .info) (w .infoFits))
+        );
+  }
+
+  -- B1 to B6, V1 to V7: the blocks of each chunk, as many as INFO says.
+  fills : {A : Type 0} (letters : List ℕ) → length letters ≡ 4 → (f : A → List ℕ) (xs : List A) {count : ℕ} → length xs ≡ count → Filled 8 (letters ++ (bytes32 (length (joined (map f xs))) ++ joined (map f xs))) count (map f xs)
+  fills letters four f xs many =
+      rw append-assoc at (filled-by (letters ++ bytes32 (length (joined (map f xs)))) 8 (length-append letters _ ∙ omega (arith, four)) (map f xs) _ (length-map xs f ∙ many))
+
+  encoded-content : Content (headerBytes d) (map chunkBytes (d .chunks)) (chunkBytes (INFO (w .info))) (chunkBytes (SONG (w .songs))) (chunkBytes (INST (w .instruments))) (chunkBytes (PATT (w .patterns))) (chunkBytes (SMPL (w .samples)))
+  unfolding byteAt
+  encoded-content = record {
+    songs = map songBytes (w .songs);
+    instruments = map instrumentBytes (w .instruments);
+    patterns = map patternBytes (w .patterns);
+    samples = map sampleBytes (w .samples);
+    songsFill = fills songLetters refl songBytes (w .songs) (w .songCount ∙ sym (info-at (w .info) 4 ∙ info-songs (w .info)));
+    instrumentsFill = fills instLetters refl instrumentBytes (w .instruments) (w .instrumentCount ∙ sym (info-at (w .info) 0 ∙ info-instruments (w .info)));
+    patternsFill = fills pattLetters refl patternBytes (w .patterns) (w .patternCount ∙ sym (info-at (w .info) 6 ∙ info-patterns (w .info)));
+    samplesFill = fills smplLetters refl sampleBytes (w .samples) (w .sampleCount ∙ sym (info-at (w .info) 2 ∙ info-samples (w .info)));
+    songRules = rw (length-map (w .patterns) patternBytes) (every-map songBytes (w .songs) .1 (every-of (song-rules (length (w .patterns))) (w .songsFit)));
+    instrumentRules = every-map instrumentBytes (w .instruments) .1 (every-of (instrument-rules (w .samples)) (w .instrumentsFit));
+    patternRules = rw (info-at (w .info) 8 ∙ info-tracks (w .info)) (every-map patternBytes (w .patterns) .1 (every-of (pattern-rules (w .info .tracks)) (w .patternsFit)));
+    sampleRules = every-map sampleBytes (w .samples) .1 (every-of sample-rules (w .samplesFit));
+    volumeEnvelopes = λ chunk a. (
+        let (held, i, same) = among-venv chunk a in
+        let fits = rw (← length-map (w .instruments) instrumentBytes) at (w .volumeEnvelopes held i) in
+        subst (EnvelopesRules _ VolumeFits) (sym same) (envelopes-rules _ VolumeFits held fits (venvLetters ++ bytes32 (length (envelopesBytes held))) refl)
+        );
+    panningEnvelopes = λ chunk a. (
+        let (held, i, same) = among-penv chunk a in
+        let fits = rw (← length-map (w .instruments) instrumentBytes) at (w .panningEnvelopes held i) in
+        subst (EnvelopesRules _ (PanningValueFits (d .version))) (sym same) (envelopes-rules _ (PanningValueFits (d .version)) held fits (penvLetters ++ bytes32 (length (envelopesBytes held))) refl)
+        );
+  }
+
+  pub encoded-rules : Rules (encoded d)
+  encoded-rules = record {
+    header = headerBytes d;
+    chunks = map chunkBytes (d .chunks);
+    chunkRules = encoded-chunks;
+    info = chunkBytes (INFO (w .info));
+    song = chunkBytes (SONG (w .songs));
+    inst = chunkBytes (INST (w .instruments));
+    patt = chunkBytes (PATT (w .patterns));
+    smpl = chunkBytes (SMPL (w .samples));
+    infoThere = in-among (d .chunks) (INFO (w .info)) (w .infoThere) refl;
+    songThere = in-among (d .chunks) (SONG (w .songs)) (w .songsThere) refl;
+    instThere = in-among (d .chunks) (INST (w .instruments)) (w .instrumentsThere) refl;
+    pattThere = in-among (d .chunks) (PATT (w .patterns)) (w .patternsThere) refl;
+    smplThere = in-among (d .chunks) (SMPL (w .samples)) (w .samplesThere) refl;
+    content = encoded-content;
+  }
+
+  pub encoded-accepted : moduleVerdict (encoded d) ≡ Accepted
+  encoded-accepted = accepted-exactly (encoded d) encoded-bytes .1 encoded-rules

@@ -1,0 +1,96 @@
+-- Where the records of a description stand in its encoding: the module opens with the layout of the description's chunks; and whatever is
+-- asked for is found, by the numbers that its list has, at a place where the encoding of that record stands, and refused by all others.
+use Prim.Native.Nat.{ℕ, _+_, _-_, _<_}
+use mathlib.Core.Path.{_≡_, refl, sym, ap, _∙_}
+use mathlib.Core.List.{List, [], _++_, map}
+use mathlib.Core.Bool.{Bool, true, false, cond, _&&_}
+use lib.ListN.{length, getD, length-map}
+use lib.Dec.{leb, ltb}
+use Rattle.cells.specs.Cells.{joined}
+use Rattle.numbers.specs.Numbers.{number16, bytes32}
+use Rattle.layout.specs.declared.Layout.{Layout}
+use Rattle.layout.specs.declared.Outline.the-variants.{Found as Opened}
+use Rattle.blocks.specs.Sizes.{firstBlock, blockAt}
+use Rattle.module.specs.Verdicts.{opened}
+use Rattle.queries.specs.Finding.{kindOf, chunkOf, countOf, firstOf, blockOf, foundIf, found}
+use Rattle.queries.specs.declared.Found.{Found}
+use Rattle.queries.specs.declared.Found.the-variants.{At, Refused}
+use Rattle.queries.specs.declared.Thing.{Thing}
+use Rattle.grammar.specs.Rules.{Every, infoLetters}
+use Rattle.grammar.proofs.Standing.{Stands, LayoutOf}
+use Rattle.grammar.proofs.Locating.{PartAt}
+use Rattle.grammar.proofs.Holding.{and-says, ltb-says, every-at, every-of}
+use Rattle.grammar.proofs.Cutting.{Sized, part-rest, block-there}
+use Rattle.grammar.proofs.ChunkHalf.{Mandatory, stands-part, chunks-outline}
+use Rattle.grammar.proofs.FoundBlocks.{module-opens}
+use Rattle.repacking.proofs.AllBytes.{every-map}
+use Rattle.repacking.proofs.Opening.{accepted-opens}
+use Rattle.format.specs.Description.{Info, INFO, SONG, INST, PATT, SMPL, Description}
+use Rattle.format.specs.Encoding.{infoBytes, chunkBytes, headerBytes, encoded}
+use Rattle.format.specs.WellFormed.{In, WellFormed}
+use Rattle.format.specs.Shown.{notThere, listed}
+use Rattle.format.proofs.Stored.{number16-past, getD-mapped}
+use Rattle.format.proofs.ReadingBlocks.{info-instruments, info-samples, info-songs, info-patterns, info-tracks}
+use Rattle.format.proofs.EncodedModule.{in-among, encoded-chunks, encoded-accepted}
+
+-- The records of a list, which all fit, are those that are asked for: so many are counted, and each stands at its place.
+pub record Listed (m : List ℕ) (l : Layout) (thing : Thing) {A : Type 0} (bytes : A → List ℕ) (Fits : A → Type 0) (xs : List A) : Type 0 where
+  pub fits : Every Fits xs
+  pub count : countOf m l thing ≡ length xs
+  pub block : (i : ℕ) (other : A) → i < length xs → PartAt m (blockAt m (kindOf thing) (chunkOf l thing) i) (bytes (getD xs i other))
+
+-- So do the records of a chunk that stands in the module: behind its front, one behind the other.
+module _ {m : List ℕ} {l : Layout} (thing : Thing) {A : Type 0} (bytes : A → List ℕ) {Fits : A → Type 0} (sized : (x : A) → Fits x → Sized (kindOf thing) (bytes x)) where
+  pub chunk-listed : (front : List ℕ) (xs : List A) → Stands m (chunkOf l thing) (front ++ joined (map bytes xs)) → firstBlock (kindOf thing) (chunkOf l thing) ≡ chunkOf l thing .at + length front → countOf m l thing ≡ length xs → Every Fits xs → Listed m l thing bytes Fits xs
+  chunk-listed front xs s first count fits = record {
+    fits = fits;
+    count = count;
+    block = λ i other h. (
+        let rest : PartAt m (firstBlock (kindOf thing) (chunkOf l thing)) (joined (map bytes xs)) = rw first (part-rest front (joined (map bytes xs)) (stands-part s)) in
+        rw (sym (getD-mapped bytes xs i [] other h)) (block-there (kindOf thing) (map bytes xs) i (rw length-map h) rest (every-map bytes xs .1 (every-of sized fits)))
+        );
+  }
+
+-- What a query answers by a number: what is shown of the record of that number, or the refusal.
+module _ {m : List ℕ} {l : Layout} (opens : opened m ≡ Opened l) {thing : Thing} {A : Type 0} {bytes : A → List ℕ} {Fits : A → Type 0} {xs : List A} (s : Listed m l thing bytes Fits xs) {R : Type 0} (answer : Found → R) (show : A → R) (other : A) where
+  pub by-number : ((x : A) → Fits x → (at : ℕ) → PartAt m at (bytes x) → answer (At (record { at = at; version = l .version; tracks = l .tracks })) ≡ show x) → (number : ℕ) → answer (found m thing number) ≡ listed show (answer (Refused notThere)) other (firstOf thing) xs number
+  by-number shown number =
+      ap (λ o. answer (foundIf m thing number o)) opens ∙ rw (s .count) (go (leb (firstOf thing) number && ltb (number - firstOf thing) (length xs)) refl)
+    where
+      i : ℕ
+      i = number - firstOf thing
+
+      go : (t : Bool) → leb (firstOf thing) number && ltb (number - firstOf thing) (length xs) ≡ t → answer (cond t (At (blockOf m l thing number)) (Refused notThere)) ≡ cond t (show (getD xs (number - firstOf thing) other)) (answer (Refused notThere))
+      go true e =
+          let h : i < length xs = ltb-says i (length xs) .0 (and-says (leb (firstOf thing) number) (ltb i (length xs)) .0 e .1) in
+          shown (getD xs i other) (every-at i other h (s .fits)) (blockAt m (kindOf thing) (chunkOf l thing) i) (s .block i other h)
+      go false e = refl
+
+module _ (d : Description) (w : WellFormed d) where
+  mandatory : Mandatory (map chunkBytes (d .chunks))
+  mandatory = record {
+    info = (chunkBytes (INFO (w .info)), in-among (d .chunks) (INFO (w .info)) (w .infoThere) refl);
+    song = (chunkBytes (SONG (w .songs)), in-among (d .chunks) (SONG (w .songs)) (w .songsThere) refl);
+    inst = (chunkBytes (INST (w .instruments)), in-among (d .chunks) (INST (w .instruments)) (w .instrumentsThere) refl);
+    patt = (chunkBytes (PATT (w .patterns)), in-among (d .chunks) (PATT (w .patterns)) (w .patternsThere) refl);
+    smpl = (chunkBytes (SMPL (w .samples)), in-among (d .chunks) (SMPL (w .samples)) (w .samplesThere) refl);
+  }
+
+  -- The encoding opens, with the layout of the description's chunks.
+  pub encoded-opens : (l : Layout) × (opened (encoded d) ≡ Opened l) × LayoutOf (encoded d) (headerBytes d) (map chunkBytes (d .chunks)) l
+  encoded-opens =
+      let (l, opens) = accepted-opens (encoded d) (encoded-accepted d w) in
+      let (k, outlined, layout) = chunks-outline (encoded d) (headerBytes d) (map chunkBytes (d .chunks)) (encoded-chunks d w) mandatory in
+      let other = module-opens (encoded d) l opens .outlined in
+      let same : k ≡ l = cc in
+      (l, opens, rw same at layout)
+
+  module _ {l : Layout} (layout : LayoutOf (encoded d) (headerBytes d) (map chunkBytes (d .chunks)) l) where
+    -- M9: the layout has INFO's numbers.
+    pub info-numbers : (info : Info) → In (d .chunks) (INFO info) → (l .instruments ≡ info .instruments) × (l .samples ≡ info .samples) × (l .songs ≡ info .songs) × (l .patterns ≡ info .patterns) × (l .tracks ≡ info .tracks)
+    info-numbers info i =
+        let counts = layout .counts (chunkBytes (INFO info)) (in-among (d .chunks) (INFO info) i refl) in
+        (counts .0 ∙ held 0 ∙ info-instruments info, counts .1 ∙ held 2 ∙ info-samples info, counts .2 ∙ held 4 ∙ info-songs info, counts .3 ∙ held 6 ∙ info-patterns info, counts .4 ∙ held 8 ∙ info-tracks info)
+      where
+        held : (k : ℕ) → number16 (chunkBytes (INFO info)) (8 + k) ≡ number16 (infoBytes info) k
+        held = number16-past (infoLetters ++ bytes32 (length (infoBytes info))) (infoBytes info) 8 refl

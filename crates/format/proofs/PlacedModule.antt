@@ -1,0 +1,116 @@
+-- The lists of a description, each found in its encoding: whatever is asked for by a number is the record that the list has by that number.
+use Prim.Native.Nat.{ℕ}
+use mathlib.Core.Path.{_≡_, refl, sym, subst, subst₂, _∙_}
+use mathlib.Core.Logic.{inl, inr}
+use mathlib.Core.List.{List, [], _++_, map}
+use mathlib.Core.Bool.{Bool, true, false}
+use native.Mathlib.Omega.{arith}
+use lib.ListN.{length}
+use Rattle.cells.specs.Cells.{joined}
+use Rattle.numbers.specs.Numbers.{bytes16, bytes32}
+use Rattle.layout.specs.declared.Place.{Place}
+use Rattle.layout.specs.declared.Layout.{Layout}
+use Rattle.queries.specs.Finding.{countOf}
+use Rattle.queries.specs.declared.Thing.{Thing}
+use Rattle.queries.specs.declared.Thing.the-variants.{Song as SongThing, Instrument as InstrumentThing, Pattern as PatternThing, Sample as SampleThing, VolumeEnvelope, PanningEnvelope}
+use Rattle.envelopes.specs.Shown.{thingOf}
+use Rattle.envelopes.specs.declared.EnvelopeKind.{EnvelopeKind}
+use Rattle.envelopes.specs.declared.EnvelopeKind.the-variants.{Volume, Panning}
+use Rattle.grammar.specs.Rules.{none, Among, Covered, songLetters, instLetters, pattLetters, smplLetters, venvLetters, penvLetters, VolumeFits, PanningValueFits}
+use Rattle.grammar.proofs.Standing.{Found, LayoutOf}
+use Rattle.grammar.proofs.ContentHalf.{count-same}
+use Rattle.format.specs.Description.{Info, Song, Instrument, Pattern, Sample, Envelope, NAME, INFO, SONG, INST, PATT, SMPL, VENV, PENV, Description}
+use Rattle.format.specs.Encoding.{songBytes, instrumentBytes, patternBytes, sampleBytes, envelopeBytes, envelopesBytes, chunkBytes, headerBytes, encoded}
+use Rattle.format.specs.WellFormed.{In, SongFits, InstrumentFits, PatternFits, SampleFits, EnvelopeFits, WellFormed}
+use Rattle.format.specs.Shown.{Envelopes}
+use Rattle.format.proofs.Stored.{bytes16-number}
+use Rattle.format.proofs.ChunksIn.{in-once}
+use Rattle.format.proofs.EncodedModule.{in-among, among-name, among-venv, among-penv}
+use Rattle.format.proofs.Placed.{Listed, chunk-listed, info-numbers}
+use Rattle.format.proofs.ShownSongs.{song-sized}
+use Rattle.format.proofs.ShownInstruments.{instrument-sized}
+use Rattle.format.proofs.ShownEnvelopes.{envelope-sized}
+use Rattle.format.proofs.ShownPatterns.{pattern-sized}
+use Rattle.format.proofs.ShownSamples.{sample-sized}
+
+-- V5: the values of an envelope of a kind.
+abbrev pub ValuesFit : EnvelopeKind → ℕ → ℕ → Type 0
+ValuesFit Volume version = VolumeFits
+ValuesFit Panning version = PanningValueFits version
+
+-- A chunk with these letters is not present where none stands among the chunks.
+missing : {m : List ℕ} {chunks : List (List ℕ)} {letters : List ℕ} {place : Place} → Found m chunks letters place → ((chunk : List ℕ) → Among chunks letters chunk → ⊥) → place .present ≡ false
+missing {place = place} f lacks = go (place .present) refl
+  where
+    go : (there : Bool) → place .present ≡ there → place .present ≡ false
+    go true e = let (chunk, a) = f .chunk e in absurd (lacks chunk a)
+    go false e = e
+
+module _ (d : Description) (w : WellFormed d) {l : Layout} (layout : LayoutOf (encoded d) (headerBytes d) (map chunkBytes (d .chunks)) l) where
+  -- The lists that are mandatory.
+  pub songs-listed : (songs : List Song) → In (d .chunks) (SONG songs) → Listed (encoded d) l SongThing songBytes (SongFits (length (w .patterns))) songs
+  songs-listed songs i =
+      let one : SONG (w .songs) ≡ SONG songs = in-once (w .once) (w .songsThere) i Covered.song refl in
+      let same : w .songs ≡ songs = cc in
+      subst (Listed (encoded d) l SongThing songBytes (SongFits (length (w .patterns)))) same
+      (chunk-listed SongThing songBytes song-sized (songLetters ++ bytes32 (length (joined (map songBytes (w .songs))))) (w .songs)
+      (layout .song .stands (chunkBytes (SONG (w .songs))) (in-among (d .chunks) (SONG (w .songs)) (w .songsThere) refl)) refl
+      (info-numbers d w layout (w .info) (w .infoThere) .2 ∙ sym (w .songCount)) (w .songsFit))
+
+  pub instruments-listed : (instruments : List Instrument) → In (d .chunks) (INST instruments) → Listed (encoded d) l InstrumentThing instrumentBytes (InstrumentFits (w .samples)) instruments
+  instruments-listed instruments i =
+      let one : INST (w .instruments) ≡ INST instruments = in-once (w .once) (w .instrumentsThere) i Covered.inst refl in
+      let same : w .instruments ≡ instruments = cc in
+      subst (Listed (encoded d) l InstrumentThing instrumentBytes (InstrumentFits (w .samples))) same
+      (chunk-listed InstrumentThing instrumentBytes instrument-sized (instLetters ++ bytes32 (length (joined (map instrumentBytes (w .instruments))))) (w .instruments)
+      (layout .inst .stands (chunkBytes (INST (w .instruments))) (in-among (d .chunks) (INST (w .instruments)) (w .instrumentsThere) refl)) refl
+      (info-numbers d w layout (w .info) (w .infoThere) .0 ∙ sym (w .instrumentCount)) (w .instrumentsFit))
+
+  pub info-same : (info : Info) → In (d .chunks) (INFO info) → w .info ≡ info
+  info-same info i =
+      let one : INFO (w .info) ≡ INFO info = in-once (w .once) (w .infoThere) i Covered.info refl in
+      cc
+
+  pub patterns-listed : (info : Info) (patterns : List Pattern) → In (d .chunks) (INFO info) → In (d .chunks) (PATT patterns) → Listed (encoded d) l PatternThing patternBytes (PatternFits (info .tracks)) patterns
+  patterns-listed info patterns j i =
+      let one : PATT (w .patterns) ≡ PATT patterns = in-once (w .once) (w .patternsThere) i Covered.patt refl in
+      let same : w .patterns ≡ patterns = cc in
+      subst₂ (λ (info : Info) (patterns : List Pattern). Listed (encoded d) l PatternThing patternBytes (PatternFits (info .tracks)) patterns) (info-same info j) same
+      (chunk-listed PatternThing patternBytes pattern-sized (pattLetters ++ bytes32 (length (joined (map patternBytes (w .patterns))))) (w .patterns)
+      (layout .patt .stands (chunkBytes (PATT (w .patterns))) (in-among (d .chunks) (PATT (w .patterns)) (w .patternsThere) refl)) refl
+      (info-numbers d w layout (w .info) (w .infoThere) .3 ∙ sym (w .patternCount)) (w .patternsFit))
+
+  pub samples-listed : (samples : List Sample) → In (d .chunks) (SMPL samples) → Listed (encoded d) l SampleThing sampleBytes SampleFits samples
+  samples-listed samples i =
+      let one : SMPL (w .samples) ≡ SMPL samples = in-once (w .once) (w .samplesThere) i Covered.smpl refl in
+      let same : w .samples ≡ samples = cc in
+      subst (Listed (encoded d) l SampleThing sampleBytes SampleFits) same
+      (chunk-listed SampleThing sampleBytes (λ s f. sample-sized s) (smplLetters ++ bytes32 (length (joined (map sampleBytes (w .samples))))) (w .samples)
+      (layout .smpl .stands (chunkBytes (SMPL (w .samples))) (in-among (d .chunks) (SMPL (w .samples)) (w .samplesThere) refl)) refl
+      (info-numbers d w layout (w .info) (w .infoThere) .1 ∙ sym (w .sampleCount)) (w .samplesFit))
+
+  -- NAME and the envelopes' chunks are missing where the description has none.
+  pub name-missing : ((other : List ℕ) → In (d .chunks) (NAME other) → ⊥) → l .places .name .present ≡ false
+  name-missing lacks = missing (layout .name) (λ chunk a. let (held, i, same) = among-name d w chunk a in lacks held i)
+
+  volume-missing : ((others : List Envelope) → In (d .chunks) (VENV others) → ⊥) → l .places .venv .present ≡ false
+  volume-missing lacks = missing (layout .venv) (λ chunk a. let (held, i, same) = among-venv d w chunk a in lacks held i)
+
+  panning-missing : ((others : List Envelope) → In (d .chunks) (PENV others) → ⊥) → l .places .penv .present ≡ false
+  panning-missing lacks = missing (layout .penv) (λ chunk a. let (held, i, same) = among-penv d w chunk a in lacks held i)
+
+  -- The envelopes of a kind, none where their chunk is missing.
+  absent-listed : (thing : Thing) {A : Type 0} {bytes : A → List ℕ} {Fits : A → Type 0} (xs : List A) → countOf (encoded d) l thing ≡ 0 → xs ≡ [] → Listed (encoded d) l thing bytes Fits xs
+  absent-listed thing xs missing e = rw e (record { fits = none; count = missing; block = λ i other h. absurd (omega arith) })
+
+  pub envelopes-listed : (kind : EnvelopeKind) (es : List Envelope) → Envelopes (d .chunks) kind es → Listed (encoded d) l (thingOf kind) envelopeBytes (EnvelopeFits (length (w .instruments)) (ValuesFit kind (d .version))) es
+  envelopes-listed Volume es (inl i) =
+      let stands = layout .venv .stands (chunkBytes (VENV es)) (in-among (d .chunks) (VENV es) i refl) in
+      chunk-listed VolumeEnvelope envelopeBytes envelope-sized (venvLetters ++ (bytes32 (length (envelopesBytes es)) ++ bytes16 (length es))) es
+      stands refl (count-same stands (omega arith) ∙ bytes16-number (length es) (venvLetters ++ bytes32 (length (envelopesBytes es))) (joined (map envelopeBytes es))) (w .volumeEnvelopes es i .each)
+  envelopes-listed Volume es (inr (e, lacks)) = absent-listed VolumeEnvelope es (rw (volume-missing lacks)) e
+  envelopes-listed Panning es (inl i) =
+      let stands = layout .penv .stands (chunkBytes (PENV es)) (in-among (d .chunks) (PENV es) i refl) in
+      chunk-listed PanningEnvelope envelopeBytes envelope-sized (penvLetters ++ (bytes32 (length (envelopesBytes es)) ++ bytes16 (length es))) es
+      stands refl (count-same stands (omega arith) ∙ bytes16-number (length es) (penvLetters ++ bytes32 (length (envelopesBytes es))) (joined (map envelopeBytes es))) (w .panningEnvelopes es i .each)
+  envelopes-listed Panning es (inr (e, lacks)) = absent-listed PanningEnvelope es (rw (panning-missing lacks)) e

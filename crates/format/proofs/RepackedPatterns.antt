@@ -1,0 +1,77 @@
+-- A pattern repacked: its encoding is the block anew of its encoding, and it is well formed.
+use Prim.Native.Nat.{ℕ, _%_, _≤_}
+use mathlib.Core.Path.{_≡_, refl, sym, ap, _∙_}
+use mathlib.Core.List.{List, [], _∷_, _++_, map}
+use mathlib.Core.Bool.{true}
+use native.Mathlib.Omega.{arith}
+use lib.ListN.{length, length-map, length-replicate}
+use Rattle.packed_rows.specs.Entries.{Entry, rowFrom, rowsFrom, streamOf}
+use Rattle.packed_rows.specs.Stream.{whole, readStream, entriesRead, AcceptedAs}
+use Rattle.packed_rows.specs.Packer.{packedEntries, packedStream, packedLength}
+use Rattle.packed_rows.specs.Theorems.{allSound}
+use Rattle.packed_rows.proofs.Reading.{true-both}
+use Rattle.packed_rows.proofs.Shapes.{row-from-shaped}
+use Rattle.packed_rows.proofs.PackedRow.{packs}
+use Rattle.packed_rows.proofs.Soundness.{entries-sound}
+use Rattle.packed_rows.proofs.StreamLength.{packed-length}
+use Rattle.packed_rows.proofs.Accepted.{accepted-rows}
+use Rattle.packed_rows.proofs.Theorems.{none-shorter, reads-exactly}
+use Rattle.numbers.specs.Numbers.{number16, partOf, bytes16, bytes32}
+use Rattle.module.specs.Streams.{packedBytes}
+use Rattle.grammar.specs.Rules.{Every}
+use Rattle.grammar.proofs.Holding.{every-of}
+use Rattle.repack.specs.Repacked.{packed}
+use Rattle.repacking.proofs.AllBytes.{bytes-rest, bytes-front, bytes-behind, bytes-replicate}
+use Rattle.repacking.proofs.PackedBytes.{EntriesBytes, stream-bytes, repacked-bytes}
+use Rattle.repacking.proofs.BlockAnew.{blockAnew}
+use Rattle.format.specs.Description.{Pattern}
+use Rattle.format.specs.Encoding.{patternBytes}
+use Rattle.format.specs.WellFormed.{PatternFits}
+use Rattle.format.specs.Repacked.{repackedPattern}
+use Rattle.format.proofs.ReadingBlocks.{pattern-rows, pattern-packed, pattern-stream}
+use Rattle.format.proofs.EncodedBlocks.{pattern-bytes}
+
+-- As many rows.
+pub rows-many : (tracks : ℕ) (rows : List (List Entry)) → length (map packedEntries (rowsFrom tracks rows)) ≡ length rows
+rows-many tracks rows = length-map (rowsFrom tracks rows) packedEntries ∙ length-map rows (rowFrom tracks)
+
+-- The packer's entries are sound.
+rows-sound : (tracks : ℕ) (rows : List (List Entry)) → allSound tracks (map packedEntries (rowsFrom tracks rows)) ≡ true
+rows-sound tracks [] = refl
+rows-sound tracks (es ∷ rows) = true-both (entries-sound tracks (packs 1 (rowFrom tracks es)) (row-from-shaped tracks es) (omega arith) (omega arith)) (rows-sound tracks rows)
+
+module _ (tracks : ℕ) (p : Pattern) (fits : PatternFits tracks p) where
+  abbrev anew : List (List Entry)
+  anew = map packedEntries (rowsFrom tracks (p .rows))
+
+  -- The stream is read as the rows.
+  reads : readStream (length (p .rows)) tracks (streamOf (p .rows)) ≡ whole (p .rows)
+  reads = reads-exactly (length (p .rows)) tracks (streamOf (p .rows)) (p .rows) .1 (record { count = refl; sound = fits .sound; bytes = refl })
+
+  pub pattern-anew : blockAnew tracks (patternBytes p) ≡ patternBytes (repackedPattern tracks p)
+  pattern-anew =
+      let stream : packedBytes (patternBytes p) 0 ≡ streamOf (p .rows) = ap (partOf (patternBytes p) 6) (pattern-packed p) ∙ pattern-stream p in
+      let read : entriesRead (readStream (number16 (patternBytes p) 0) tracks (packedBytes (patternBytes p) 0)) ≡ p .rows = rw (pattern-rows p, stream, reads) refl in
+      ap (λ (entries : List (List Entry)). bytes16 (length (p .rows)) ++ packed (packedStream (rowsFrom tracks entries))) read
+      ∙ ap (λ (n : ℕ). bytes16 n ++ packed (streamOf anew)) (sym (rows-many tracks (p .rows)))
+
+  -- No longer.
+  shorter : length (streamOf anew) ≤ length (streamOf (p .rows))
+  shorter =
+      let accepted : AcceptedAs (length (p .rows)) tracks (streamOf (p .rows)) _ = record { entries = p .rows; read = reads; gives = refl } in
+      omega (arith, packed-length (rowsFrom tracks (p .rows)), none-shorter (length (p .rows)) tracks (streamOf (p .rows)) _ accepted, ap packedLength (accepted-rows accepted))
+
+  entries-are-bytes : tracks ≤ 254 → Every EntriesBytes (p .rows)
+  entries-are-bytes few =
+      stream-bytes (p .rows) .1
+      (bytes-front (streamOf (p .rows)) (p .filler)
+      (bytes-behind (bytes16 (length (p .rows)) ++ bytes32 (length (streamOf (p .rows)))) (streamOf (p .rows) ++ p .filler) (pattern-bytes tracks p fits few)))
+
+  pub pattern-fits : tracks ≤ 254 → PatternFits tracks (repackedPattern tracks p)
+  pattern-fits few = record {
+    many = rw (rows-many tracks (p .rows)) (fits .many);
+    packed = omega (arith, shorter, fits .packed);
+    sound = rows-sound tracks (p .rows);
+    fields = every-of (λ es h. every-of (λ e b. bytes-rest (e .mask) (e .fields) (bytes-rest (e .track) (e .mask ∷ e .fields) b)) h) (repacked-bytes tracks few (p .rows) (entries-are-bytes few));
+    filler = (length-replicate (length (streamOf anew) % 2) 0, bytes-replicate (length (streamOf anew) % 2));
+  }

@@ -1,0 +1,148 @@
+-- The encoding of a well-formed description shows the description: what every query answers of it is what the description says.
+use Prim.Native.Nat.{ℕ, _+_, _-_}
+use mathlib.Core.Path.{_≡_, refl, sym, ap, subst, _∙_}
+use mathlib.Core.Logic.{inl, inr}
+use mathlib.Core.List.{List, _++_, map}
+use mathlib.Core.Bool.{Bool, true, false, cond, _&&_}
+use lib.ListN.{length, replicate}
+use lib.Dec.{leb, ltb}
+use Rattle.packed_rows.specs.Answers.{cellOf, unpackAnswer as streamAnswer, unpackOutput as streamOutput}
+use Rattle.packed_rows.specs.declared.CellAnswer.the-variants.{Refused}
+use Rattle.numbers.specs.Numbers.{byteAt, number16, partOf, bytesFrom, bytes32}
+use Rattle.layout.specs.declared.Layout.{Layout}
+use Rattle.layout.specs.declared.Outline.the-variants.{Found as Opened}
+use Rattle.module.specs.Streams.{packedBytes}
+use Rattle.module.specs.Verdicts.{opened}
+use Rattle.queries.specs.Lengths.{refusedLength}
+use Rattle.summary.specs.Shown.{versionIf, versionAnswer, nameIf, nameAnswer, infoIf, infoAnswer}
+use Rattle.songs.specs.Shown.{songIf, entryIf, playlistIf, playlistOutputIf}
+use Rattle.instruments.specs.Shown.{instrumentIf}
+use Rattle.envelopes.specs.Shown.{thingOf, countIf, countAnswer, noEnvelope, shownEnvelope, envelopeIf, envelopeAnswer}
+use Rattle.envelopes.specs.declared.EnvelopeKind.{EnvelopeKind}
+use Rattle.envelopes.specs.declared.EnvelopeKind.the-variants.{Volume, Panning}
+use Rattle.patterns.specs.Shown.{lengthOf, rowsIf, cellIf, cellAnswer, unpackIf, unpackAnswer, unpackOutputIf, unpackOutput}
+use Rattle.samples.specs.Shown.{sampleIf, framesIf, frameIf, allFramesIf, allFramesOutputIf}
+use Rattle.grammar.specs.Rules.{nameLetters}
+use Rattle.grammar.proofs.Standing.{LayoutOf}
+use Rattle.grammar.proofs.Locating.{PartAt}
+use Rattle.grammar.proofs.Cutting.{part-rest}
+use Rattle.grammar.proofs.ChunkHalf.{stands-part}
+use Rattle.grammar.proofs.BlockStreams.{TracksFit}
+use Rattle.format.specs.Description.{Info, Pattern, Sample, Envelope, NAME, INFO, PATT, SMPL, Description}
+use Rattle.format.specs.Encoding.{envelopeBytes, chunkBytes, headerBytes, encoded}
+use Rattle.format.specs.WellFormed.{In, EnvelopeFits, WellFormed, noSample as emptySample}
+use Rattle.format.specs.Shown.{notThere, listed, versionRecord, Named, nameRecord, infoRecord, emptySong, songRecord, entryRecord, playlistLength, playlistWritten, emptyInstrument, instrumentRecord, Envelopes, countRecord, emptyEnvelope, envelopeRecord, emptyPattern, ofPattern, rowsRecord, cellRecord, cellsLength, cellsWritten, sampleRecord, storedFrames, frameRecord, framesLength, framesWritten, ShowsFrames, Shows}
+use Rattle.format.proofs.EncodedModule.{in-among}
+use Rattle.format.proofs.Placed.{Listed, by-number, encoded-opens, info-numbers}
+use Rattle.format.proofs.PlacedModule.{ValuesFit, songs-listed, instruments-listed, info-same, patterns-listed, samples-listed, name-missing, envelopes-listed}
+use Rattle.format.proofs.ShownBlocks.{bytes-at}
+use Rattle.format.proofs.ShownSongs.{song-shown, entry-shown, playlist-shown, playlist-written}
+use Rattle.format.proofs.ShownInstruments.{instrument-shown}
+use Rattle.format.proofs.ShownEnvelopes.{envelope-shown}
+use Rattle.format.proofs.ShownPatterns.{rows-shown, cell-shown, cells-shown, cells-written}
+use Rattle.format.proofs.ShownSamples.{sample-shown, frames-length, frames-shown, frame-shown, all-frames-shown, all-frames-written}
+
+-- The same, whether a test holds or not.
+either-way : {A : Type 0} (test : Bool) (x : A) → cond test x x ≡ x
+either-way true x = refl
+either-way false x = refl
+
+module _ (d : Description) (w : WellFormed d) {l : Layout} (opens : opened (encoded d) ≡ Opened l) (layout : LayoutOf (encoded d) (headerBytes d) (map chunkBytes (d .chunks)) l) where
+  -- Q4 to Q6.
+  version-same : l .version ≡ d .version
+  unfolding byteAt
+  version-same = layout .version
+
+  version-shown : versionAnswer (encoded d) ≡ versionRecord d
+  unfolding byteAt
+  version-shown = ap versionIf opens ∙ rw (layout .version, layout .revision)
+
+  name-by : (there : Bool) → l .places .name .present ≡ there → nameAnswer (encoded d) ≡ nameRecord (cond there (bytesFrom (encoded d) (l .places .name .at + 8) 44) (replicate 44 0))
+  name-by there e = ap (nameIf (encoded d)) opens ∙ ap (λ (b : Bool). nameRecord (cond b (bytesFrom (encoded d) (l .places .name .at + 8) 44) (replicate 44 0))) e
+
+  name-shown : (name : List ℕ) → Named (d .chunks) name → nameAnswer (encoded d) ≡ nameRecord name
+  name-shown name (inl i) =
+      let stands = layout .name .stands (chunkBytes (NAME name)) (in-among (d .chunks) (NAME name) i refl) in
+      let part : PartAt (encoded d) (l .places .name .at + 8) name = part-rest (nameLetters ++ bytes32 (length name)) name (stands-part stands) in
+      name-by true (stands .there) ∙ ap nameRecord (bytes-at part 44 (w .name name i .0))
+  name-shown name (inr (e, lacks)) = name-by false (name-missing d w layout lacks) ∙ ap nameRecord (sym e)
+
+  info-shown : (info : Info) → In (d .chunks) (INFO info) → infoAnswer (encoded d) ≡ infoRecord info
+  info-shown info i =
+      let numbers = info-numbers d w layout info i in
+      ap infoIf opens ∙ rw (numbers .0, numbers .1, numbers .2, numbers .3, numbers .4)
+
+  -- Q9: how many envelopes there are.
+  count-shown : (kind : EnvelopeKind) (es : List Envelope) → Envelopes (d .chunks) kind es → countAnswer (encoded d) kind ≡ countRecord es
+  count-shown Volume es e = ap (countIf (encoded d) Volume) opens ∙ rw (envelopes-listed d w layout Volume es e .count)
+  count-shown Panning es e = ap (countIf (encoded d) Panning) opens ∙ rw (envelopes-listed d w layout Panning es e .count)
+
+  envelope-at : (kind : EnvelopeKind) (es : List Envelope) → Envelopes (d .chunks) kind es → (number : ℕ) → envelopeAnswer (encoded d) kind number ≡ listed (envelopeRecord kind (d .version)) (noEnvelope notThere) emptyEnvelope 0 es number
+  envelope-at kind es e = go kind (envelopes-listed d w layout kind es e)
+    where
+      shown : (kind : EnvelopeKind) (x : Envelope) → EnvelopeFits (length (w .instruments)) (ValuesFit kind (d .version)) x → (at : ℕ) → PartAt (encoded d) at (envelopeBytes x) → shownEnvelope (encoded d) kind (l .version) at ≡ envelopeRecord kind (d .version) x
+      shown kind x f at p = ap (λ (version : ℕ). shownEnvelope (encoded d) kind version at) version-same ∙ envelope-shown x f p kind (d .version)
+
+      go : (kind : EnvelopeKind) → Listed (encoded d) l (thingOf kind) envelopeBytes (EnvelopeFits (length (w .instruments)) (ValuesFit kind (d .version))) es → (number : ℕ) → envelopeAnswer (encoded d) kind number ≡ listed (envelopeRecord kind (d .version)) (noEnvelope notThere) emptyEnvelope 0 es number
+      go Volume s = by-number opens s (envelopeIf (encoded d) Volume) (envelopeRecord Volume (d .version)) emptyEnvelope (shown Volume)
+      go Panning s = by-number opens s (envelopeIf (encoded d) Panning) (envelopeRecord Panning (d .version)) emptyEnvelope (shown Panning)
+
+  -- Q10: the cells of a pattern, by the tracks that INFO says.
+  module _ (info : Info) (patterns : List Pattern) (j : In (d .chunks) (INFO info)) (i : In (d .chunks) (PATT patterns)) (number : ℕ) where
+    tracks-fit : TracksFit (info .tracks)
+    tracks-fit = subst (λ (info : Info). TracksFit (info .tracks)) (info-same d w layout info j) (w .infoFits .tracks)
+
+    tracks-same : l .tracks ≡ info .tracks
+    tracks-same = info-numbers d w layout info j .4
+
+    cell-at : (row track : ℕ) → cellAnswer (encoded d) number row track ≡ ofPattern (cellRecord (info .tracks) row track) (Refused notThere) patterns number
+    cell-at row track =
+        by-number opens (patterns-listed d w layout info patterns j i) (cellIf (encoded d) row track) (cellRecord (info .tracks) row track) emptyPattern
+        (λ x f at p. ap (λ (tracks : ℕ). cellOf (packedBytes (encoded d) at) (number16 (encoded d) at) tracks row track) tracks-same ∙ cell-shown x f p tracks-fit row track) number
+
+    cells-at : (room : ℕ) → unpackAnswer (encoded d) number room ≡ ofPattern (cellsLength (info .tracks) room) (refusedLength notThere) patterns number
+    cells-at room =
+        by-number opens (patterns-listed d w layout info patterns j i) (unpackIf (encoded d) room) (cellsLength (info .tracks) room) emptyPattern
+        (λ x f at p. ap (λ (tracks : ℕ). lengthOf (streamAnswer (packedBytes (encoded d) at) (number16 (encoded d) at) tracks room)) tracks-same ∙ cells-shown x f p tracks-fit room) number
+
+    cells-out : (out : List ℕ) → unpackOutput (encoded d) number out ≡ ofPattern (cellsWritten (info .tracks) out) out patterns number
+    cells-out out =
+        by-number opens (patterns-listed d w layout info patterns j i) (unpackOutputIf (encoded d) out) (cellsWritten (info .tracks) out) emptyPattern
+        (λ x f at p. ap (λ (tracks : ℕ). streamOutput (packedBytes (encoded d) at) (number16 (encoded d) at) tracks out) tracks-same ∙ cells-written x f p tracks-fit out) number
+
+  -- Q12.
+  frames-at : (samples : List Sample) → In (d .chunks) (SMPL samples) → (number : ℕ) → ShowsFrames (encoded d) samples number
+  frames-at samples i number =
+      let s = samples-listed d w layout samples i in
+      record {
+        number = by-number opens s (λ f. framesIf (encoded d) f .number) (λ x. 0) emptySample (λ x f at p. refl) number;
+        place = by-number opens s (λ f. framesIf (encoded d) f .place) (λ x. 0) emptySample (λ x f at p. refl) number ∙ either-way (leb 1 number && ltb (number - 1) (length samples)) 0;
+        length = by-number opens s (λ f. framesIf (encoded d) f .length) (λ x. length (storedFrames x)) emptySample (λ x f at p. frames-length x p) number;
+        bytes = by-number opens s (λ f. partOf (encoded d) (framesIf (encoded d) f .offset) (framesIf (encoded d) f .length)) storedFrames emptySample (λ x f at p. frames-shown x p) number;
+      }
+
+  shows : Shows (encoded d) d
+  shows = record {
+    version = version-shown;
+    name = name-shown;
+    info = info-shown;
+    song = λ songs i. by-number opens (songs-listed d w layout songs i) (songIf (encoded d)) songRecord emptySong (λ x f at p. song-shown x f p);
+    entry = λ songs i number entry. by-number opens (songs-listed d w layout songs i) (entryIf (encoded d) entry) (entryRecord entry) emptySong (λ x f at p. entry-shown x f p entry) number;
+    playlist = λ songs i number room. by-number opens (songs-listed d w layout songs i) (playlistIf (encoded d) room) (playlistLength room) emptySong (λ x f at p. playlist-shown x f p room) number;
+    playlistOut = λ songs i number out. by-number opens (songs-listed d w layout songs i) (playlistOutputIf (encoded d) out) (playlistWritten out) emptySong (λ x f at p. playlist-written x f p out) number;
+    instrument = λ instruments i. by-number opens (instruments-listed d w layout instruments i) (instrumentIf (encoded d)) instrumentRecord emptyInstrument (λ x f at p. instrument-shown x f p);
+    envelopes = count-shown;
+    envelope = envelope-at;
+    rows = λ patterns i. by-number opens (patterns-listed d w layout (w .info) patterns (w .infoThere) i) (rowsIf (encoded d)) rowsRecord emptyPattern (λ x f at p. rw (rows-shown x f p));
+    cell = cell-at;
+    cells = cells-at;
+    cellsOut = cells-out;
+    sample = λ samples i. by-number opens (samples-listed d w layout samples i) (sampleIf (encoded d)) sampleRecord emptySample (λ x f at p. sample-shown x p);
+    frames = frames-at;
+    frame = λ samples i number frame. by-number opens (samples-listed d w layout samples i) (frameIf (encoded d) frame) (frameRecord frame) emptySample (λ x f at p. frame-shown x p frame) number;
+    allFrames = λ samples i number room. by-number opens (samples-listed d w layout samples i) (allFramesIf (encoded d) room) (framesLength room) emptySample (λ x f at p. all-frames-shown x p room) number;
+    allFramesOut = λ samples i number out. by-number opens (samples-listed d w layout samples i) (allFramesOutputIf (encoded d) out) (framesWritten out) emptySample (λ x f at p. all-frames-written x p out) number;
+  }
+
+pub encoding-shows : (d : Description) → WellFormed d → Shows (encoded d) d
+encoding-shows d w = let (l, opens, layout) = encoded-opens d w in shows d w opens layout

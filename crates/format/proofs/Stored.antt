@@ -1,0 +1,52 @@
+-- Numbers stored as bytes: they are bytes where they fit, and are read again at their place. And pieces of one size, one behind the other:
+-- so many bytes, and each piece at its place.
+use Prim.Native.Nat.{ℕ, zero, suc, _+_, _*_, _<_}
+use mathlib.Core.Path.{_≡_, refl, subst, _∙_}
+use mathlib.Core.List.{List, [], _∷_, _++_, map, append-nil}
+use native.Mathlib.Omega.{arith}
+use native.Mathlib.Nat.{add-zero, mod-lt, div-lt-iff-lt-mul, suc-mul}
+use lib.ListN.{length, getD, length-append}
+use Rattle.cells.specs.Cells.{joined}
+use Rattle.numbers.specs.Numbers.{number16, number32, bytes16}
+use Rattle.numbers.proofs.Stored.{bytes16-again}
+use Rattle.grammar.specs.Rules.{Bytes}
+use Rattle.grammar.proofs.Locating.{PartAt, number16-behind, number32-behind, number16-part}
+use Rattle.grammar.proofs.Cutting.{part-first, part-rest}
+use Rattle.repacking.proofs.AllBytes.{bytes-nil, bytes-cons}
+
+-- A number as two bytes; as four bytes, repacking/proofs/PackedBytes.antt has it.
+pub bytes16-bytes : (n : ℕ) → n < 65536 → Bytes (bytes16 n)
+bytes16-bytes n h =
+    bytes-cons _ _ (div-lt-iff-lt-mul {k = 256} {x = n} {y = 256} (omega arith) .1 h) (bytes-cons _ _ (mod-lt n (omega arith)) bytes-nil)
+
+pub bytes16-number : (n : ℕ) (front rest : List ℕ) → number16 (front ++ (bytes16 n ++ rest)) (length front) ≡ n
+bytes16-number n front rest = rw add-zero at (number16-part front (bytes16 n) rest 0 (omega arith)) ∙ bytes16-again n
+
+-- What stands behind a front of so many bytes.
+module _ (front rest : List ℕ) (at : ℕ) (long : length front ≡ at) where
+  pub number16-past : (k : ℕ) → number16 (front ++ rest) (at + k) ≡ number16 rest k
+  number16-past k = rw (← long) (number16-behind front rest k)
+
+  pub number32-past : (k : ℕ) → number32 (front ++ rest) (at + k) ≡ number32 rest k
+  number32-past k = rw (← long) (number32-behind front rest k)
+
+  pub part-past : PartAt (front ++ rest) at rest
+  part-past = record { before = front; after = []; bytes = rw append-nil refl; starts = long }
+
+-- Pieces of one size.
+module _ {A : Type 0} (f : A → List ℕ) (size : ℕ) (one : (x : A) → length (f x) ≡ size) where
+  pub pieces-size : (xs : List A) → length (joined (map f xs)) ≡ length xs * size
+  pieces-size [] = omega arith
+  pieces-size (x ∷ xs) = omega (arith, length-append (f x) (joined (map f xs)), one x, pieces-size xs, suc-mul (length xs) size)
+
+  pub piece-at : {m : List ℕ} {at : ℕ} (xs : List A) (i : ℕ) (other : A) → i < length xs → PartAt m at (joined (map f xs)) → PartAt m (at + i * size) (f (getD xs i other))
+  piece-at [] i other h p = absurd (omega arith)
+  piece-at {m} {at} (x ∷ xs) zero other h p = subst (λ (k : ℕ). PartAt m k (f x)) (omega arith) (part-first (f x) (joined (map f xs)) p)
+  piece-at {m} {at} (x ∷ xs) (suc i) other h p =
+      subst (λ (k : ℕ). PartAt m k (f (getD xs i other))) (omega (arith, one x, suc-mul i size)) (piece-at xs i other (omega arith) (part-rest (f x) (joined (map f xs)) p))
+
+-- One of those that a function gives.
+pub getD-mapped : {A B : Type 0} (f : A → B) (xs : List A) (i : ℕ) (first : B) (other : A) → i < length xs → getD (map f xs) i first ≡ f (getD xs i other)
+getD-mapped f [] i first other h = absurd (omega arith)
+getD-mapped f (x ∷ xs) zero first other h = refl
+getD-mapped f (x ∷ xs) (suc i) first other h = getD-mapped f xs i first other (omega arith)
