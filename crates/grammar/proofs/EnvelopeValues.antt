@@ -50,7 +50,7 @@ module _ (m : List ℕ) (instruments : ℕ) (signed : Bool) (at : ℕ) (hold : A
   values-say : (sections : ℕ) → AllHold (valuesRules m signed sections at) ↔ ((i : ℕ) → i < sections + 1 → valueFits signed (number16 m (at + 8 + 4 * i + 2)) ≡ true)
   values-say sections = simp (every-one, each-hold (valueRules m signed), every-step) Iff·rfl
 
-  value-fits : (point : ℕ) → point ≤ byteAt m (at + 3) → valueFits signed (number16 m (at + 10 + 4 * point)) ≡ true
+  pub value-fits : (point : ℕ) → point ≤ byteAt m (at + 3) → valueFits signed (number16 m (at + 10 + 4 * point)) ≡ true
   value-fits point h =
       let same : at + 8 + 4 * point + 2 ≡ at + 10 + 4 * point = omega arith in
       rw same at (values-say (byteAt m (at + 3)) .0 (parts .2) point (omega arith))

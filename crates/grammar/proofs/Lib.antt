@@ -1,5 +1,6 @@
 pub mod Standing
 pub mod Locating
+pub mod Ends
 pub mod Holding
 pub mod Cutting
 pub mod FillingChunks

@@ -48,7 +48,8 @@ pub struct LengthAnswer {
     pub length: usize,
 }
 
-fn kind_of(thing: Thing) -> Kind
+// The kind of its block.
+pub fn kind_of(thing: Thing) -> Kind
     ensures { λ r. ⌜ r ≡ kindOf thing ⌝ }
 {
     match thing {
@@ -61,7 +62,8 @@ fn kind_of(thing: Thing) -> Kind
     }
 }
 
-fn chunk_of(l: Layout, thing: Thing) -> Place
+// The chunk that holds it.
+pub fn chunk_of(l: Layout, thing: Thing) -> Place
     ensures { λ r. ⌜ r ≡ chunkOf l thing ⌝ }
 {
     let p = l.places;
@@ -76,7 +78,7 @@ fn chunk_of(l: Layout, thing: Thing) -> Place
 }
 
 // How many of these the module has.
-fn count_of(m: &[u8], l: Layout, thing: Thing) -> u16
+pub fn count_of(m: &[u8], l: Layout, thing: Thing) -> u16
     ensures { λ r. ⌜ r ≡ countOf (now (m .entry)) l thing ⌝ }
 {
     match thing {

@@ -4,13 +4,10 @@ use Prim.Native.Nat.{ℕ, zero, suc, _+_, _≤_, _<_}
 use mathlib.Core.Path.{_≡_, refl, sym, ap, _∙_}
 use mathlib.Core.List.{List, _++_}
 use native.Mathlib.Omega.{arith}
-use mir.Val.{Fits}
-use mir.Syntax.{w8}
-use lib.ListN.{length, getD, drop}
+use lib.ListN.{length, drop}
 use borrow.Author.Tests.{lt-ltb, le-ltb}
 use Rattle.refusal.specs.Numbers.{refusal}
 use Rattle.refusal.specs.declared.Cause.the-variants.{Room}
-use Rattle.numbers.specs.Numbers.{byteAt}
 use Rattle.layout.specs.declared.Layout.{Layout}
 use Rattle.layout.specs.declared.Outline.{Outline}
 use Rattle.layout.specs.declared.Outline.the-variants.{Found}
@@ -28,11 +25,6 @@ use Rattle.grammar.proofs.FoundBlocks.{Opens, module-opens}
 use Rattle.repack.specs.Repacked.{repackedPatterns, repackedModule, repackAnswerIf, repackAnswer, repackOutputIf, repackOutput}
 use Rattle.repack.specs.Steps.{replaced, AllSound, PatternsIn}
 use Rattle.repack.proofs.ChunksAnew.{module-anew, replaced-anew}
-
--- A slice of bytes.
-pub slice-bytes : (m : List ℕ) → ((i : ℕ) → Fits w8 (getD m i 0)) → Bytes m
-unfolding byteAt
-slice-bytes m h i = omega (arith, h i)
 
 all-sound : (m : List ℕ) (tracks n at : ℕ) → Every (λ place. AllHold (patternStreamRules m tracks place)) (placesFrom (sizeOf Pattern m) n at) → AllSound m tracks n at
 all-sound m tracks zero at e = tt

@@ -7,7 +7,7 @@ use lib.ListN.{length, take, drop, length-append, length-drop}
 use lib.Seq.{take-take, take-append-le, take-at, drop-at, drop-drop, length-take-le}
 use borrow.Rule.Slice.PartMut.{midOf, putMid}
 use Rattle.numbers.specs.Numbers.{bytes32}
-use Rattle.repack.proofs.Ends.{mid-end, put-end}
+use Rattle.grammar.proofs.Ends.{mid-end, put-end}
 
 -- The output once it is written up to the place of the length.
 module _ (front out first : List ℕ) (a : ℕ) (size : length front ≡ a) (room : a + 4 ≤ length out) (e₁ : first ≡ front ++ drop a out) where

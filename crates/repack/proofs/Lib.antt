@@ -1,5 +1,4 @@
 pub mod Anew
-pub mod Ends
 pub mod LengthBefore
 pub mod WritingBlock
 pub mod PassingPatterns

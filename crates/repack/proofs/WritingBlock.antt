@@ -14,7 +14,7 @@ use Rattle.module.specs.Streams.{streamVerdict}
 use Rattle.grammar.proofs.Locating.{part-length}
 use Rattle.repack.specs.Repacked.{packed, repackedStream, repackedBlock}
 use Rattle.repack.proofs.Anew.{block-size}
-use Rattle.repack.proofs.Ends.{copied}
+use Rattle.grammar.proofs.Ends.{copied}
 use Rattle.repack.proofs.LengthBefore.{lent-length, third-is}
 
 -- An even stream ends the block; behind an odd one a filler stands.

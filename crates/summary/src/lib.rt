@@ -72,7 +72,7 @@ fn no_name(r: Refusal) -> NameAnswer
 }
 
 // The bytes of NAME, zeros where it is missing.
-fn name_of(m: &[u8], l: Layout) -> [u8; 44]
+pub fn name_of(m: &[u8], l: Layout) -> [u8; 44]
     ensures { λ r. ⌜ r ≡ nameOf (now (m .entry)) l ⌝ }
 {
     let p = l.places.name;

@@ -1,6 +1,7 @@
 use borrow.Author.Needs.{needs}
 use native.Mathlib.Omega.{arith}
-use Rattle.repack.proofs.Accepting.{slice-bytes, patterns-in, module-lacks, module-done}
+use Rattle.grammar.proofs.Ends.{slice-bytes}
+use Rattle.repack.proofs.Accepting.{patterns-in, module-lacks, module-done}
 use mathlib.Core.Path.{_∙_, ap}
 use Rattle.refusal.specs.declared.Refusal.{Refusal}
 use Rattle.queries.specs.Lengths.{refusedLength}

@@ -1,11 +1,16 @@
--- A part of a list, lent and given back: where it goes on to the list's end, and where it is written behind what is written already.
+-- A part of a list, lent and given back: where it goes on to the list's end, and where it is written behind what is written already. And
+-- the bytes of a lent slice.
 use Prim.Native.Nat.{ℕ, _+_, _-_, _≤_}
 use mathlib.Core.Path.{_≡_, sym, ap, _∙_}
 use mathlib.Core.List.{List, _++_, append-assoc, append-nil}
 use native.Mathlib.Omega.{arith}
-use lib.ListN.{length, take, drop, length-append, length-drop, take-append-drop, drop-of-length-le}
+use mir.Val.{Fits}
+use mir.Syntax.{w8}
+use lib.ListN.{length, getD, take, drop, length-append, length-drop, take-append-drop, drop-of-length-le}
 use lib.Seq.{take-all, take-at, drop-at, drop-drop, drop-append-le, length-take-le}
 use borrow.Rule.Slice.PartMut.{midOf, postOf, putMid}
+use Rattle.numbers.specs.Numbers.{byteAt}
+use Rattle.grammar.specs.Rules.{Bytes}
 
 module _ (a : ℕ) (xs : List ℕ) where
   pub mid-end : midOf a (length xs - a) xs ≡ drop a xs
@@ -42,3 +47,8 @@ module _ (front xs out₀ out mid : List ℕ) (a e : ℕ) (before : out ≡ fron
 -- The list keeps its length.
 pub written-length : (xs out₀ out : List ℕ) → out ≡ xs ++ drop (length xs) out₀ → length xs ≤ length out₀ → length out ≡ length out₀
 written-length xs out₀ out e h = omega (arith, ap length e, length-append xs (drop (length xs) out₀), length-drop (length xs) out₀)
+
+-- The elements of a slice of bytes are below 256.
+pub slice-bytes : (m : List ℕ) → ((i : ℕ) → Fits w8 (getD m i 0)) → Bytes m
+unfolding byteAt
+slice-bytes m h i = omega (arith, h i)
