@@ -1,0 +1,130 @@
+-- What an accepted module gives the code that writes its records: the values of envelopes fit 2 bytes, and the lengths are known before.
+use Prim.Native.Nat.{ℕ, _+_, _*_, _≤_, _<_}
+use mathlib.Core.Path.{_≡_, refl, sym, ap, subst, _∙_}
+use mathlib.Core.List.{List, _++_, map, append-assoc}
+use native.Mathlib.Omega.{arith}
+use lib.ListN.{length, drop, length-append}
+use lib.Dec.{eqb}
+use borrow.Author.Tests.{leb-true, lt-ltb, le-ltb}
+use Rattle.refusal.specs.Numbers.{refusal}
+use Rattle.refusal.specs.declared.Cause.the-variants.{Room}
+use Rattle.numbers.specs.Numbers.{number16}
+use Rattle.layout.specs.declared.Place.{Place}
+use Rattle.layout.specs.declared.Layout.{Layout}
+use Rattle.layout.specs.declared.Outline.{Outline}
+use Rattle.layout.specs.declared.Outline.the-variants.{Found}
+use Rattle.cells.specs.Cells.{joined}
+use Rattle.blocks.specs.Sizes.{sizeOf, placesFrom, blockAt, blocksOf}
+use Rattle.blocks.specs.declared.Kind.{Kind}
+use Rattle.module.specs.Fields.{envelopeRules}
+use Rattle.module.specs.Verdicts.{opened}
+use Rattle.queries.specs.Finding.{kindOf, chunkOf, countOf}
+use Rattle.queries.specs.Lengths.{refusedLength, writtenLength}
+use Rattle.queries.specs.declared.LengthAnswer.{LengthAnswer}
+use Rattle.queries.specs.declared.Thing.{Thing}
+use Rattle.queries.specs.declared.Thing.the-variants.{Song, Instrument, Pattern, Sample, VolumeEnvelope, PanningEnvelope}
+use Rattle.grammar.specs.Rules.{Every}
+use Rattle.grammar.proofs.Holding.{AllHold, every-of}
+use Rattle.grammar.proofs.EnvelopeValues.{value-fits}
+use Rattle.grammar.proofs.FoundBlocks.{Opens, module-opens}
+use Rattle.records.specs.Records.{summaryRecord, recordAt, recordsOf, allRecords, allAnswerIf, allAnswer, allOutputIf, allOutput}
+use Rattle.records.specs.Steps.{recordsFrom, recordsOfThree, ValuesFit}
+use Rattle.records.proofs.Ahead.{every-any}
+use Rattle.records.proofs.RecordLengths.{summary-length, song-length, instrument-length, pattern-length, sample-length, volume-length, panning-length, equal-lengths, block-lengths}
+
+-- An envelope of panning whose rules hold.
+panning-fits : (m : List ℕ) (instruments version at : ℕ) → AllHold (envelopeRules m instruments (eqb version 3) at) → ValuesFit m version PanningEnvelope at
+panning-fits m instruments version at hold point h two =
+    leb-true (number16 m (at + 10 + 4 * point)) 64 (rw two at (value-fits m instruments (eqb version 3) at hold point h))
+
+module _ (m : List ℕ) (l : Layout) (o : opened m ≡ Found l) where
+  opens : Opens m l
+  opens = module-opens m l o
+
+  pub values-fit : (thing : Thing) → Every (ValuesFit m (l .version) thing) (blocksOf m (kindOf thing) (chunkOf l thing) (countOf m l thing))
+  values-fit Song = every-any (λ at. tt) _
+  values-fit Instrument = every-any (λ at. tt) _
+  values-fit Pattern = every-any (λ at. tt) _
+  values-fit Sample = every-any (λ at. tt) _
+  values-fit VolumeEnvelope = every-any (λ at. tt) _
+  values-fit PanningEnvelope = every-of (λ at hold. panning-fits m (l .instruments) (l .version) at hold) (opens .content .fields .panningEnvelopes)
+
+  pub songs-length : length (recordsOf m l Song) ≡ l .places .song .length
+  songs-length = omega (arith, block-lengths (recordAt m (l .version) Song) (sizeOf (kindOf Song) m) (song-length m (l .version)) (l .songs) (l .places .song .at + 8), opens .content .blocks .songs)
+
+-- The records of a kind that are of one length.
+module _ (m : List ℕ) (l : Layout) where
+  pub instruments-length : length (recordsOf m l Instrument) ≡ countOf m l Instrument * 50
+  instruments-length = equal-lengths (recordAt m (l .version) Instrument) (sizeOf (kindOf Instrument) m) 50 (instrument-length m (l .version)) _ _
+
+  pub patterns-length : length (recordsOf m l Pattern) ≡ countOf m l Pattern * 2
+  patterns-length = equal-lengths (recordAt m (l .version) Pattern) (sizeOf (kindOf Pattern) m) 2 (pattern-length m (l .version)) _ _
+
+  pub samples-length : length (recordsOf m l Sample) ≡ countOf m l Sample * 6
+  samples-length = equal-lengths (recordAt m (l .version) Sample) (sizeOf (kindOf Sample) m) 6 (sample-length m (l .version)) _ _
+
+  pub volumes-length : length (recordsOf m l VolumeEnvelope) ≡ countOf m l VolumeEnvelope * 136
+  volumes-length = equal-lengths (recordAt m (l .version) VolumeEnvelope) (sizeOf (kindOf VolumeEnvelope) m) 136 (volume-length m (l .version)) _ _
+
+  pub pannings-length : length (recordsOf m l PanningEnvelope) ≡ countOf m l PanningEnvelope * 136
+  pannings-length = equal-lengths (recordAt m (l .version) PanningEnvelope) (sizeOf (kindOf PanningEnvelope) m) 136 (panning-length m (l .version)) _ _
+
+  -- The length that is told for each kind.
+  pub songs-told : opened m ≡ Found l → (thing : Thing) (chunk : Place) → thing ≡ Song → chunk ≡ chunkOf l thing → chunk .length ≡ length (recordsOf m l thing)
+  songs-told o thing chunk e c = rw e (ap (λ (p : Place). p .length) (rw e at c) ∙ sym (songs-length m l o))
+
+  pub told : (thing kind : Thing) (count w : ℕ) → thing ≡ kind → length (recordsOf m l kind) ≡ countOf m l kind * w → count ≡ countOf m l thing → count * w ≡ length (recordsOf m l thing)
+  told thing kind count w e size c = rw e (ap (λ (n : ℕ). n * w) (rw e at c) ∙ sym size)
+
+  -- All of them.
+  pub all-lengths : length (allRecords m l) ≡ 60 + length (recordsOf m l Song) + length (recordsOf m l Instrument) + length (recordsOf m l Pattern) + length (recordsOf m l Sample) + length (recordsOf m l VolumeEnvelope) + length (recordsOf m l PanningEnvelope)
+  all-lengths =
+      let e : List ℕ = recordsOf m l VolumeEnvelope ++ recordsOf m l PanningEnvelope in
+      let d : List ℕ = recordsOf m l Sample ++ e in
+      let c : List ℕ = recordsOf m l Pattern ++ d in
+      let b : List ℕ = recordsOf m l Instrument ++ c in
+      let a : List ℕ = recordsOf m l Song ++ b in
+      omega (arith, summary-length m l, length-append (summaryRecord m l) a, length-append (recordsOf m l Song) b, length-append (recordsOf m l Instrument) c, length-append (recordsOf m l Pattern) d, length-append (recordsOf m l Sample) e, length-append (recordsOf m l VolumeEnvelope) (recordsOf m l PanningEnvelope))
+
+  -- 17, and what is written.
+  module _ (out : List ℕ) where
+    pub all-lacks : (needed : ℕ) → needed ≡ length (allRecords m l) → length out < needed → (answer : LengthAnswer) → answer ≡ refusedLength (refusal Room needed) → (answer ≡ allAnswerIf m (length out) (Found l)) × (out ≡ allOutputIf m out (Found l))
+    all-lacks needed is h answer e =
+        let lacks = lt-ltb (length out) (length (allRecords m l)) (omega (arith, is)) in
+        (e ∙ rw (is, lacks) refl, rw lacks refl)
+
+    pub all-done : length (allRecords m l) ≤ length out → (n : ℕ) (answer : LengthAnswer) (out′ : List ℕ) → answer ≡ writtenLength n → (n ≡ length (allRecords m l)) × (out′ ≡ allRecords m l ++ drop n out) → (answer ≡ allAnswerIf m (length out) (Found l)) × (out′ ≡ allOutputIf m out (Found l))
+    all-done h n answer out′ e done =
+        let fits = le-ltb (length out) (length (allRecords m l)) h in
+        (e ∙ rw (done .0, fits) refl, done .1 ∙ rw (done .0, fits) refl)
+
+-- The blocks of a kind, by what the code has of them.
+module _ (m : List ℕ) (l : Layout) (thing : Thing) (kind : Kind) (chunk : Place) (start count : ℕ) (k : kind ≡ kindOf thing) (c : chunk ≡ chunkOf l thing) (s : start ≡ blockAt m kind chunk 0) (n : count ≡ countOf m l thing) where
+  places-same : placesFrom (sizeOf kind m) count start ≡ blocksOf m (kindOf thing) (chunkOf l thing) (countOf m l thing)
+  places-same = rw (s, k, c, n) refl
+
+  pub records-same : recordsFrom m kind thing (l .version) count start ≡ recordsOf m l thing
+  records-same = ap (λ (places : List ℕ). joined (map (recordAt m (l .version) thing) places)) places-same
+
+  pub records-ready : opened m ≡ Found l → Every (ValuesFit m (l .version) thing) (placesFrom (sizeOf kind m) count start)
+  records-ready o = subst (Every (ValuesFit m (l .version) thing)) (sym places-same) (values-fit m l o thing)
+
+  pub records-written : (out : List ℕ) {out′ : List ℕ} {r : ℕ} → (r ≡ length (recordsFrom m kind thing (l .version) count start)) × (out′ ≡ recordsFrom m kind thing (l .version) count start ++ drop r out) → (r ≡ length (recordsOf m l thing)) × (out′ ≡ recordsOf m l thing ++ drop r out)
+  records-written out w = rw records-same at w
+
+-- All records, as they are written: three kinds, and the three others.
+pub all-split : (m : List ℕ) (l : Layout) → summaryRecord m l ++ (recordsOfThree m l Song Instrument Pattern ++ recordsOfThree m l Sample VolumeEnvelope PanningEnvelope) ≡ allRecords m l
+all-split m l =
+    let others : List ℕ = recordsOfThree m l Sample VolumeEnvelope PanningEnvelope in
+    ap (λ (rest : List ℕ). summaryRecord m l ++ rest) (append-assoc (recordsOf m l Song) (recordsOf m l Instrument ++ recordsOf m l Pattern) others ∙ ap (λ (rest : List ℕ). recordsOf m l Song ++ rest) (append-assoc (recordsOf m l Instrument) (recordsOf m l Pattern) others))
+
+pub all-written : (m : List ℕ) (l : Layout) (out : List ℕ) {out′ : List ℕ} {r : ℕ} → (r ≡ length (summaryRecord m l ++ (recordsOfThree m l Song Instrument Pattern ++ recordsOfThree m l Sample VolumeEnvelope PanningEnvelope))) × (out′ ≡ (summaryRecord m l ++ (recordsOfThree m l Song Instrument Pattern ++ recordsOfThree m l Sample VolumeEnvelope PanningEnvelope)) ++ drop r out) → (r ≡ length (allRecords m l)) × (out′ ≡ allRecords m l ++ drop r out)
+all-written m l out {out′} {r} w = subst (λ (all : List ℕ). (r ≡ length all) × (out′ ≡ all ++ drop r out)) (all-split m l) w
+
+pub all-room : (m : List ℕ) (l : Layout) {k : ℕ} → length (allRecords m l) ≤ k → length (summaryRecord m l ++ (recordsOfThree m l Song Instrument Pattern ++ recordsOfThree m l Sample VolumeEnvelope PanningEnvelope)) ≤ k
+all-room m l {k} h = subst (λ (all : List ℕ). length all ≤ k) (sym (all-split m l)) h
+
+-- What the call answers, and what its output then holds, by how the module opens.
+module _ (m out : List ℕ) where
+  pub answer-opened : (o : Outline) → opened m ≡ o → {answer : LengthAnswer} {out′ : List ℕ} → (answer ≡ allAnswerIf m (length out) o) × (out′ ≡ allOutputIf m out o) → (answer ≡ allAnswer m (length out)) × (out′ ≡ allOutput m out)
+  answer-opened o opens e = rw opens e

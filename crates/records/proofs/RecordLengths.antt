@@ -1,0 +1,65 @@
+-- How long records are: one by one, and all of a kind.
+use Prim.Native.Nat.{ℕ, zero, suc, _+_, _*_}
+use mathlib.Core.Path.{_≡_, refl}
+use mathlib.Core.List.{List, _++_, map}
+use mathlib.Core.Bool.{Bool, true, false, cond}
+use native.Mathlib.Omega.{arith}
+use native.Mathlib.Nat.{suc-mul}
+use lib.ListN.{length, replicate, length-append}
+use Rattle.cells.specs.Cells.{joined}
+use Rattle.numbers.specs.Numbers.{byteAt, number16, bytesFrom}
+use Rattle.numbers.proofs.Each.{each-length}
+use Rattle.layout.specs.declared.Layout.{Layout}
+use Rattle.blocks.specs.Sizes.{sizeOf, placesFrom, placeAfter}
+use Rattle.blocks.specs.declared.Kind.the-variants.{Song as SongKind}
+use Rattle.queries.specs.declared.Thing.the-variants.{Song, Instrument, Pattern, Sample, VolumeEnvelope, PanningEnvelope}
+use Rattle.summary.specs.Shown.{nameOf, shownInfo}
+use Rattle.records.specs.Records.{infoRecord, countsRecord, summaryRecord, recordAt}
+
+-- A name has 44 bytes, and with it the summary 60.
+pub name-length : (m : List ℕ) (l : Layout) → length (nameOf m l) ≡ 44
+name-length m l = go (l .places .name .present)
+  where
+    go : (there : Bool) → length (cond there (bytesFrom m (l .places .name .at + 8) 44) (replicate 44 0)) ≡ 44
+    go true = refl
+    go false = refl
+
+pub summary-length : (m : List ℕ) (l : Layout) → length (summaryRecord m l) ≡ 60
+summary-length m l = omega (arith, length-append (nameOf m l) (infoRecord (shownInfo l) ++ countsRecord m l), name-length m l)
+
+module _ (m : List ℕ) (version at : ℕ) where
+  pub song-length : length (recordAt m version Song at) ≡ sizeOf SongKind m at
+  unfolding recordAt sizeOf
+  song-length = omega (arith, each-length (byteAt m) (2 * number16 m (at + 44)) (at + 46))
+
+  pub instrument-length : length (recordAt m version Instrument at) ≡ 50
+  unfolding recordAt
+  instrument-length = refl
+
+  pub pattern-length : length (recordAt m version Pattern at) ≡ 2
+  unfolding recordAt
+  pattern-length = refl
+
+  pub sample-length : length (recordAt m version Sample at) ≡ 6
+  unfolding recordAt
+  sample-length = refl
+
+  pub volume-length : length (recordAt m version VolumeEnvelope at) ≡ 136
+  unfolding recordAt
+  volume-length = refl
+
+  pub panning-length : length (recordAt m version PanningEnvelope at) ≡ 136
+  unfolding recordAt
+  panning-length = refl
+
+-- Records of one length.
+pub equal-lengths : (f : ℕ → List ℕ) (size : ℕ → ℕ) (w : ℕ) → ((at : ℕ) → length (f at) ≡ w) → (n at : ℕ) → length (joined (map f (placesFrom size n at))) ≡ n * w
+equal-lengths f size w each zero at = omega arith
+equal-lengths f size w each (suc n) at =
+    omega (arith, length-append (f at) (joined (map f (placesFrom size n (at + size at)))), each at, equal-lengths f size w each n (at + size at), suc-mul n w)
+
+-- Records that are as long as their blocks.
+pub block-lengths : (f : ℕ → List ℕ) (size : ℕ → ℕ) → ((at : ℕ) → length (f at) ≡ size at) → (n at : ℕ) → at + length (joined (map f (placesFrom size n at))) ≡ placeAfter size n at
+block-lengths f size each zero at = omega arith
+block-lengths f size each (suc n) at =
+    omega (arith, length-append (f at) (joined (map f (placesFrom size n (at + size at)))), each at, block-lengths f size each n (at + size at))

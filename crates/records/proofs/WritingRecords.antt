@@ -1,0 +1,147 @@
+-- What the writers of records leave: each writes its record to the front of an output.
+use Prim.Native.Nat.{ℕ, _+_, _-_, _*_, _≤_, _<_}
+use mathlib.Core.Path.{_≡_, refl, sym, ap, _∙_}
+use mathlib.Core.List.{List, [], _∷_, _++_, append-nil}
+use native.Mathlib.Omega.{arith}
+use lib.ListN.{length, take, drop, set, length-set, length-append, drop-of-length-le}
+use lib.Seq.{length-take-le, sets-eq}
+use borrow.Rule.Slice.PartMut.{midOf, putMid, mid-len}
+use Rattle.numbers.specs.Numbers.{number32, bytesFrom, bytes16}
+use Rattle.layout.specs.declared.Layout.{Layout}
+use Rattle.blocks.specs.Sizes.{widthOf, sizeOf, envelopeCount}
+use Rattle.blocks.specs.declared.Kind.the-variants.{Song as SongKind}
+use Rattle.queries.specs.declared.Thing.{Thing}
+use Rattle.queries.specs.declared.Thing.the-variants.{Song, Instrument, Pattern, Sample}
+use Rattle.summary.specs.Shown.{nameOf}
+use Rattle.samples.specs.Shown.{shownSample}
+use Rattle.envelopes.specs.Shown.{thingOf}
+use Rattle.envelopes.specs.declared.EnvelopeKind.{EnvelopeKind}
+use Rattle.grammar.specs.Rules.{Bytes}
+use Rattle.grammar.proofs.Ends.{put-next, copied}
+use Rattle.records.specs.Records.{sampleRecord, summaryRecord, recordAt}
+use Rattle.records.specs.Steps.{pointRecord, pointsFrom}
+use Rattle.records.proofs.Ahead.{Ahead, ahead-second, ahead-last, second-inside, second-part, third-inside, third-part, three-written, AheadBlocks, blocks-last}
+use Rattle.records.proofs.RecordLengths.{name-length, song-length, instrument-length, pattern-length, sample-length, equal-lengths}
+use Rattle.records.proofs.StoredRecords.{two-bytes, song-stored, instrument-stored, sample-stored, envelope-stored}
+
+-- A copy of so many bytes.
+pub stored-written : (m : List ℕ) (at n : ℕ) (out copied : List ℕ) → copied ≡ bytesFrom m at (length (take n out)) → n ≤ length out → copied ++ drop n out ≡ bytesFrom m at n ++ drop n out
+stored-written m at n out copied e h = ap (λ (l : List ℕ). l ++ drop n out) (e ∙ ap (bytesFrom m at) (length-take-le n out h))
+
+-- What the writer of a record answers and leaves.
+abbrev pub RecordWritten : List ℕ → ℕ → Thing → ℕ → List ℕ → List ℕ → ℕ → Type 0
+RecordWritten m version thing at out out′ r = (r ≡ length (recordAt m version thing at)) × (out′ ≡ recordAt m version thing at ++ drop r out)
+
+-- The room that is asked for is there.
+pub room-of : (m : List ℕ) (version at : ℕ) (thing : Thing) {kind : Thing} {n k : ℕ} → thing ≡ kind → length (recordAt m version kind at) ≡ n → length (recordAt m version thing at) ≤ k → n ≤ k
+room-of m version at thing {kind} {n} {k} e size room =
+    let there : length (recordAt m version kind at) ≤ k = rw e at room in
+    omega (arith, there, size)
+
+module _ (m : List ℕ) (bytes : Bytes m) (version at : ℕ) (thing : Thing) where
+  module _ (out : List ℕ) {out′ : List ℕ} {n r : ℕ} where
+    written-as : (kind : Thing) (xs : List ℕ) → thing ≡ kind → xs ≡ recordAt m version kind at → length (recordAt m version kind at) ≡ n → (r ≡ n) × (out′ ≡ xs ++ drop n out) → RecordWritten m version thing at out out′ r
+    written-as kind xs e same size w = rw e (w .0 ∙ sym size, w .1 ∙ rw (same, w .0) refl)
+
+    pub song-written : thing ≡ Song → n ≡ sizeOf SongKind m at → (r ≡ n) × (out′ ≡ bytesFrom m at n ++ drop n out) → RecordWritten m version thing at out out′ r
+    unfolding recordAt sizeOf
+    song-written e size w = written-as Song (bytesFrom m at n) e (ap (bytesFrom m at) size ∙ song-stored m bytes at) (song-length m version at ∙ sym size) w
+
+  module _ (out : List ℕ) {out′ : List ℕ} {r : ℕ} where
+    pub instrument-written : thing ≡ Instrument → (r ≡ 50) × (out′ ≡ bytesFrom m at 50 ++ drop 50 out) → RecordWritten m version thing at out out′ r
+    unfolding recordAt
+    instrument-written e w = written-as out Instrument (bytesFrom m at 50) e (instrument-stored m bytes at) (instrument-length m version at) w
+
+    pub pattern-written : thing ≡ Pattern → (r ≡ 2) × (out′ ≡ bytesFrom m at 2 ++ drop 2 out) → RecordWritten m version thing at out out′ r
+    unfolding recordAt
+    pattern-written e w = written-as out Pattern (bytesFrom m at 2) e (two-bytes m bytes at) (pattern-length m version at) w
+
+    pub sample-written : thing ≡ Sample → (r ≡ 6) × (out′ ≡ sampleRecord (shownSample m at) ++ drop 6 out) → RecordWritten m version thing at out out′ r
+    unfolding recordAt
+    sample-written e w = written-as out Sample (sampleRecord (shownSample m at)) e refl (sample-length m version at) w
+
+    pub envelope-written : {kind : Thing} → thing ≡ kind → length (recordAt m version kind at) ≡ 136 → (r ≡ 136) × (out′ ≡ recordAt m version kind at ++ drop 136 out) → RecordWritten m version thing at out out′ r
+    envelope-written {kind} e size w = written-as out kind (recordAt m version kind at) e refl size w
+
+-- A sample's record: the bits of a frame by two stores, the frames by a copy.
+module _ (m : List ℕ) (bytes : Bytes m) (at w : ℕ) (out mid : List ℕ) where
+  abbrev stored : List ℕ
+  stored = set (set out 0 0) 1 (8 * w)
+
+  pub bits-frames : w ≡ widthOf (number32 m at) → w < 5 → 6 ≤ length out → mid ≡ bytesFrom m (at + 4) (length (midOf 2 (6 - 2) stored)) → putMid 2 (6 - 2) stored mid ≡ sampleRecord (shownSample m at) ++ drop 6 out
+  bits-frames e small room is =
+      let long : length stored ≡ length out = length-set (set out 0 0) 1 (8 * w) ∙ length-set out 0 0 in
+      let lent : length (midOf 2 (6 - 2) stored) ≡ 4 = mid-len 2 6 stored (omega (arith, long)) in
+      let frames : mid ≡ bytesFrom m (at + 4) 4 = is ∙ ap (bytesFrom m (at + 4)) lent in
+      let none : drop 4 (midOf 2 (6 - 2) stored) ≡ [] = drop-of-length-le (midOf 2 (6 - 2) stored) {i = 4} (omega (arith, lent)) in
+      let whole : mid ≡ bytesFrom m (at + 4) 4 ++ drop 4 (midOf 2 (6 - 2) stored) = frames ∙ sym (ap (λ (rest : List ℕ). bytesFrom m (at + 4) 4 ++ rest) none ∙ append-nil (bytesFrom m (at + 4) 4)) in
+      put-next (0 ∷ 8 * w ∷ []) (bytesFrom m (at + 4) 4) out stored mid 2 6 (sets-eq (0 ∷ 8 * w ∷ []) out 0 (omega (arith, room))) refl (omega arith) room whole
+      ∙ ap (λ (l : List ℕ). l ++ drop 6 out) (sym (sample-stored m bytes at w e small))
+
+-- The points of an envelope.
+module _ (m : List ℕ) (kind : EnvelopeKind) (version at : ℕ) where
+  pub points-size : length (pointsFrom m kind version at 32 0) ≡ 128
+  points-size = equal-lengths (pointRecord m kind version at) (λ point. 1) 4 (λ point. refl) 32 0
+
+  pub points-last : {P : ℕ → Type 0} (out₀ out : List ℕ) {point to left : ℕ} → AheadBlocks (pointRecord m kind version at) (λ point. 1) P 32 0 out₀ out point to left → left ≤ 0 → out ≡ pointsFrom m kind version at 32 0 ++ drop 128 out₀
+  points-last out₀ out {to = to} b over =
+      let done = blocks-last out₀ out b over in
+      let all : to ≡ 128 = done .0 ∙ points-size in
+      done .1 ∙ ap (λ (k : ℕ). pointsFrom m kind version at 32 0 ++ drop k out₀) all
+
+-- An envelope's record: what stands before the points by a copy, and the points.
+module _ (m : List ℕ) (bytes : Bytes m) (kind : EnvelopeKind) (version at : ℕ) (out copied mid : List ℕ) where
+  abbrev headed : List ℕ
+  headed = copied ++ drop 8 out
+
+  pub head-points : copied ≡ bytesFrom m at (length (take 8 out)) → 136 ≤ length out → mid ≡ pointsFrom m kind version at 32 0 ++ drop 128 (midOf 8 (length headed - 8) headed) → putMid 8 (length headed - 8) headed mid ≡ recordAt m version (thingOf kind) at ++ drop 136 out
+  head-points e room is =
+      let points : List ℕ = pointsFrom m kind version at 32 0 in
+      let head : headed ≡ bytesFrom m at 8 ++ drop 8 out = stored-written m at 8 out copied e (omega (arith, room)) in
+      let size : 128 ≡ length points = sym (points-size m kind version at) in
+      let a : Ahead out (bytesFrom m at 8 ++ points) headed 8 points = ahead-second (bytesFrom m at 8) points (refl, head) in
+      let fits : length (bytesFrom m at 8 ++ points) ≤ length out = omega (arith, size, room) in
+      ahead-last fits headed points a mid (size, is) .1 ∙ ap (λ (l : List ℕ). l ++ drop 136 out) (sym (envelope-stored m bytes kind version at))
+
+-- What a module says of itself: version and revision by two stores, the name by a copy, and seven numbers.
+module _ (m : List ℕ) (l : Layout) (out name : List ℕ) (volume panning : ℕ) (room : 60 ≤ length out) (same : name ≡ nameOf m l) where
+  abbrev front : List ℕ
+  front = l .version ∷ l .revision ∷ []
+
+  abbrev numbers : List ℕ
+  numbers =
+      bytes16 (l .instruments) ++ (bytes16 (l .samples) ++ (bytes16 (l .songs) ++ (bytes16 (l .patterns) ++ (bytes16 (l .tracks) ++ (bytes16 volume ++ bytes16 panning)))))
+
+  abbrev versioned : List ℕ
+  versioned = set (set out 0 (l .version)) 1 (l .revision)
+
+  size : 44 ≡ length (nameOf m l)
+  size = sym (name-length m l)
+
+  fits : length (front ++ (nameOf m l ++ numbers)) ≤ length out
+  fits = omega (arith, length-append (nameOf m l) numbers, size, room)
+
+  first : (2 ≡ length front) × (versioned ≡ front ++ drop 2 out)
+  first = (refl, sets-eq front out 0 (omega (arith, room)))
+
+  pub name-inside : 2 ≤ length versioned
+  name-inside = second-inside front (nameOf m l) numbers out fits versioned first
+
+  pub name-part : length name ≤ length (midOf 2 (length versioned - 2) versioned)
+  name-part = rw same (second-part front (nameOf m l) numbers out fits versioned first)
+
+  module _ (mid₂ : List ℕ) (is₂ : mid₂ ≡ take (length name) name ++ drop (length name) (midOf 2 (length versioned - 2) versioned)) where
+    abbrev named : List ℕ
+    named = putMid 2 (length versioned - 2) versioned mid₂
+
+    second : (44 ≡ length (nameOf m l)) × (mid₂ ≡ nameOf m l ++ drop 44 (midOf 2 (length versioned - 2) versioned))
+    second = (size, copied name (nameOf m l) (midOf 2 (length versioned - 2) versioned) mid₂ same is₂ ∙ ap (λ (k : ℕ). nameOf m l ++ drop k (midOf 2 (length versioned - 2) versioned)) (sym size))
+
+    pub numbers-inside : 46 ≤ length named
+    numbers-inside = third-inside front (nameOf m l) numbers out fits versioned first mid₂ second
+
+    pub numbers-part : 14 ≤ length (midOf 46 (length named - 46) named)
+    numbers-part = third-part front (nameOf m l) numbers out fits versioned first mid₂ second
+
+    pub summary-written : volume ≡ envelopeCount m (l .places .venv) → panning ≡ envelopeCount m (l .places .penv) → (mid₃ : List ℕ) → mid₃ ≡ numbers ++ drop 14 (midOf 46 (length named - 46) named) → putMid 46 (length named - 46) named mid₃ ≡ summaryRecord m l ++ drop 60 out
+    summary-written v p mid₃ is₃ = three-written front (nameOf m l) numbers out fits versioned first mid₂ second mid₃ (refl, is₃) .1 ∙ rw (v, p) refl

@@ -1,0 +1,47 @@
+-- Definitions that private functions cite: the points of an envelope one by one, the records of some blocks, and what has to hold of
+-- an envelope so that 2 bytes hold each value.
+use Prim.Native.Nat.{ℕ, _+_, _*_, _≤_}
+use mathlib.Core.Path.{_≡_}
+use mathlib.Core.List.{List, _++_, map}
+use Rattle.cells.specs.Cells.{joined}
+use Rattle.numbers.specs.Numbers.{byteAt, number16, bytes16, unsigned16}
+use Rattle.layout.specs.declared.Layout.{Layout}
+use Rattle.blocks.specs.Sizes.{sizeOf, placesFrom}
+use Rattle.blocks.specs.declared.Kind.{Kind}
+use Rattle.queries.specs.declared.Thing.{Thing}
+use Rattle.queries.specs.declared.Thing.the-variants.{Song, Instrument, Pattern, Sample, VolumeEnvelope, PanningEnvelope}
+use Rattle.envelopes.specs.Shown.{positionShown, valueShown}
+use Rattle.envelopes.specs.declared.EnvelopeKind.{EnvelopeKind}
+use Rattle.envelopes.specs.declared.EnvelopeKind.the-variants.{Volume, Panning}
+use Rattle.records.specs.Records.{recordAt, recordsOf}
+
+-- A point of the envelope at a place.
+abbrev pub pointRecord : List ℕ → EnvelopeKind → ℕ → ℕ → ℕ → List ℕ
+pointRecord m kind version at point =
+    bytes16 (positionShown m at (byteAt m (at + 3)) point) ++ bytes16 (unsigned16 (valueShown m kind version at (byteAt m (at + 3)) point))
+
+-- So many points of it from one on.
+abbrev pub pointsFrom : List ℕ → EnvelopeKind → ℕ → ℕ → ℕ → ℕ → List ℕ
+pointsFrom m kind version at n point = joined (map (pointRecord m kind version at) (placesFrom (λ point. 1) n point))
+
+-- The records of so many blocks from a place on.
+abbrev pub recordsFrom : List ℕ → Kind → Thing → ℕ → ℕ → ℕ → List ℕ
+recordsFrom m kind thing version n at = joined (map (recordAt m version thing) (placesFrom (sizeOf kind m) n at))
+
+-- The records of three kinds, one kind behind the other.
+abbrev pub recordsOfThree : List ℕ → Layout → Thing → Thing → Thing → List ℕ
+recordsOfThree m l a b c = recordsOf m l a ++ (recordsOf m l b ++ recordsOf m l c)
+
+-- V5: a value of panning in version 2 is at most 64. Nothing is asked of any other.
+abbrev pub ValueFits : EnvelopeKind → ℕ → ℕ → Type 0
+ValueFits Volume version v = Unit {0}
+ValueFits Panning version v = version ≡ 2 → v ≤ 64
+
+-- The values in use of the panning envelope at a place are so. Nothing is asked of anything else.
+abbrev pub ValuesFit : List ℕ → ℕ → Thing → ℕ → Type 0
+ValuesFit m version Song at = Unit {0}
+ValuesFit m version Instrument at = Unit {0}
+ValuesFit m version Pattern at = Unit {0}
+ValuesFit m version Sample at = Unit {0}
+ValuesFit m version VolumeEnvelope at = Unit {0}
+ValuesFit m version PanningEnvelope at = (point : ℕ) → point ≤ byteAt m (at + 3) → ValueFits Panning version (number16 m (at + 10 + 4 * point))

@@ -1,0 +1,344 @@
+// All records of a module by one call: one check of the module, and one pass over its blocks. Each record tells just what its own query
+// answers.
+use blocks::Kind;
+use blocks::block_at;
+use blocks::envelope_count;
+use blocks::size;
+use blocks::width;
+use envelopes::EnvelopeKind;
+use layout::Layout;
+use layout::Outline;
+use numbers::byte;
+use numbers::copy;
+use numbers::number16;
+use numbers::number32;
+use queries::LengthAnswer;
+use queries::Thing;
+use queries::chunk_of;
+use queries::count_of;
+use queries::kind_of;
+use queries::refused;
+use queries::written;
+use refusal::Cause;
+use refusal::refuse;
+use summary::name_of;
+ghost use mathlib.Core.Path.{_≡_};
+ghost use mathlib.Core.List.{_++_};
+ghost use Prim.Native.Nat.{_+_, _*_, _<_, _≤_};
+ghost use lib.ListN.{length, drop};
+ghost use lib.IntN.{pos, _-ℤ_};
+ghost use Rattle.numbers.specs.Numbers.{byteAt, bytes16, bytesFrom, unsigned16};
+ghost use Rattle.layout.specs.declared.Outline.the-variants.{Found};
+ghost use Rattle.blocks.specs.Sizes.{sizeOf, placesFrom};
+ghost use Rattle.module.specs.Verdicts.{opened};
+ghost use Rattle.samples.specs.Shown.{shownSample};
+ghost use Rattle.envelopes.specs.Shown.{thingOf, positionShown, valueShown, valueOf};
+ghost use Rattle.grammar.specs.Rules.{Every};
+ghost use Rattle.records.specs.Records.{summaryRecord, sampleRecord, recordAt, recordsOf, allRecords, allAnswerIf, allAnswer, allOutputIf, allOutput};
+ghost use Rattle.records.specs.Steps.{pointRecord, pointsFrom, recordsFrom, recordsOfThree, ValueFits, ValuesFit};
+
+// Writes seven numbers to the front of an output, 2 bytes each.
+fn put_seven(a: u16, b: u16, c: u16, d: u16, e: u16, f: u16, g: u16, out: &mut [u8])
+    requires { ⌜ 14 ≤ length (now out) ⌝ }
+    ensures { λ r. ⌜ now (out .exit) ≡ (bytes16 a ++ (bytes16 b ++ (bytes16 c ++ (bytes16 d ++ (bytes16 e ++ (bytes16 f ++ bytes16 g)))))) ++ drop 14 (now (out .entry)) ⌝ }
+{
+    out[0] = (a / 256) as u8;
+    out[1] = (a % 256) as u8;
+    out[2] = (b / 256) as u8;
+    out[3] = (b % 256) as u8;
+    out[4] = (c / 256) as u8;
+    out[5] = (c % 256) as u8;
+    out[6] = (d / 256) as u8;
+    out[7] = (d % 256) as u8;
+    out[8] = (e / 256) as u8;
+    out[9] = (e % 256) as u8;
+    out[10] = (f / 256) as u8;
+    out[11] = (f % 256) as u8;
+    out[12] = (g / 256) as u8;
+    out[13] = (g % 256) as u8;
+}
+
+// Writes what a module says of itself to the front of an output: 60 bytes.
+fn write_summary(m: &[u8], l: Layout, out: &mut [u8])
+    requires { ⌜ 60 ≤ length (now out) ⌝ }
+    ensures { λ r. ⌜ now (out .exit) ≡ summaryRecord (now (m .entry)) l ++ drop 60 (now (out .entry)) ⌝ }
+{
+    let p = l.places;
+    let name = name_of(m, l);
+    let volume = envelope_count(m, p.venv);
+    let panning = envelope_count(m, p.penv);
+    out[0] = l.version;
+    out[1] = l.revision;
+    bytes::copy(&name, &mut out[2..]);
+    put_seven(
+        l.instruments,
+        l.samples,
+        l.songs,
+        l.patterns,
+        l.tracks,
+        volume,
+        panning,
+        &mut out[46..],
+    );
+}
+
+// Writes so many bytes of the module to the front of an output, and answers how many.
+fn write_stored(m: &[u8], at: usize, n: usize, out: &mut [u8]) -> usize
+    requires { ⌜ n ≤ length (now out) ⌝ }
+    ensures { λ r. ⌜ (r ≡ n) × (now (out .exit) ≡ bytesFrom (now (m .entry)) at n ++ drop n (now (out .entry))) ⌝ }
+{
+    copy(m, at, &mut out[..n]);
+    n
+}
+
+// Writes the record of the sample at a place to the front of an output, and answers its length.
+fn write_sample(m: &[u8], at: usize, out: &mut [u8]) -> usize
+    requires { ⌜ (at < 0x20000000000000) × (6 ≤ length (now out)) ⌝ }
+    ensures { λ r. ⌜ (r ≡ 6) × (now (out .exit) ≡ sampleRecord (shownSample (now (m .entry)) at) ++ drop 6 (now (out .entry))) ⌝ }
+{
+    let bits = 8 * width(number32(m, at));
+    out[0] = 0;
+    out[1] = bits as u8;
+    copy(m, at + 4, &mut out[2..6]);
+    6
+}
+
+// The position of a point of the envelope at a place, as it is shown.
+fn position(m: &[u8], at: usize, sections: u8, point: usize) -> u16
+    requires { ⌜ (at < 0x20000000000000) × (point < 32) ⌝ }
+    ensures { λ r. ⌜ r ≡ positionShown (now (m .entry)) at sections point ⌝ }
+{
+    if point <= (sections as usize) {
+        return number16(m, at + 8 + 4 * point);
+    }
+    0
+}
+
+// A value of panning of version 2, shown as 4v − 128, as it is stored in 2 bytes: from 65,536 on the bytes count from 0 again.
+fn scaled(v: u16) -> u16
+    requires { ⌜ v ≤ 64 ⌝ }
+    ensures { λ r. ⌜ r ≡ unsigned16 (pos (4 * v) -ℤ pos 128) ⌝ }
+{
+    ((65408 + 4 * (v as u32)) % 65536) as u16
+}
+
+// A value that is stored in the module, as it is shown, in 2 bytes.
+fn value_of(kind: EnvelopeKind, version: u8, v: u16) -> u16
+    requires { ⌜ ValueFits kind version v ⌝ }
+    ensures { λ r. ⌜ r ≡ unsigned16 (valueOf kind version v) ⌝ }
+{
+    match kind {
+        EnvelopeKind::Volume => v,
+        EnvelopeKind::Panning => {
+            if version == 2 {
+                return scaled(v);
+            }
+            v
+        }
+    }
+}
+
+// The value of a point of the envelope at a place, as it is shown, in 2 bytes.
+fn value(m: &[u8], kind: EnvelopeKind, version: u8, at: usize, sections: u8, point: usize) -> u16
+    requires { ⌜ (at < 0x20000000000000) × (point < 32) × (sections ≡ byteAt (now m) (at + 3)) × ValuesFit (now m) version (thingOf kind) at ⌝ }
+    ensures { λ r. ⌜ r ≡ unsigned16 (valueShown (now (m .entry)) kind version at sections point) ⌝ }
+{
+    if point <= (sections as usize) {
+        return value_of(kind, version, number16(m, at + 10 + 4 * point));
+    }
+    0
+}
+
+// Writes a position and a value to the front of an output, 2 bytes each.
+fn put_point(position: u16, value: u16, out: &mut [u8])
+    requires { ⌜ 4 ≤ length (now out) ⌝ }
+    ensures { λ r. ⌜ now (out .exit) ≡ (bytes16 position ++ bytes16 value) ++ drop 4 (now (out .entry)) ⌝ }
+{
+    out[0] = (position / 256) as u8;
+    out[1] = (position % 256) as u8;
+    out[2] = (value / 256) as u8;
+    out[3] = (value % 256) as u8;
+}
+
+// Writes a point of the envelope at a place to the front of an output.
+fn write_point(
+    m: &[u8],
+    kind: EnvelopeKind,
+    version: u8,
+    at: usize,
+    sections: u8,
+    point: usize,
+    out: &mut [u8],
+)
+    requires { ⌜ (at < 0x20000000000000) × (point < 32) × (sections ≡ byteAt (now m) (at + 3)) × ValuesFit (now m) version (thingOf kind) at × (4 ≤ length (now out)) ⌝ }
+    ensures { λ r. ⌜ now (out .exit) ≡ pointRecord (now (m .entry)) kind version at point ++ drop 4 (now (out .entry)) ⌝ }
+{
+    let p = position(m, at, sections, point);
+    let v = value(m, kind, version, at, sections, point);
+    put_point(p, v, out);
+}
+
+// Writes the points of the envelope at a place to the front of an output.
+fn write_points(m: &[u8], kind: EnvelopeKind, version: u8, at: usize, out: &mut [u8])
+    requires { ⌜ (at < 0x20000000000000) × ValuesFit (now m) version (thingOf kind) at × (128 ≤ length (now out)) ⌝ }
+    ensures { λ r. ⌜ now (out .exit) ≡ pointsFrom (now (m .entry)) kind version at 32 0 ++ drop 128 (now (out .entry)) ⌝ }
+{
+    let sections = byte(m, at + 3);
+    let mut point: usize = 0;
+    let mut to: usize = 0;
+    let mut left: u8 = 32;
+    while 0 < left {
+        write_point(m, kind, version, at, sections, point, &mut out[to..]);
+        to = to + 4;
+        point = point + 1;
+        left = left - 1;
+    }
+}
+
+// Writes the record of the envelope at a place to the front of an output, and answers its length.
+fn write_envelope(m: &[u8], kind: EnvelopeKind, version: u8, at: usize, out: &mut [u8]) -> usize
+    requires { ⌜ (at < 0x20000000000000) × ValuesFit (now m) version (thingOf kind) at × (136 ≤ length (now out)) ⌝ }
+    ensures { λ r. ⌜ (r ≡ 136) × (now (out .exit) ≡ recordAt (now (m .entry)) version (thingOf kind) at ++ drop 136 (now (out .entry))) ⌝ }
+{
+    copy(m, at, &mut out[..8]);
+    write_points(m, kind, version, at, &mut out[8..]);
+    136
+}
+
+// Writes the record of what stands at a place to the front of an output, and answers its length.
+fn write_record(m: &[u8], thing: Thing, version: u8, at: usize, out: &mut [u8]) -> usize
+    requires { ⌜ (at < 0x20000000000000) × ValuesFit (now m) version thing at × (length (recordAt (now m) version thing at) ≤ length (now out)) ⌝ }
+    ensures { λ r. ⌜ (r ≡ length (recordAt (now (m .entry)) version thing at)) × (now (out .exit) ≡ recordAt (now (m .entry)) version thing at ++ drop r (now (out .entry))) ⌝ }
+{
+    match thing {
+        Thing::Song => write_stored(m, at, size(m, Kind::Song, at), out),
+        Thing::Instrument => write_stored(m, at, 50, out),
+        Thing::Pattern => write_stored(m, at, 2, out),
+        Thing::Sample => write_sample(m, at, out),
+        Thing::VolumeEnvelope => write_envelope(m, EnvelopeKind::Volume, version, at, out),
+        Thing::PanningEnvelope => write_envelope(m, EnvelopeKind::Panning, version, at, out),
+    }
+}
+
+// Writes the records of so many blocks from a place on to the front of an output, and answers their length.
+fn write_blocks(
+    m: &[u8],
+    kind: Kind,
+    thing: Thing,
+    version: u8,
+    start: usize,
+    count: u16,
+    out: &mut [u8],
+) -> usize
+    requires { ⌜ (start < 0x10000000000000) × Every (ValuesFit (now m) version thing) (placesFrom (sizeOf kind (now m)) count start) × (length (recordsFrom (now m) kind thing version count start) ≤ length (now out)) ⌝ }
+    ensures { λ r. ⌜ (r ≡ length (recordsFrom (now (m .entry)) kind thing version count start)) × (now (out .exit) ≡ recordsFrom (now (m .entry)) kind thing version count start ++ drop r (now (out .entry))) ⌝ }
+{
+    let mut at = start;
+    let mut to: usize = 0;
+    let mut left = count;
+    while 0 < left {
+        to = to + write_record(m, thing, version, at, &mut out[to..]);
+        at = at + size(m, kind, at);
+        left = left - 1;
+    }
+    to
+}
+
+// Writes the records of all songs, of all instruments, and so on, to the front of an output, and answers their length.
+fn write_records(m: &[u8], l: Layout, thing: Thing, out: &mut [u8]) -> usize
+    requires { ⌜ (opened (now m) ≡ Found l) × (length (recordsOf (now m) l thing) ≤ length (now out)) ⌝ }
+    ensures { λ r. ⌜ (r ≡ length (recordsOf (now (m .entry)) l thing)) × (now (out .exit) ≡ recordsOf (now (m .entry)) l thing ++ drop r (now (out .entry))) ⌝ }
+{
+    let kind = kind_of(thing);
+    let start = block_at(m, kind, chunk_of(l, thing), 0);
+    let count = count_of(m, l, thing);
+    write_blocks(m, kind, thing, l.version, start, count, out)
+}
+
+// How long the records of all songs, of all instruments, and so on, are. Those of songs are as long as their chunk's data.
+fn records_length(m: &[u8], l: Layout, thing: Thing) -> usize
+    requires { ⌜ opened (now m) ≡ Found l ⌝ }
+    ensures { λ r. ⌜ (r ≡ length (recordsOf (now (m .entry)) l thing)) × (r < 0x100000000) ⌝ }
+{
+    let count = count_of(m, l, thing) as usize;
+    match thing {
+        Thing::Song => chunk_of(l, thing).length as usize,
+        Thing::Instrument => count * 50,
+        Thing::Pattern => count * 2,
+        Thing::Sample => count * 6,
+        Thing::VolumeEnvelope => count * 136,
+        Thing::PanningEnvelope => count * 136,
+    }
+}
+
+// How long all records are.
+fn all_length(m: &[u8], l: Layout) -> usize
+    requires { ⌜ opened (now m) ≡ Found l ⌝ }
+    ensures { λ r. ⌜ r ≡ length (allRecords (now (m .entry)) l) ⌝ }
+{
+    let songs = records_length(m, l, Thing::Song);
+    let instruments = records_length(m, l, Thing::Instrument);
+    let patterns = records_length(m, l, Thing::Pattern);
+    let samples = records_length(m, l, Thing::Sample);
+    let volume = records_length(m, l, Thing::VolumeEnvelope);
+    let panning = records_length(m, l, Thing::PanningEnvelope);
+    60 + songs + instruments + patterns + samples + volume + panning
+}
+
+// Writes the records of three kinds to the front of an output, one kind behind the other, and answers their length.
+fn write_three(m: &[u8], l: Layout, a: Thing, b: Thing, c: Thing, out: &mut [u8]) -> usize
+    requires { ⌜ (opened (now m) ≡ Found l) × (length (recordsOfThree (now m) l a b c) ≤ length (now out)) ⌝ }
+    ensures { λ r. ⌜ (r ≡ length (recordsOfThree (now (m .entry)) l a b c)) × (now (out .exit) ≡ recordsOfThree (now (m .entry)) l a b c ++ drop r (now (out .entry))) ⌝ }
+{
+    let first = write_records(m, l, a, out);
+    let second = first + write_records(m, l, b, &mut out[first..]);
+    second + write_records(m, l, c, &mut out[second..])
+}
+
+// Writes all records to the front of an output that has room for them, and answers their length.
+fn write_all(m: &[u8], l: Layout, out: &mut [u8]) -> usize
+    requires { ⌜ (opened (now m) ≡ Found l) × (length (allRecords (now m) l) ≤ length (now out)) ⌝ }
+    ensures { λ r. ⌜ (r ≡ length (allRecords (now (m .entry)) l)) × (now (out .exit) ≡ allRecords (now (m .entry)) l ++ drop r (now (out .entry))) ⌝ }
+{
+    write_summary(m, l, out);
+    let to = 60
+        + write_three(
+            m,
+            l,
+            Thing::Song,
+            Thing::Instrument,
+            Thing::Pattern,
+            &mut out[60..],
+        );
+    to
+        + write_three(
+            m,
+            l,
+            Thing::Sample,
+            Thing::VolumeEnvelope,
+            Thing::PanningEnvelope,
+            &mut out[to..],
+        )
+}
+
+// Writes all records of a module that is accepted: 17.
+fn all_opened(m: &[u8], l: Layout, out: &mut [u8]) -> LengthAnswer
+    requires { ⌜ opened (now m) ≡ Found l ⌝ }
+    ensures { λ r. ⌜ (r ≡ allAnswerIf (now (m .entry)) (length (now (out .entry))) (Found l)) × (now (out .exit) ≡ allOutputIf (now (m .entry)) (now (out .entry)) (Found l)) ⌝ }
+{
+    let needed = all_length(m, l);
+    if out.len() < needed {
+        return refused(refuse(Cause::Room, needed));
+    }
+    written(write_all(m, l, out))
+}
+
+// Writes all records of a module: its own refusal, then 17.
+pub fn all(m: &[u8], out: &mut [u8]) -> LengthAnswer
+    ensures { λ r. ⌜ (r ≡ allAnswer (now (m .entry)) (length (now (out .entry)))) × (now (out .exit) ≡ allOutput (now (m .entry)) (now (out .entry))) ⌝ }
+{
+    match module::open(m) {
+        Outline::Found(l) => all_opened(m, l, out),
+        Outline::Refused(r) => refused(r),
+    }
+}
