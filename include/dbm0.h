@@ -1,7 +1,7 @@
 /*
  * dbm0.h: DBM0 modules. The check of a whole module, every query about one
- * (version, name, INFO, songs, instruments, envelopes, patterns, samples), and
- * the repacking of one.
+ * (version, name, INFO, songs, instruments, envelopes, patterns, samples), all
+ * its records by one call, and its repacking.
  *
  * Link with libdbm0.a (x86-64, System V calling convention). The calls of
  * dbm0_pattern.h, which this header includes, are in libpattern.a: a program
@@ -30,7 +30,8 @@
  *   the written length stay as they were.
  * - Every query checks the module first; that is most of its time. What comes
  *   on top of the check is said at each. Work on many entries, cells or frames
- *   goes through the calls that fill an output.
+ *   goes through the calls that fill an output, and work on many records
+ *   through dbm0_records.
  * - No call keeps any state, allocates, or waits. They may run on any thread
  *   and at the same time.
  * - A call needs less than 2,560 bytes of stack.
@@ -49,7 +50,7 @@ extern "C" {
 #endif
 
 /* The version of this interface: major x 10000 + minor x 100 + patch. */
-#define DBM0_VERSION 10200
+#define DBM0_VERSION 10300
 
 /* The most bytes that a module may have. */
 #define DBM0_MODULE_MOST_BYTES 16777216
@@ -393,6 +394,75 @@ dbm0_frame_answer dbm0_frame(
  * grows with the samples before it and the frames. */
 dbm0_length_answer dbm0_all_frames(
     const uint8_t *module, size_t module_length, size_t sample,
+    uint8_t *out, size_t out_length);
+
+/*
+ * Writes all records of a module, one behind the other and with nothing
+ * between. Each record tells just what its own query answers. All numbers are
+ * big-endian, and those called signed are in two's complement.
+ *
+ * First 60 bytes:
+ *
+ *   offset  bytes
+ *        0      1  version (dbm0_version)
+ *        1      1  revision
+ *        2     44  name (dbm0_name); zeros where the module has none
+ *       46      2  instruments (dbm0_info)
+ *       48      2  samples
+ *       50      2  songs
+ *       52      2  patterns
+ *       54      2  tracks
+ *       56      2  volume envelopes (dbm0_volume_envelopes)
+ *       58      2  panning envelopes (dbm0_panning_envelopes)
+ *
+ * Then every song from 0 on, 46 bytes and 2 for each entry (dbm0_song,
+ * dbm0_playlist):
+ *
+ *        0     44  name
+ *       44      2  length: how many entries there are
+ *       46         the entries, 2 bytes each: the numbers of patterns
+ *
+ * Then every instrument from 1 on, 50 bytes (dbm0_instrument):
+ *
+ *        0     30  name
+ *       30      2  sample
+ *       32      2  volume
+ *       34      4  rate
+ *       38      4  loop start
+ *       42      4  loop length
+ *       46      2  panning, signed
+ *       48      2  flags
+ *
+ * Then every pattern from 0 on, 2 bytes (dbm0_rows):
+ *
+ *        0      2  rows
+ *
+ * Then every sample from 1 on, 6 bytes (dbm0_sample):
+ *
+ *        0      2  width: the bits of a frame, 8, 16 or 32
+ *        2      4  frames
+ *
+ * Then every volume envelope from 0 on, and then every panning envelope from 0
+ * on, 136 bytes each (dbm0_volume_envelope, dbm0_panning_envelope):
+ *
+ *        0      2  instrument
+ *        2      1  flags
+ *        3      1  sections
+ *        4      1  first sustain
+ *        5      1  first point of the loop
+ *        6      1  last point of the loop
+ *        7      1  second sustain
+ *        8    128  32 points: position 2, value 2, signed. The points not in
+ *                  use are zeros, and values are as they are shown: of panning
+ *                  in version 2, 4v - 128
+ *
+ * The needed length is told by an output of length 0.
+ *
+ * Refusals: the module's own, 17. Time: one check of the module, and beside it
+ * one pass over the blocks and the bytes written.
+ */
+dbm0_length_answer dbm0_records(
+    const uint8_t *module, size_t module_length,
     uint8_t *out, size_t out_length);
 
 /*

@@ -7,9 +7,9 @@ use crate::answers::of_verdict;
 use crate::answers::print_cell_answer;
 use crate::numbers::be32;
 use crate::numbers::be64;
-use crate::records::Asked;
-use crate::records::print_output;
-use crate::records::print_records;
+use crate::shown::Asked;
+use crate::shown::print_output;
+use crate::shown::print_records;
 use crate::text::fill;
 use crate::text::print_bytes;
 use crate::text::print_numbers;
@@ -98,6 +98,24 @@ fn print_repacked(m: &[u8], out: &mut [u8], line: &mut [u8]) {
     print_output(b"repacked", a, out, line);
 }
 
+fn print_records_into(m: &[u8], out: &mut [u8], line: &mut [u8]) {
+    fill(out);
+    let a = records::all(m, out);
+    print_output(b"records", a, out, line);
+}
+
+// All records into the first so many bytes of an output.
+fn print_all_records(m: &[u8], n: usize, out: &mut [u8], line: &mut [u8]) {
+    let room = within(n, out);
+    print_records_into(m, &mut out[..room], line);
+}
+
+// The same with the room of a case, and with an output 60 bytes longer than the module.
+fn print_records_twice(m: &[u8], room: usize, out: &mut [u8], line: &mut [u8]) {
+    print_all_records(m, room, out, line);
+    print_all_records(m, m.len() + 60, out, line);
+}
+
 // Each function below takes the input from a case's first byte on, and answers how many bytes the
 // case has: 0 where no whole case stands there.
 
@@ -166,6 +184,7 @@ fn module_case(s: &[u8], out: &mut [u8], line: &mut [u8]) -> usize
     print_module(m, &mut out[..room], line);
     let whole = within(length, out);
     print_repacked(m, &mut out[..whole], line);
+    print_records_twice(m, room, out, line);
     end
 }
 

@@ -5,8 +5,9 @@
 //      prints what checking, unpacking, repacking and the question for one cell answer;
 //   2, rows u64, tracks u64, room u32, length u32, cells of that length: prints what packing answers;
 //   3, the six bytes of a cell: prints the cell as it is shown;
-//   4, room u32, length u32, a module of that length: prints what checking, listing and repacking it answer, and what repacking it
-//      answers with an output as long as the module;
+//   4, room u32, length u32, a module of that length: prints what checking, listing and repacking it answer, what repacking it
+//      answers with an output as long as the module, and what the call for all records answers, with that room and with an output 60
+//      bytes longer than the module;
 //   5, song u64, entry u64, instrument u64, envelope u64, pattern u64, row u64, track u64, sample u64, frame u64, room u32, length
 //      u32, a module of that length: prints what each query answers at these indices.
 // Room is the length of the output that is lent; more than 65,536, also of a module, is taken as that. Each byte of the output is 170
@@ -14,7 +15,7 @@
 mod answers;
 mod cases;
 mod numbers;
-mod records;
+mod shown;
 mod text;
 
 use crate::cases::run;

@@ -1,5 +1,5 @@
-// The C entry points of the module reader: the check of a module, every query about it, and its repacking. An answer begins with the refusal's number
-// (0: none) and place.
+// The C entry points of the module reader: the check of a module, every query about it, all its records, and its repacking. An answer begins
+// with the refusal's number (0: none) and place.
 use cells::Cell;
 use cells::Note;
 use envelopes::CountAnswer;
@@ -29,6 +29,7 @@ ghost use Rattle.envelopes.specs.Shown.{countAnswer, envelopeAnswer};
 ghost use Rattle.envelopes.specs.declared.EnvelopeKind.the-variants.{Volume, Panning};
 ghost use Rattle.patterns.specs.Shown.{rowsAnswer, cellAnswer, unpackAnswer, unpackOutput};
 ghost use Rattle.samples.specs.Shown.{sampleAnswer, framesAnswer, frameAnswer, allFramesAnswer, allFramesOutput};
+ghost use Rattle.records.specs.Records.{allAnswer, allOutput};
 ghost use Rattle.repack.specs.Repacked.{repackAnswer, repackOutput};
 ghost use Rattle.dbm0.specs.Answers.{told, toldModule, noteNumbers, noCell, foundCell, toldCell};
 
@@ -299,6 +300,14 @@ pub extern "C" fn dbm0_all_frames(m: &[u8], sample: usize, out: &mut [u8]) -> Le
     ensures { λ r. ⌜ (r ≡ allFramesAnswer (now (m .entry)) sample (length (now (out .entry)))) × (now (out .exit) ≡ allFramesOutput (now (m .entry)) sample (now (out .entry))) ⌝ }
 {
     samples::all_frames(m, sample, out)
+}
+
+// All records of a module.
+#[no_mangle]
+pub extern "C" fn dbm0_records(m: &[u8], out: &mut [u8]) -> LengthAnswer
+    ensures { λ r. ⌜ (r ≡ allAnswer (now (m .entry)) (length (now (out .entry)))) × (now (out .exit) ≡ allOutput (now (m .entry)) (now (out .entry))) ⌝ }
+{
+    records::all(m, out)
 }
 
 // A module repacked.

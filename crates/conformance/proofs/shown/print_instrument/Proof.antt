@@ -1,7 +1,7 @@
 use borrow.Author.Needs.{needs}
 use native.Mathlib.Omega.{arith}
-use Rattle.conformance.proofs.records.print_instrument.Statement.{statement}
-use Rattle.conformance.proofs.records.print_instrument.Tie as tie
+use Rattle.conformance.proofs.shown.print_instrument.Statement.{statement}
+use Rattle.conformance.proofs.shown.print_instrument.Tie as tie
 
 cast-t15 : tie.Need-cast-t15
 cast-t15 c = omega (arith, c .struct-known5 .given .1 .1 .1 .1 .1 .1 .1 .1 .1 .0)
