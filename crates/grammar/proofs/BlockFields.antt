@@ -17,7 +17,7 @@ use Rattle.layout.specs.declared.Place.{Place}
 use Rattle.blocks.specs.Sizes.{widthOf, sizeOf}
 use Rattle.blocks.specs.Filling.{flagsRules}
 use Rattle.blocks.specs.declared.Kind.the-variants.{Song, Instrument, Sample, Envelope}
-use Rattle.module.specs.Fields.{panningFits, bit0, bit1, entryRules, songRules, instrumentRules, envelopeHeadRules, envelopePointRules, valueFits, valueRules, valuesRules, envelopeRules}
+use Rattle.fields.specs.Fields.{panningFits, bit0, bit1, entryRules, songRules, instrumentRules, envelopeHeadRules, envelopePointRules, valueFits, valueRules, valuesRules, envelopeRules}
 use Rattle.module.specs.Loops.{noLoop, forward, pingPong, isLoop, loopKind, framesOf, instrumentLoopRules}
 use Rattle.grammar.specs.Rules.{none, SongRules, PanningFits, Looped, InstrumentRules, SampleRules, EnvelopeRules}
 use Rattle.grammar.proofs.Locating.{PartAt, byteAt-at, number16-at, number32-at, number16-start, number32-start}

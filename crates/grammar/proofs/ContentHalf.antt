@@ -17,7 +17,7 @@ use Rattle.layout.specs.declared.Layout.{Layout}
 use Rattle.blocks.specs.Sizes.{blockAt, envelopeCount, songBlocks, instrumentBlocks, patternBlocks, sampleBlocks, envelopeBlocks}
 use Rattle.blocks.specs.Filling.{dataEnd, flagsRules}
 use Rattle.blocks.specs.declared.Kind.the-variants.{Song, Instrument, Pattern, Sample, Envelope}
-use Rattle.module.specs.Fields.{valueFits, songRules, instrumentRules, envelopeRules}
+use Rattle.fields.specs.Fields.{valueFits, songRules, instrumentRules, envelopeRules}
 use Rattle.module.specs.Loops.{framesOf, instrumentLoopRules}
 use Rattle.module.specs.Streams.{patternStreamRules}
 use Rattle.module.specs.Verdicts.{contentRules}

@@ -23,7 +23,7 @@ use Rattle.blocks.specs.Sizes.{sizeOf, placeAfter, firstBlock, blockAt, blocksO
 use Rattle.blocks.specs.Filling.{dataEnd, flagsRules, blockRules}
 use Rattle.blocks.specs.declared.Kind.{Kind}
 use Rattle.blocks.specs.declared.Kind.the-variants.{Song, Instrument, Pattern, Sample, Envelope}
-use Rattle.module.specs.Fields.{entryRules, songRules, instrumentRules, envelopeHeadRules, envelopePointRules, valueRules, valuesRules, envelopeRules, fieldRules}
+use Rattle.fields.specs.Fields.{entryRules, songRules, instrumentRules, envelopeHeadRules, envelopePointRules, valueRules, valuesRules, envelopeRules, fieldRules}
 use Rattle.module.specs.Loops.{instrumentLoopRules, loopRules}
 use Rattle.module.specs.Streams.{patternStreamRules, streamRules}
 use Rattle.module.specs.Verdicts.{contentRules}

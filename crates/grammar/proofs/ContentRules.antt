@@ -10,7 +10,7 @@ use Rattle.layout.specs.declared.Layout.{Layout}
 use Rattle.blocks.specs.Sizes.{blockAt, envelopeCount, songBlocks, instrumentBlocks, patternBlocks, sampleBlocks, envelopeBlocks}
 use Rattle.blocks.specs.Filling.{dataEnd, flagsRules, blockRules}
 use Rattle.blocks.specs.declared.Kind.the-variants.{Song, Instrument, Pattern, Sample, Envelope}
-use Rattle.module.specs.Fields.{songRules, instrumentRules, envelopeRules, fieldRules}
+use Rattle.fields.specs.Fields.{songRules, instrumentRules, envelopeRules, fieldRules}
 use Rattle.module.specs.Loops.{instrumentLoopRules, loopRules}
 use Rattle.module.specs.Streams.{patternStreamRules, streamRules}
 use Rattle.module.specs.Verdicts.{contentRules}

@@ -14,7 +14,7 @@ use Rattle.numbers.specs.Numbers.{byteAt, number16, signed16, eachFrom}
 use Rattle.numbers.proofs.Each.{each-length}
 use Rattle.blocks.specs.Sizes.{sizeOf, firstBlock, envelopeCount}
 use Rattle.blocks.specs.declared.Kind.the-variants.{Envelope}
-use Rattle.module.specs.Fields.{valueFits, envelopeHeadRules, envelopePointRules, valueRules, valuesRules, envelopeRules}
+use Rattle.fields.specs.Fields.{valueFits, envelopeHeadRules, envelopePointRules, valueRules, valuesRules, envelopeRules}
 use Rattle.queries.specs.Finding.{found}
 use Rattle.queries.specs.declared.Block.{Block}
 use Rattle.queries.specs.declared.Found.{Found}

@@ -1,4 +1,3 @@
-pub mod Fields
 pub mod Loops
 pub mod Streams
 pub mod Verdicts

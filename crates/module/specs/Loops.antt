@@ -10,7 +10,7 @@ use Rattle.layout.specs.declared.Place.{Place}
 use Rattle.layout.specs.declared.Layout.{Layout}
 use Rattle.blocks.specs.Sizes.{blockAt, instrumentBlocks}
 use Rattle.blocks.specs.declared.Kind.the-variants.{Sample}
-use Rattle.module.specs.Fields.{bit0, bit1}
+use Rattle.fields.specs.Fields.{bit0, bit1}
 
 -- B3: the kind of a loop: bit 0 is forward, bit 1 ping-pong, and bit 0 wins.
 pub data LoopKind : Type 0 where

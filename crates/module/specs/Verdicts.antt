@@ -9,7 +9,7 @@ use Rattle.layout.specs.declared.Layout.{Layout}
 use Rattle.layout.specs.declared.Outline.{Outline}
 use Rattle.layout.specs.declared.Outline.the-variants.{Found, Refused}
 use Rattle.blocks.specs.Filling.{blockRules}
-use Rattle.module.specs.Fields.{fieldRules}
+use Rattle.fields.specs.Fields.{fieldRules}
 use Rattle.module.specs.Loops.{loopRules}
 use Rattle.module.specs.Streams.{streamRules}
 

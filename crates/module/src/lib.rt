@@ -1,11 +1,8 @@
-// The check of a whole module. What a module's numbers and chunks are, the crates below say; here its fields, loops and packed
-// streams are checked: refusals 12 to 15.
-mod envelopes;
-mod fields;
+// The check of a whole module. What a module's numbers, chunks and blocks are and which fields are checked, the crates below say; here
+// its loops and packed streams are checked, refusals 14 and 15, and all is put in order.
 mod loops;
 mod streams;
 
-use crate::fields::check_fields;
 use crate::loops::check_loops;
 use crate::streams::check_streams;
 use layout::Layout;
@@ -22,7 +19,7 @@ fn check_content(m: &[u8], l: Layout) -> Verdict
     if let Verdict::Refused(r) = blocks::check(m, l) {
         return Verdict::Refused(r);
     }
-    if let Verdict::Refused(r) = check_fields(m, l) {
+    if let Verdict::Refused(r) = fields::check(m, l) {
         return Verdict::Refused(r);
     }
     if let Verdict::Refused(r) = check_loops(m, l) {

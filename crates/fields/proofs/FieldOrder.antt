@@ -1,0 +1,47 @@
+-- The rules of the fields in their order, part by part.
+use Prim.Native.Nat.{ℕ, _+_}
+use mathlib.Core.Path.{_≡_}
+use mathlib.Core.List.{List, _++_}
+use mathlib.Core.Bool.{Bool, false}
+use lib.Dec.{eqb}
+use Rattle.refusal.specs.Rules.{Rule, firstBroken, rulesOfEach}
+use Rattle.refusal.specs.declared.Refusal.{Refusal}
+use Rattle.refusal.specs.declared.Verdict.{Verdict}
+use Rattle.refusal.specs.declared.Verdict.the-variants.{Accepted, Refused}
+use Rattle.numbers.specs.Numbers.{byteAt}
+use Rattle.layout.specs.declared.Layout.{Layout}
+use Rattle.blocks.specs.Sizes.{songBlocks, instrumentBlocks, envelopeBlocks}
+use Rattle.refusal.proofs.InOrder.{rules-stopped, rules-passed}
+use Rattle.fields.specs.Fields.{songRules, instrumentRules, envelopeHeadRules, envelopePointRules, valuesRules, envelopeRules}
+
+-- The four parts of the fields.
+module _ (m : List ℕ) (l : Layout) where
+  abbrev pub songPart : List Rule
+  songPart = rulesOfEach (songRules m (l .patterns)) (songBlocks m l)
+
+  abbrev pub instrumentPart : List Rule
+  instrumentPart = rulesOfEach (instrumentRules m (l .samples)) (instrumentBlocks m l)
+
+  abbrev pub volumePart : List Rule
+  volumePart = rulesOfEach (envelopeRules m (l .instruments) false) (envelopeBlocks m (l .places .venv))
+
+  abbrev pub panningPart : List Rule
+  panningPart = rulesOfEach (envelopeRules m (l .instruments) (eqb (l .version) 3)) (envelopeBlocks m (l .places .penv))
+
+-- An envelope: its head, its points, its values.
+module _ (m : List ℕ) (instruments : ℕ) (signed : Bool) (at : ℕ) {head : Verdict} (head-is : head ≡ firstBroken (envelopeHeadRules m instruments at)) where
+  pub head-stopped : {r : Refusal} → head ≡ Refused r → Refused r ≡ firstBroken (envelopeRules m instruments signed at)
+  head-stopped e = rules-stopped (envelopeHeadRules m instruments at) (envelopePointRules m (byteAt m (at + 2)) (byteAt m (at + 3)) at ++ valuesRules m signed (byteAt m (at + 3)) at) head-is e
+
+  module _ {flags sections : ℕ} {points : Verdict} (head-passed : head ≡ Accepted) (flags-are : flags ≡ byteAt m (at + 2)) (sections-are : sections ≡ byteAt m (at + 3)) (points-are : points ≡ firstBroken (envelopePointRules m flags sections at)) where
+    points-told : points ≡ firstBroken (envelopePointRules m (byteAt m (at + 2)) (byteAt m (at + 3)) at)
+    points-told = rw (← flags-are, ← sections-are) points-are
+
+    behind-head : {v : Verdict} → v ≡ firstBroken (envelopePointRules m (byteAt m (at + 2)) (byteAt m (at + 3)) at ++ valuesRules m signed (byteAt m (at + 3)) at) → v ≡ firstBroken (envelopeRules m instruments signed at)
+    behind-head e = rules-passed (envelopeHeadRules m instruments at) (envelopePointRules m (byteAt m (at + 2)) (byteAt m (at + 3)) at ++ valuesRules m signed (byteAt m (at + 3)) at) head-is head-passed e
+
+    pub points-stopped : {r : Refusal} → points ≡ Refused r → Refused r ≡ firstBroken (envelopeRules m instruments signed at)
+    points-stopped e = behind-head (rules-stopped (envelopePointRules m (byteAt m (at + 2)) (byteAt m (at + 3)) at) (valuesRules m signed (byteAt m (at + 3)) at) points-told e)
+
+    pub values-told : {v : Verdict} → points ≡ Accepted → v ≡ firstBroken (valuesRules m signed sections at) → v ≡ firstBroken (envelopeRules m instruments signed at)
+    values-told e values-are = behind-head (rules-passed (envelopePointRules m (byteAt m (at + 2)) (byteAt m (at + 3)) at) (valuesRules m signed (byteAt m (at + 3)) at) points-told e (rw (← sections-are) values-are))

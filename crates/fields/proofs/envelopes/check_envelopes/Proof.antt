@@ -1,0 +1,31 @@
+use borrow.Author.Needs.{needs}
+use mathlib.Core.Path.{_∙_, refl, sym}
+use Rattle.blocks.specs.Sizes.{sizeOf}
+use Rattle.blocks.specs.declared.Kind.the-variants.{Envelope}
+use Rattle.blocks.proofs.Passing.{Passing, passing-first, passing-turn, passing-stopped, passing-last}
+use Rattle.fields.specs.Fields.{envelopeRules}
+use Rattle.fields.proofs.envelopes.check_envelopes.Statement.{statement}
+use Rattle.fields.proofs.envelopes.check_envelopes.Tie as tie
+
+abbrev Inv-loop : tie.InvT-loop
+Inv-loop m instruments signed at₀ left₀ at left = Passing (envelopeRules m instruments signed) (sizeOf Envelope m) left₀ at₀ left at
+
+abbrev μ-loop : tie.MeasureT-loop
+μ-loop m instruments signed at₀ left₀ at left = left
+
+loop-holds : tie.Need-loop-holds Inv-loop μ-loop
+loop-holds c = passing-first
+
+returns : tie.Need-returns Inv-loop μ-loop
+returns c = passing-stopped (c .before .before .before .before .before .loop .inv) (c .before .before .before .before .before .before .envelope-count .ensures) (c .before .before .before .before .before .before .before .block-at .ensures .0) (c .before .before .before .before .loop-test .taken) (sym (c .before .before .before .check-envelope .ensures) ∙ c .before .r .given .1) refl
+
+loop-again : tie.Need-loop-again Inv-loop μ-loop
+loop-again c = passing-turn (c .before .before .before .before .before .loop .inv) (c .before .before .before .before .loop-test .taken) (sym (c .before .before .before .check-envelope .ensures) ∙ c .before .enum-told .given .1) (c .size .ensures)
+
+returns-2 : tie.Need-returns-2 Inv-loop μ-loop
+returns-2 c = passing-last (c .before .loop .inv) (c .before .before .envelope-count .ensures) (c .before .before .before .block-at .ensures .0) (c .loop-test .left)
+
+pub check-envelopes-spec : {M : Type 1} → statement M
+check-envelopes-spec =
+    tie.close
+    (tie.spec Inv-loop μ-loop (λ c κs. search needs) (λ c κs. search needs) loop-holds (λ c κs. search needs) (λ c. search needs) returns (λ c. search needs) (λ c κs. search needs) (λ c. search needs) (λ c. search needs) (λ c. search needs) loop-again returns-2)
