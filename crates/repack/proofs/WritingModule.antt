@@ -1,5 +1,5 @@
--- Writing the module with PATT's data anew: its bytes up to PATT's length, the data behind the length's place, the length, and its bytes
--- behind PATT.
+-- Writing the module with PATT's data anew: its bytes up to PATT's length, the data behind the length's place and the length; then its
+-- bytes behind PATT.
 use Prim.Native.Nat.{ℕ, _+_, _-_, _≤_, _<_}
 use mathlib.Core.Path.{_≡_, refl, sym, ap, _∙_}
 use mathlib.Core.List.{List, _++_, append-assoc}
@@ -10,7 +10,7 @@ use borrow.Rule.Slice.PartMut.{midOf, putMid}
 use Rattle.layout.specs.declared.Place.{Place}
 use Rattle.blocks.specs.Filling.{dataEnd}
 use Rattle.numbers.specs.Numbers.{bytes32}
-use Rattle.repack.specs.Steps.{replaced}
+use Rattle.repack.specs.Steps.{frontAnew, replaced}
 use Rattle.grammar.proofs.Ends.{mid-end, copied, put-next, written-length}
 use Rattle.repack.proofs.LengthBefore.{third-is}
 
@@ -35,73 +35,80 @@ module _ (m : List ℕ) (chunk : Place) (anew : List ℕ) (whole : dataEnd chunk
   pub room-counted : {room n : ℕ} → n ≡ length anew → (length (replaced m chunk anew) ≤ length m - chunk .length + n) × (room < length m - chunk .length + n → length m - chunk .length + n ≡ length (replaced m chunk anew))
   room-counted size = (omega (arith, counted-length size), λ less. counted-length size)
 
-  -- What the calls were given and answered, one after the other.
-  module _ (out₀ : List ℕ) (room : length (replaced m chunk anew) ≤ length out₀) {out₁ : List ℕ} (e₁ : out₁ ≡ take (length front) front ++ drop (length front) out₀) where
+  -- The module up to PATT's end, and what stands behind PATT.
+  pub front-length : length (frontAnew m chunk anew) ≡ chunk .at + 4 + 4 + length anew
+  front-length = omega (arith, length-append front (bytes32 (length anew) ++ anew), front-size)
+
+  pub front-room : {room : ℕ} → length (replaced m chunk anew) ≤ room → length (frontAnew m chunk anew) ≤ room
+  front-room h = omega (arith, front-length, replaced-length)
+
+  -- Writing up to PATT's end: what the calls were given and answered, one after the other.
+  module _ (out₀ : List ℕ) (room : length (frontAnew m chunk anew) ≤ length out₀) where
     abbrev start : ℕ
     start = chunk .at + 4 + 4
 
-    start-fits : start ≤ length out₀
-    start-fits = omega (arith, replaced-length)
+    pub start-room : start + length anew ≤ length out₀
+    start-room = omega (arith, front-length)
 
-    first : out₁ ≡ front ++ drop (chunk .at + 4) out₀
-    first = copied front front out₀ out₁ refl e₁ ∙ ap (λ (k : ℕ). front ++ drop k out₀) front-size
+    module _ {out₁ : List ℕ} (e₁ : out₁ ≡ take (length front) front ++ drop (length front) out₀) where
+      first : out₁ ≡ front ++ drop (chunk .at + 4) out₀
+      first = copied front front out₀ out₁ refl e₁ ∙ ap (λ (k : ℕ). front ++ drop k out₀) front-size
 
-    module _ {n : ℕ} {mid₂ : List ℕ} (done : (n ≡ length anew) × (mid₂ ≡ anew ++ drop n (midOf start (length out₁ - start) out₁))) where
-      abbrev out₂ : List ℕ
-      out₂ = putMid start (length out₁ - start) out₁ mid₂
+      module _ {n : ℕ} {mid₂ : List ℕ} (done : (n ≡ length anew) × (mid₂ ≡ anew ++ drop n (midOf start (length out₁ - start) out₁))) where
+        abbrev out₂ : List ℕ
+        out₂ = putMid start (length out₁ - start) out₁ mid₂
 
-      end-fits : start + n ≤ length out₀
-      end-fits = omega (arith, replaced-length, done .0)
+        module _ {mid₃ : List ℕ} (e₃ : mid₃ ≡ bytes32 n ++ drop 4 (midOf (chunk .at + 4) (length out₂ - (chunk .at + 4)) out₂)) where
+          abbrev out₃ : List ℕ
+          out₃ = putMid (chunk .at + 4) (length out₂ - (chunk .at + 4)) out₂ mid₃
 
-      module _ {mid₃ : List ℕ} (e₃ : mid₃ ≡ bytes32 n ++ drop 4 (midOf (chunk .at + 4) (length out₂ - (chunk .at + 4)) out₂)) where
-        abbrev out₃ : List ℕ
-        out₃ = putMid (chunk .at + 4) (length out₂ - (chunk .at + 4)) out₂ mid₃
+          pub front-written : (start + n ≡ length (frontAnew m chunk anew)) × (out₃ ≡ frontAnew m chunk anew ++ drop (start + n) out₀)
+          front-written = (
+            omega (arith, front-length, done .0),
+            third-is front out₀ out₁ (chunk .at + 4) front-size (omega (arith, start-room)) first anew mid₂ n (done .0) (omega (arith, start-room, done .0)) (done .1) mid₃ e₃
+                ∙ ap (λ (k : ℕ). front ++ (bytes32 k ++ (anew ++ drop (start + n) out₀))) (done .0)
+                ∙ sym (append-assoc front (bytes32 (length anew) ++ anew) (drop (start + n) out₀)),
+          )
 
-        abbrev patt : List ℕ
-        patt = front ++ (bytes32 n ++ anew)
+  -- Writing what stands behind PATT.
+  module _ (out₀ : List ℕ) (room : length (replaced m chunk anew) ≤ length out₀) {end : ℕ} {out₁ : List ℕ} (done : (end ≡ length (frontAnew m chunk anew)) × (out₁ ≡ frontAnew m chunk anew ++ drop end out₀)) where
+    abbrev behind : ℕ
+    behind = chunk .at + 8 + chunk .length
 
-        patt-size : length patt ≡ start + n
-        patt-size = omega (arith, length-append front (bytes32 n ++ anew), front-size, done .0)
+    abbrev rest : List ℕ
+    rest = midOf behind (length m - behind) m
 
-        third : out₃ ≡ patt ++ drop (length patt) out₀
-        third =
-            third-is front out₀ out₁ (chunk .at + 4) front-size start-fits first anew mid₂ n (done .0) end-fits (done .1) mid₃ e₃
-            ∙ sym (append-assoc front (bytes32 n ++ anew) (drop (start + n) out₀))
-            ∙ ap (λ (k : ℕ). patt ++ drop k out₀) (sym patt-size)
+    rest-is : rest ≡ drop (dataEnd chunk) m
+    rest-is = mid-end behind m ∙ ap (λ (k : ℕ). drop k m) same
+      where
+        same : behind ≡ dataEnd chunk
+        same = omega arith
 
-        third-length : length out₃ ≡ length out₀
-        third-length = written-length patt out₀ out₃ third (omega (arith, patt-size, end-fits))
+    before : out₁ ≡ frontAnew m chunk anew ++ drop (length (frontAnew m chunk anew)) out₀
+    before = done .1 ∙ ap (λ (k : ℕ). frontAnew m chunk anew ++ drop k out₀) (done .0)
 
-        -- What stands behind PATT.
-        abbrev behind : ℕ
-        behind = chunk .at + 4 + 4 + chunk .length
+    pub kept-length : length out₁ ≡ length out₀
+    kept-length = written-length (frontAnew m chunk anew) out₀ out₁ before (front-room room)
 
-        abbrev rest : List ℕ
-        rest = midOf behind (length m - behind) m
+    all-is : frontAnew m chunk anew ++ rest ≡ replaced m chunk anew
+    all-is = append-assoc front (bytes32 (length anew) ++ anew) rest ∙ ap (λ (l : List ℕ). front ++ (bytes32 (length anew) ++ (anew ++ l))) rest-is
 
-        rest-is : rest ≡ drop (dataEnd chunk) m
-        rest-is = mid-end behind m ∙ ap (λ (k : ℕ). drop k m) same
-          where
-            same : behind ≡ dataEnd chunk
-            same = omega arith
+    pub rest-length : length rest ≡ length m - behind
+    rest-length = omega (arith, ap length rest-is, length-drop (dataEnd chunk) m)
 
-        all-is : patt ++ rest ≡ replaced m chunk anew
-        all-is =
-            append-assoc front (bytes32 n ++ anew) rest
-            ∙ ap (λ (l : List ℕ). front ++ (bytes32 n ++ (anew ++ l))) rest-is
-            ∙ ap (λ (k : ℕ). front ++ (bytes32 k ++ (anew ++ drop (dataEnd chunk) m))) (done .0)
+    pub all-length : end + (length m - behind) ≡ length (replaced m chunk anew)
+    all-length = omega (arith, replaced-length, front-length, done .0)
 
-        all-size : start + n + length rest ≡ length (replaced m chunk anew)
-        all-size = omega (arith, ap length all-is, length-append patt rest, patt-size)
+    pub rest-room : end + (length m - behind) ≤ length out₀
+    rest-room = omega (arith, all-length)
 
-        module _ {mid₄ : List ℕ} (e₄ : mid₄ ≡ take (length rest) rest ++ drop (length rest) (midOf (start + n) (length out₃ - (start + n)) out₃)) where
-          abbrev out₄ : List ℕ
-          out₄ = putMid (start + n) (length out₃ - (start + n)) out₃ mid₄
+    module _ {mid₂ : List ℕ} (e₂ : mid₂ ≡ take (length rest) rest ++ drop (length rest) (midOf end (length out₁ - end) out₁)) where
+      abbrev written : List ℕ
+      written = putMid end (length out₁ - end) out₁ mid₂
 
-          fourth : out₄ ≡ (patt ++ rest) ++ drop (length (patt ++ rest)) out₀
-          fourth = put-next patt rest out₀ out₃ mid₄ (start + n) (length out₃) third patt-size (omega (arith, third-length, all-size)) (omega (arith, third-length)) (copied rest rest (midOf (start + n) (length out₃ - (start + n)) out₃) mid₄ refl e₄)
-
-          pub module-written : (length m - chunk .length + n ≡ length (replaced m chunk anew)) × (out₄ ≡ replaced m chunk anew ++ drop (length m - chunk .length + n) out₀)
-          module-written =
-              let size = counted-length (done .0) in
-              (size, fourth ∙ rw (all-is, size) refl)
+      pub module-written : (end + (length m - behind) ≡ length (replaced m chunk anew)) × (written ≡ replaced m chunk anew ++ drop (end + (length m - behind)) out₀)
+      module-written = (
+        all-length,
+        put-next (frontAnew m chunk anew) rest out₀ out₁ mid₂ end (length out₁) before (sym (done .0)) (omega (arith, kept-length, rest-length, all-length)) (omega (arith, kept-length)) (copied rest rest (midOf end (length out₁ - end) out₁) mid₂ refl e₂)
+            ∙ rw (all-is, all-length) refl,
+      )

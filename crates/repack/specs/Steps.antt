@@ -18,7 +18,10 @@ use Rattle.repack.specs.Repacked.{repackedBlock}
 abbrev pub blocksAnew : List ℕ → ℕ → ℕ → ℕ → List ℕ
 blocksAnew m tracks n at = joined (map (repackedBlock m tracks) (placesFrom (sizeOf Pattern m) n at))
 
--- PATT's data put in the place of those that stand there.
+-- PATT's data put in the place of those that stand there: the module up to PATT's end, and all of it.
+abbrev pub frontAnew : List ℕ → Place → List ℕ → List ℕ
+frontAnew m chunk anew = take (chunk .at + 4) m ++ (bytes32 (length anew) ++ anew)
+
 abbrev pub replaced : List ℕ → Place → List ℕ → List ℕ
 replaced m chunk anew = take (chunk .at + 4) m ++ (bytes32 (length anew) ++ (anew ++ drop (dataEnd chunk) m))
 

@@ -28,7 +28,7 @@ ghost use Rattle.blocks.specs.declared.Kind.the-variants.{Pattern};
 ghost use Rattle.module.specs.Streams.{streamVerdict};
 ghost use Rattle.module.specs.Verdicts.{opened};
 ghost use Rattle.repack.specs.Repacked.{repackedStream, repackedBlock, repackAnswerIf, repackAnswer, repackOutputIf, repackOutput};
-ghost use Rattle.repack.specs.Steps.{blocksAnew, replaced, PatternsIn};
+ghost use Rattle.repack.specs.Steps.{blocksAnew, frontAnew, replaced, PatternsIn};
 
 // Writes the packer's stream of the pattern at a place to the front of an output that has room for it, and answers its length, also
 // where there is no room.
@@ -113,22 +113,29 @@ fn write_data(m: &[u8], chunk: Place, patterns: u16, tracks: u16, out: &mut [u8]
     to
 }
 
-// Writes the module with PATT's data anew to the front of an output that has room for it, and answers its length. The data are written
-// before their length, which is not known until then.
+// Writes the module up to PATT's end, with PATT's data anew, to the front of an output that has room for that, and answers the place
+// behind it. The data are written before their length, which is not known until then.
+fn write_front(m: &[u8], chunk: Place, patterns: u16, tracks: u16, out: &mut [u8]) -> usize
+    requires { ⌜ PatternsIn (now m) chunk patterns tracks × (length (frontAnew (now m) chunk (blocksAnew (now m) tracks patterns (firstBlock Pattern chunk))) ≤ length (now out)) ⌝ }
+    ensures { λ r. ⌜ (r ≡ length (frontAnew (now (m .entry)) chunk (blocksAnew (now (m .entry)) tracks patterns (firstBlock Pattern chunk)))) × (now (out .exit) ≡ frontAnew (now (m .entry)) chunk (blocksAnew (now (m .entry)) tracks patterns (firstBlock Pattern chunk)) ++ drop r (now (out .entry))) ⌝ }
+{
+    let front = (chunk.at as usize) + 4;
+    let start = front + 4;
+    bytes::copy(&m[..front], out);
+    let anew = write_data(m, chunk, patterns, tracks, &mut out[start..]);
+    put32(anew as u32, &mut out[front..]);
+    start + anew
+}
+
+// Writes the module with PATT's data anew to the front of an output that has room for it, and answers its length.
 fn write_module(m: &[u8], chunk: Place, patterns: u16, tracks: u16, out: &mut [u8]) -> usize
     requires { ⌜ PatternsIn (now m) chunk patterns tracks × (length (replaced (now m) chunk (blocksAnew (now m) tracks patterns (firstBlock Pattern chunk))) ≤ length (now out)) ⌝ }
     ensures { λ r. ⌜ (r ≡ length (replaced (now (m .entry)) chunk (blocksAnew (now (m .entry)) tracks patterns (firstBlock Pattern chunk)))) × (now (out .exit) ≡ replaced (now (m .entry)) chunk (blocksAnew (now (m .entry)) tracks patterns (firstBlock Pattern chunk)) ++ drop r (now (out .entry))) ⌝ }
 {
-    let front = (chunk.at as usize) + 4;
-    let start = front + 4;
-    let old = chunk.length as usize;
-    bytes::copy(&m[..front], out);
-    let anew = write_data(m, chunk, patterns, tracks, &mut out[start..]);
-    put32(anew as u32, &mut out[front..]);
-    let end = start + anew;
-    let behind = start + old;
+    let end = write_front(m, chunk, patterns, tracks, out);
+    let behind = (chunk.at as usize) + 8 + (chunk.length as usize);
     bytes::copy(&m[behind..], &mut out[end..]);
-    m.len() - old + anew
+    end + (m.len() - behind)
 }
 
 // The length that an output with so much room needs: that of the module repacked. Where there is room for the module as it is, its own

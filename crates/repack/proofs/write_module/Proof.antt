@@ -1,66 +1,33 @@
 use borrow.Author.Needs.{needs}
-use mathlib.Core.Path.{refl, sym, _∙_}
-use native.Mathlib.Omega.{arith}
+use Rattle.repack.proofs.WritingModule.{front-room, rest-length, rest-room, module-written}
 use Rattle.blocks.specs.Sizes.{firstBlock}
 use Rattle.blocks.specs.declared.Kind.the-variants.{Pattern}
 use Rattle.repack.specs.Steps.{blocksAnew}
-use Rattle.repack.proofs.PassingPatterns.{data-shorter}
-use Rattle.repack.proofs.WritingModule.{front-size, replaced-length, module-written}
+use native.Mathlib.Omega.{arith}
+use mathlib.Core.Path.{refl, sym, _∙_}
+use Rattle.repack.proofs.WritingModule.{front-room, kept-length, rest-length, all-length, module-written}
 use Rattle.repack.proofs.write_module.Statement.{statement}
 use Rattle.repack.proofs.write_module.Tie as tie
 
-slice-aggregate-copy : tie.Need-slice-aggregate-copy
-slice-aggregate-copy c = sym (front-size (c .before .before .before .before .before .args .m .now) (c .before .before .before .before .before .args .chunk) (blocksAnew (c .before .before .before .before .before .args .m .now) (c .before .before .before .before .before .args .tracks) (c .before .before .before .before .before .args .patterns) (firstBlock Pattern (c .before .before .before .before .before .args .chunk))) (c .before .before .before .before .before .pre .0 .inside))
-
-copy-requires : tie.Need-copy-requires
-copy-requires c κs = let long = replaced-length (c .before .before .before .before .before .before .args .m .now) (c .before .before .before .before .before .before .args .chunk) (blocksAnew (c .before .before .before .before .before .before .args .m .now) (c .before .before .before .before .before .before .args .tracks) (c .before .before .before .before .before .before .args .patterns) (firstBlock Pattern (c .before .before .before .before .before .before .args .chunk))) (c .before .before .before .before .before .before .pre .0 .inside) in omega (arith, front-size (c .before .before .before .before .before .before .args .m .now) (c .before .before .before .before .before .before .args .chunk) (blocksAnew (c .before .before .before .before .before .before .args .m .now) (c .before .before .before .before .before .before .args .tracks) (c .before .before .before .before .before .before .args .patterns) (firstBlock Pattern (c .before .before .before .before .before .before .args .chunk))) (c .before .before .before .before .before .before .pre .0 .inside))
-
-sub-write-data : tie.Need-sub-write-data
-sub-write-data c = let long = replaced-length (c .before .before .before .before .before .before .before .before .before .args .m .now) (c .before .before .before .before .before .before .before .before .before .args .chunk) (blocksAnew (c .before .before .before .before .before .before .before .before .before .args .m .now) (c .before .before .before .before .before .before .before .before .before .args .tracks) (c .before .before .before .before .before .before .before .before .before .args .patterns) (firstBlock Pattern (c .before .before .before .before .before .before .before .before .before .args .chunk))) (c .before .before .before .before .before .before .before .before .before .pre .0 .inside) in search needs
-
-part-write-data-start : tie.Need-part-write-data-start
-part-write-data-start c = let long = replaced-length (c .before .before .before .before .before .before .before .before .before .args .m .now) (c .before .before .before .before .before .before .before .before .before .args .chunk) (blocksAnew (c .before .before .before .before .before .before .before .before .before .args .m .now) (c .before .before .before .before .before .before .before .before .before .args .tracks) (c .before .before .before .before .before .before .before .before .before .args .patterns) (firstBlock Pattern (c .before .before .before .before .before .before .before .before .before .args .chunk))) (c .before .before .before .before .before .before .before .before .before .pre .0 .inside) in search needs
-
-write-data-requires : tie.Need-write-data-requires
-write-data-requires c κs = (c .before .before .before .before .before .before .before .before .before .before .pre .0, let long = replaced-length (c .before .before .before .before .before .before .before .before .before .before .args .m .now) (c .before .before .before .before .before .before .before .before .before .before .args .chunk) (blocksAnew (c .before .before .before .before .before .before .before .before .before .before .args .m .now) (c .before .before .before .before .before .before .before .before .before .before .args .tracks) (c .before .before .before .before .before .before .before .before .before .before .args .patterns) (firstBlock Pattern (c .before .before .before .before .before .before .before .before .before .before .args .chunk))) (c .before .before .before .before .before .before .before .before .before .before .pre .0 .inside) in search needs)
-
-cast-put32 : tie.Need-cast-put32
-cast-put32 c = let shorter = data-shorter (c .before .before .before .before .before .before .before .before .before .before .before .before .before .args .chunk) (c .before .before .before .before .before .before .before .before .before .before .before .before .before .pre .0) refl in omega (arith, c .before .before .write-data .ensures .0)
-
-sub-put32 : tie.Need-sub-put32
-sub-put32 c = let long = replaced-length (c .before .before .before .before .before .before .before .before .before .before .before .before .before .args .m .now) (c .before .before .before .before .before .before .before .before .before .before .before .before .before .args .chunk) (blocksAnew (c .before .before .before .before .before .before .before .before .before .before .before .before .before .args .m .now) (c .before .before .before .before .before .before .before .before .before .before .before .before .before .args .tracks) (c .before .before .before .before .before .before .before .before .before .before .before .before .before .args .patterns) (firstBlock Pattern (c .before .before .before .before .before .before .before .before .before .before .before .before .before .args .chunk))) (c .before .before .before .before .before .before .before .before .before .before .before .before .before .pre .0 .inside) in search needs
-
-part-put32-start : tie.Need-part-put32-start
-part-put32-start c = let long = replaced-length (c .before .before .before .before .before .before .before .before .before .before .before .before .before .args .m .now) (c .before .before .before .before .before .before .before .before .before .before .before .before .before .args .chunk) (blocksAnew (c .before .before .before .before .before .before .before .before .before .before .before .before .before .args .m .now) (c .before .before .before .before .before .before .before .before .before .before .before .before .before .args .tracks) (c .before .before .before .before .before .before .before .before .before .before .before .before .before .args .patterns) (firstBlock Pattern (c .before .before .before .before .before .before .before .before .before .before .before .before .before .args .chunk))) (c .before .before .before .before .before .before .before .before .before .before .before .before .before .pre .0 .inside) in search needs
-
-put32-requires : tie.Need-put32-requires
-put32-requires c κs = let long = replaced-length (c .before .before .before .before .before .before .before .before .before .before .before .before .before .before .args .m .now) (c .before .before .before .before .before .before .before .before .before .before .before .before .before .before .args .chunk) (blocksAnew (c .before .before .before .before .before .before .before .before .before .before .before .before .before .before .args .m .now) (c .before .before .before .before .before .before .before .before .before .before .before .before .before .before .args .tracks) (c .before .before .before .before .before .before .before .before .before .before .before .before .before .before .args .patterns) (firstBlock Pattern (c .before .before .before .before .before .before .before .before .before .before .before .before .before .before .args .chunk))) (c .before .before .before .before .before .before .before .before .before .before .before .before .before .before .pre .0 .inside) in search needs
-
-add-end : tie.Need-add-end
-add-end c = let long = replaced-length (c .before .before .before .before .before .before .before .before .before .before .before .before .before .before .before .before .before .args .m .now) (c .before .before .before .before .before .before .before .before .before .before .before .before .before .before .before .before .before .args .chunk) (blocksAnew (c .before .before .before .before .before .before .before .before .before .before .before .before .before .before .before .before .before .args .m .now) (c .before .before .before .before .before .before .before .before .before .before .before .before .before .before .before .before .before .args .tracks) (c .before .before .before .before .before .before .before .before .before .before .before .before .before .before .before .before .before .args .patterns) (firstBlock Pattern (c .before .before .before .before .before .before .before .before .before .before .before .before .before .before .before .before .before .args .chunk))) (c .before .before .before .before .before .before .before .before .before .before .before .before .before .before .before .before .before .pre .0 .inside) in search needs
+write-front-requires : tie.Need-write-front-requires
+write-front-requires c κs = (c .before .before .before .pre .0, front-room (c .before .before .before .args .m .now) (c .before .before .before .args .chunk) (blocksAnew (c .before .before .before .args .m .now) (c .before .before .before .args .tracks) (c .before .before .before .args .patterns) (firstBlock Pattern (c .before .before .before .args .chunk))) (c .before .before .before .pre .0 .inside) (c .before .before .before .pre .1))
 
 sub-copy-2 : tie.Need-sub-copy-2
-sub-copy-2 c = let long = replaced-length (c .before .before .before .before .before .before .before .before .before .before .before .before .before .before .before .before .before .before .args .m .now) (c .before .before .before .before .before .before .before .before .before .before .before .before .before .before .before .before .before .before .args .chunk) (blocksAnew (c .before .before .before .before .before .before .before .before .before .before .before .before .before .before .before .before .before .before .args .m .now) (c .before .before .before .before .before .before .before .before .before .before .before .before .before .before .before .before .before .before .args .tracks) (c .before .before .before .before .before .before .before .before .before .before .before .before .before .before .before .before .before .before .args .patterns) (firstBlock Pattern (c .before .before .before .before .before .before .before .before .before .before .before .before .before .before .before .before .before .before .args .chunk))) (c .before .before .before .before .before .before .before .before .before .before .before .before .before .before .before .before .before .before .pre .0 .inside) in search needs
+sub-copy-2 c = let room = rest-room (c .before .before .before .before .before .before .before .before .before .args .m .now) (c .before .before .before .before .before .before .before .before .before .args .chunk) (blocksAnew (c .before .before .before .before .before .before .before .before .before .args .m .now) (c .before .before .before .before .before .before .before .before .before .args .tracks) (c .before .before .before .before .before .before .before .before .before .args .patterns) (firstBlock Pattern (c .before .before .before .before .before .before .before .before .before .args .chunk))) (c .before .before .before .before .before .before .before .before .before .pre .0 .inside) (c .before .before .before .before .before .before .before .before .before .args .out .now) (c .before .before .before .before .before .before .before .before .before .pre .1) (c .before .before .before .before .before .write-front .ensures) in search needs
 
 part-copy-start-2 : tie.Need-part-copy-start-2
-part-copy-start-2 c = let long = replaced-length (c .before .before .before .before .before .before .before .before .before .before .before .before .before .before .before .before .before .before .args .m .now) (c .before .before .before .before .before .before .before .before .before .before .before .before .before .before .before .before .before .before .args .chunk) (blocksAnew (c .before .before .before .before .before .before .before .before .before .before .before .before .before .before .before .before .before .before .args .m .now) (c .before .before .before .before .before .before .before .before .before .before .before .before .before .before .before .before .before .before .args .tracks) (c .before .before .before .before .before .before .before .before .before .before .before .before .before .before .before .before .before .before .args .patterns) (firstBlock Pattern (c .before .before .before .before .before .before .before .before .before .before .before .before .before .before .before .before .before .before .args .chunk))) (c .before .before .before .before .before .before .before .before .before .before .before .before .before .before .before .before .before .before .pre .0 .inside) in search needs
+part-copy-start-2 c = let room = rest-room (c .before .before .before .before .before .before .before .before .before .args .m .now) (c .before .before .before .before .before .before .before .before .before .args .chunk) (blocksAnew (c .before .before .before .before .before .before .before .before .before .args .m .now) (c .before .before .before .before .before .before .before .before .before .args .tracks) (c .before .before .before .before .before .before .before .before .before .args .patterns) (firstBlock Pattern (c .before .before .before .before .before .before .before .before .before .args .chunk))) (c .before .before .before .before .before .before .before .before .before .pre .0 .inside) (c .before .before .before .before .before .before .before .before .before .args .out .now) (c .before .before .before .before .before .before .before .before .before .pre .1) (c .before .before .before .before .before .write-front .ensures) in search needs
 
-copy-requires-2 : tie.Need-copy-requires-2
-copy-requires-2 c κs = let long = replaced-length (c .before .before .before .before .before .before .before .before .before .before .before .before .before .before .before .before .before .before .before .args .m .now) (c .before .before .before .before .before .before .before .before .before .before .before .before .before .before .before .before .before .before .before .args .chunk) (blocksAnew (c .before .before .before .before .before .before .before .before .before .before .before .before .before .before .before .before .before .before .before .args .m .now) (c .before .before .before .before .before .before .before .before .before .before .before .before .before .before .before .before .before .before .before .args .tracks) (c .before .before .before .before .before .before .before .before .before .before .before .before .before .before .before .before .before .before .before .args .patterns) (firstBlock Pattern (c .before .before .before .before .before .before .before .before .before .before .before .before .before .before .before .before .before .before .before .args .chunk))) (c .before .before .before .before .before .before .before .before .before .before .before .before .before .before .before .before .before .before .before .pre .0 .inside) in search needs
-
-sub-result : tie.Need-sub-result
-sub-result c = let inside = c .before .before .before .before .before .before .before .before .before .before .before .before .before .before .before .before .before .before .before .before .before .before .pre .0 .inside in omega arith
+copy-requires : tie.Need-copy-requires
+copy-requires c κs = let room = rest-room (c .before .before .before .before .before .before .before .before .before .before .args .m .now) (c .before .before .before .before .before .before .before .before .before .before .args .chunk) (blocksAnew (c .before .before .before .before .before .before .before .before .before .before .args .m .now) (c .before .before .before .before .before .before .before .before .before .before .args .tracks) (c .before .before .before .before .before .before .before .before .before .before .args .patterns) (firstBlock Pattern (c .before .before .before .before .before .before .before .before .before .before .args .chunk))) (c .before .before .before .before .before .before .before .before .before .before .pre .0 .inside) (c .before .before .before .before .before .before .before .before .before .before .args .out .now) (c .before .before .before .before .before .before .before .before .before .before .pre .1) (c .before .before .before .before .before .before .write-front .ensures) in omega (arith, rest-length (c .before .before .before .before .before .before .before .before .before .before .args .m .now) (c .before .before .before .before .before .before .before .before .before .before .args .chunk) (blocksAnew (c .before .before .before .before .before .before .before .before .before .before .args .m .now) (c .before .before .before .before .before .before .before .before .before .before .args .tracks) (c .before .before .before .before .before .before .before .before .before .before .args .patterns) (firstBlock Pattern (c .before .before .before .before .before .before .before .before .before .before .args .chunk))) (c .before .before .before .before .before .before .before .before .before .before .pre .0 .inside) (c .before .before .before .before .before .before .before .before .before .before .args .out .now) (c .before .before .before .before .before .before .before .before .before .before .pre .1) (c .before .before .before .before .before .before .write-front .ensures))
 
 add-result : tie.Need-add-result
-add-result c = let inside = c .before .before .before .before .before .before .before .before .before .before .before .before .before .before .before .before .before .before .before .before .before .before .pre .0 .inside in omega (arith, replaced-length (c .before .before .before .before .before .before .before .before .before .before .before .before .before .before .before .before .before .before .before .before .before .before .args .m .now) (c .before .before .before .before .before .before .before .before .before .before .before .before .before .before .before .before .before .before .before .before .before .before .args .chunk) (blocksAnew (c .before .before .before .before .before .before .before .before .before .before .before .before .before .before .before .before .before .before .before .before .before .before .args .m .now) (c .before .before .before .before .before .before .before .before .before .before .before .before .before .before .before .before .before .before .before .before .before .before .args .tracks) (c .before .before .before .before .before .before .before .before .before .before .before .before .before .before .before .before .before .before .before .before .before .before .args .patterns) (firstBlock Pattern (c .before .before .before .before .before .before .before .before .before .before .before .before .before .before .before .before .before .before .before .before .before .before .args .chunk))) (c .before .before .before .before .before .before .before .before .before .before .before .before .before .before .before .before .before .before .before .before .before .before .pre .0 .inside), c .before .before .before .before .before .before .before .before .before .before .before .before .before .before .before .before .before .before .before .before .before .before .pre .1, c .before .before .before .before .before .before .before .before .before .before .before .write-data .ensures .0)
-
-same-length : tie.Need-same-length
-same-length c = c .before .out4 .given .1 ∙ c .before .before .before .before .before .before .out3 .given .1 ∙ c .before .before .before .before .before .before .before .before .before .before .out2 .given .1 ∙ c .before .before .before .before .before .before .before .before .before .before .before .before .before .before .out .given
+add-result c = let room = rest-room (c .before .before .before .before .before .before .before .before .before .before .before .before .before .args .m .now) (c .before .before .before .before .before .before .before .before .before .before .before .before .before .args .chunk) (blocksAnew (c .before .before .before .before .before .before .before .before .before .before .before .before .before .args .m .now) (c .before .before .before .before .before .before .before .before .before .before .before .before .before .args .tracks) (c .before .before .before .before .before .before .before .before .before .before .before .before .before .args .patterns) (firstBlock Pattern (c .before .before .before .before .before .before .before .before .before .before .before .before .before .args .chunk))) (c .before .before .before .before .before .before .before .before .before .before .before .before .before .pre .0 .inside) (c .before .before .before .before .before .before .before .before .before .before .before .before .before .args .out .now) (c .before .before .before .before .before .before .before .before .before .before .before .before .before .pre .1) (c .before .before .before .before .before .before .before .before .before .write-front .ensures) in search needs
 
 returns : tie.Need-returns
-returns c = module-written (c .before .before .before .before .before .before .before .before .before .before .before .before .before .before .before .before .before .before .before .before .before .before .args .m .now) (c .before .before .before .before .before .before .before .before .before .before .before .before .before .before .before .before .before .before .before .before .before .before .args .chunk) (blocksAnew (c .before .before .before .before .before .before .before .before .before .before .before .before .before .before .before .before .before .before .before .before .before .before .args .m .now) (c .before .before .before .before .before .before .before .before .before .before .before .before .before .before .before .before .before .before .before .before .before .before .args .tracks) (c .before .before .before .before .before .before .before .before .before .before .before .before .before .before .before .before .before .before .before .before .before .before .args .patterns) (firstBlock Pattern (c .before .before .before .before .before .before .before .before .before .before .before .before .before .before .before .before .before .before .before .before .before .before .args .chunk))) (c .before .before .before .before .before .before .before .before .before .before .before .before .before .before .before .before .before .before .before .before .before .before .pre .0 .inside) (c .before .before .before .before .before .before .before .before .before .before .before .before .before .before .before .before .before .before .before .before .before .before .args .out .now) (c .before .before .before .before .before .before .before .before .before .before .before .before .before .before .before .before .before .before .before .before .before .before .pre .1) (c .before .before .before .before .before .before .before .before .before .before .before .before .before .before .before .copy .ensures .1) (c .before .before .before .before .before .before .before .before .before .before .before .write-data .ensures) (c .before .before .before .before .before .before .before .put32 .ensures) (c .before .before .copy2 .ensures .1)
+returns c = module-written (c .before .before .before .before .before .before .before .before .before .before .before .before .before .args .m .now) (c .before .before .before .before .before .before .before .before .before .before .before .before .before .args .chunk) (blocksAnew (c .before .before .before .before .before .before .before .before .before .before .before .before .before .args .m .now) (c .before .before .before .before .before .before .before .before .before .before .before .before .before .args .tracks) (c .before .before .before .before .before .before .before .before .before .before .before .before .before .args .patterns) (firstBlock Pattern (c .before .before .before .before .before .before .before .before .before .before .before .before .before .args .chunk))) (c .before .before .before .before .before .before .before .before .before .before .before .before .before .pre .0 .inside) (c .before .before .before .before .before .before .before .before .before .before .before .before .before .args .out .now) (c .before .before .before .before .before .before .before .before .before .before .before .before .before .pre .1) (c .before .before .before .before .before .before .before .before .before .write-front .ensures) (c .before .before .copy .ensures .1)
 
 pub write-module-spec : {M : Type 1} → statement M
 write-module-spec =
     tie.close
-    (tie.spec (λ c. search needs) (λ c. search needs) (λ c. search needs) (λ c. search needs) slice-aggregate-copy copy-requires sub-write-data part-write-data-start (λ c. search needs) write-data-requires cast-put32 sub-put32 part-put32-start (λ c. search needs) put32-requires add-end (λ c. search needs) (λ c. search needs) (λ c. search needs) (λ c. search needs) sub-copy-2 part-copy-start-2 (λ c. search needs) copy-requires-2 sub-result add-result same-length returns)
+    (tie.spec write-front-requires (λ c. search needs) (λ c. search needs) (λ c. search needs) (λ c. search needs) (λ c. search needs) (λ c. search needs) (λ c. search needs) sub-copy-2 part-copy-start-2 (λ c. search needs) copy-requires (λ c. search needs) add-result (λ c. search needs) returns)
