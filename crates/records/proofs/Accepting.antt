@@ -16,7 +16,7 @@ use Rattle.layout.specs.declared.Outline.the-variants.{Found}
 use Rattle.cells.specs.Cells.{joined}
 use Rattle.blocks.specs.Sizes.{sizeOf, placesFrom, blockAt, blocksOf}
 use Rattle.blocks.specs.declared.Kind.{Kind}
-use Rattle.module.specs.Fields.{envelopeRules}
+use Rattle.fields.specs.Fields.{envelopeRules}
 use Rattle.module.specs.Verdicts.{opened}
 use Rattle.queries.specs.Finding.{kindOf, chunkOf, countOf}
 use Rattle.queries.specs.Lengths.{refusedLength, writtenLength}
