@@ -2,8 +2,7 @@ use borrow.Author.Needs.{needs}
 use mathlib.Core.Path.{refl}
 use lib.ListN.{length-set}
 use native.Mathlib.Omega.{arith}
-use lib.ListN.{set, length-set}
-use Prim.Native.Nat.{_*_}
+use lib.ListN.{length-set}
 use Rattle.blocks.specs.Sizes.{widthOf}
 use Rattle.numbers.specs.Numbers.{number32}
 use mathlib.Core.Path.{_∙_, ap}
@@ -16,7 +15,7 @@ slice-write-out-2 : tie.Need-slice-write-out-2
 slice-write-out-2 c = simp length-set (omega (arith, c .before .before .before .before .pre .1))
 
 same-length : tie.Need-same-length
-same-length c = c .before .out .given .1 ∙ length-set (set (c .before .before .before .before .before .before .before .before .args .out .now) 0 0) 1 (8 * c .before .before .before .before .width .result) ∙ length-set (c .before .before .before .before .before .before .before .before .args .out .now) 0 0
+same-length c = simp length-set at (c .before .out .given .1)
 
 returns : tie.Need-returns
 returns c = (refl, bits-frames (c .before .before .before .before .before .before .before .before .args .m .now) (slice-bytes (c .before .before .before .before .before .before .before .before .args .m .now) (c .before .before .before .before .before .before .before .shared-slice-known .given)) (c .before .before .before .before .before .before .before .before .args .at) (c .before .before .before .before .width .result) (c .before .before .before .before .before .before .before .before .args .out .now) _ (c .before .before .before .before .width .ensures .0 ∙ ap widthOf (c .before .before .before .before .before .number32 .ensures)) (c .before .before .before .before .width .ensures .1) (c .before .before .before .before .before .before .before .before .pre .1) (c .before .before .copy .ensures))
