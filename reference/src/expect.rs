@@ -6,7 +6,7 @@ use std::fmt::Write;
 
 use crate::corpus::{take, Case};
 use crate::pattern::{cell, check, pack, repack, shown, unpack, Cell, Note, Refusal};
-use crate::{listing, module};
+use crate::{all_records, listing, module};
 
 /// An output is filled with this byte before the call.
 pub const FILL: u8 = 0xAA;
@@ -70,6 +70,10 @@ fn lines(case: &Case, text: &mut String) {
                 written(text, "repacked", room, |out| {
                     crate::repack::repack(module, out)
                 });
+            }
+            // An output of so many bytes is enough for every accepted module: behind the summary no record is longer than its block.
+            for room in [*room, module.len() as u32 + all_records::SUMMARY] {
+                written(text, "records", room, |out| all_records::write(module, out));
             }
         }
         Case::Records {

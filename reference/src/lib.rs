@@ -6,6 +6,7 @@
 
 #![forbid(unsafe_code)]
 
+pub mod all_records;
 pub mod blocks;
 pub mod chunks;
 pub mod corpus;

@@ -2,7 +2,8 @@
 //!
 //! Each query takes the whole module apart and gives the module's own refusal, if there is one. Then it looks for what was asked
 //! for: 18 if that is not there, and 17 if the lent output is too short. Instruments, samples and tracks are counted from 1, all
-//! else from 0.
+//! else from 0. How a block is shown is said once (`shown_song` and so on), for the queries and for all records together
+//! (all_records.rs).
 
 use crate::blocks::{self, POINTS};
 use crate::chunks::Info;
@@ -95,7 +96,11 @@ pub fn version(module: &[u8]) -> Result<(u8, u8), Refusal> {
 
 /// The name; zeros where the module has none. Refusals: the module's own.
 pub fn name(module: &[u8]) -> Result<[u8; 44], Refusal> {
-    Ok(read(module)?.name.map_or([0; 44], array))
+    Ok(shown_name(&read(module)?))
+}
+
+pub(crate) fn shown_name(module: &Module) -> [u8; 44] {
+    module.name.map_or([0; 44], array)
 }
 
 /// The numbers of instruments, samples, songs, patterns and tracks. Refusals: the module's own.
@@ -106,11 +111,14 @@ pub fn info(module: &[u8]) -> Result<Info, Refusal> {
 /// Refusals: the module's own, 18.
 pub fn song(module: &[u8], song: u64) -> Result<Song, Refusal> {
     let read = read(module)?;
-    let song = from_0(&read.songs, song)?;
-    Ok(Song {
+    from_0(&read.songs, song).map(shown_song)
+}
+
+pub(crate) fn shown_song(song: &blocks::Song) -> Song {
+    Song {
         name: array(song.name),
         length: song.playlist.numbers().count() as u16,
-    })
+    }
 }
 
 /// The pattern number of an entry of a song's playlist. Refusals: the module's own, 18.
@@ -131,8 +139,11 @@ pub fn playlist(module: &[u8], song: u64, out: &mut [u8]) -> Result<u64, Refusal
 /// Refusals: the module's own, 18.
 pub fn instrument(module: &[u8], instrument: u64) -> Result<Instrument, Refusal> {
     let read = read(module)?;
-    let instrument = from_1(&read.instruments, instrument)?;
-    Ok(Instrument {
+    from_1(&read.instruments, instrument).map(shown_instrument)
+}
+
+pub(crate) fn shown_instrument(instrument: &blocks::Instrument) -> Instrument {
+    Instrument {
         name: array(instrument.name),
         sample: instrument.sample.value as u16,
         volume: instrument.volume.value as u16,
@@ -141,7 +152,7 @@ pub fn instrument(module: &[u8], instrument: u64) -> Result<Instrument, Refusal>
         loop_length: instrument.loop_length.value as u32,
         panning: instrument.panning.signed() as i16,
         flags: instrument.flags.value as u16,
-    })
+    }
 }
 
 /// How many volume envelopes there are. Refusals: the module's own.
@@ -157,15 +168,19 @@ pub fn panning_envelopes(module: &[u8]) -> Result<u64, Refusal> {
 /// Refusals: the module's own, 18.
 pub fn envelope(module: &[u8], kind: Kind, envelope: u64) -> Result<Envelope, Refusal> {
     let read = read(module)?;
-    let envelope = from_0(of_kind(&read, kind), envelope)?;
+    from_0(of_kind(&read, kind), envelope)
+        .map(|envelope| shown_envelope(envelope, kind, read.header.version))
+}
+
+pub(crate) fn shown_envelope(envelope: &blocks::Envelope, kind: Kind, version: u8) -> Envelope {
     let mut points = [UNUSED; POINTS as usize];
     for (point, (position, value)) in points.iter_mut().zip(envelope.points_in_use()) {
         *point = Point {
             position: position.value as u16,
-            value: shown_value(kind, read.header.version, value),
+            value: shown_value(kind, version, value),
         };
     }
-    Ok(Envelope {
+    Envelope {
         instrument: envelope.instrument.value as u16,
         flags: envelope.flags.value as u8,
         sections: envelope.sections.value as u8,
@@ -174,11 +189,11 @@ pub fn envelope(module: &[u8], kind: Kind, envelope: u64) -> Result<Envelope, Re
         loop_last: envelope.loop_last.value as u8,
         second_sustain: envelope.second_sustain.value as u8,
         points,
-    })
+    }
 }
 
 /// The envelopes of a kind; none where their chunk is missing.
-fn of_kind<'m, 'a>(module: &'m Module<'a>, kind: Kind) -> &'m [blocks::Envelope<'a>] {
+pub(crate) fn of_kind<'m, 'a>(module: &'m Module<'a>, kind: Kind) -> &'m [blocks::Envelope<'a>] {
     match kind {
         Kind::Volume => &module.volume_envelopes,
         Kind::Panning => &module.panning_envelopes,
@@ -218,11 +233,14 @@ pub fn unpack(module: &[u8], pattern: u64, out: &mut [u8]) -> Result<u64, Refusa
 /// Refusals: the module's own, 18.
 pub fn sample(module: &[u8], sample: u64) -> Result<Sample, Refusal> {
     let read = read(module)?;
-    let sample = from_1(&read.samples, sample)?;
-    Ok(Sample {
+    from_1(&read.samples, sample).map(shown_sample)
+}
+
+pub(crate) fn shown_sample(sample: &blocks::Sample) -> Sample {
+    Sample {
         width: 8 * sample.frame_bytes as u8,
         frames: sample.frames as u32,
-    })
+    }
 }
 
 /// The frames of a sample, as the part of the module that they are.

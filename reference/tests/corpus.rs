@@ -114,26 +114,47 @@ fn the_lines_of_modules() {
             .map(|byte| format!("{byte:02x}"))
             .collect();
     let smallest: String = smallest.iter().map(|byte| format!("{byte:02x}")).collect();
+    // Version and revision, no name, INFO's numbers and those of envelopes.
+    let records = format!("0300{}{}", "00".repeat(44), "0000000000000000000400000000");
     let filled = |count| "aa".repeat(count);
     assert_eq!(
         expected(&corpus),
         format!(
             "module 0 0\nlines 0 0 77 {text}aa\nrepacked 0 0 58 {smallest}{}\nrepacked 0 0 58 {smallest}\n\
+             records 0 0 60 {records}{}\nrecords 0 0 60 {records}{}\n\
              module 0 0\nlines 0 0 77 {text}\nrepacked 0 0 58 {smallest}{}\nrepacked 0 0 58 {smallest}\n\
+             records 0 0 60 {records}{}\nrecords 0 0 60 {records}{}\n\
              module 0 0\nlines 17 77 0 {}\nrepacked 0 0 58 {smallest}{}\nrepacked 0 0 58 {smallest}\n\
+             records 0 0 60 {records}{}\nrecords 0 0 60 {records}{}\n\
              module 0 0\nlines 17 77 0 \nrepacked 17 58 0 \nrepacked 0 0 58 {smallest}\n\
+             records 17 60 0 \nrecords 0 0 60 {records}{}\n\
              module 8 42\nlines 0 0 16 7265667573656420382061742034320a\nrepacked 8 42 0 {}\nrepacked 8 42 0 {}\n\
+             records 8 42 0 {}\nrecords 8 42 0 {}\n\
              module 8 8\nlines 0 0 15 72656675736564203820617420380a\nrepacked 8 8 0 {}\nrepacked 8 8 0 {}\n\
+             records 8 8 0 {}\nrecords 8 8 0 {}\n\
              module 2 0\nlines 17 15 0 aaaaaa\nrepacked 2 0 0 aaaaaa\nrepacked 2 0 0 \n\
+             records 2 0 0 aaaaaa\nrecords 2 0 0 {}\n\
              cases 7\n",
             filled(20),
+            filled(18),
+            filled(58),
             filled(19),
+            filled(17),
+            filled(58),
             filled(76),
             filled(18),
             filled(16),
+            filled(58),
+            filled(58),
+            filled(16),
             filled(42),
+            filled(16),
+            filled(102),
             filled(15),
             filled(8),
+            filled(15),
+            filled(68),
+            filled(60),
         )
     );
 }
@@ -158,14 +179,24 @@ fn the_lines_of_a_repacked_module() {
         let module = module.clone();
         let text = expected(&encoded(&[Case::Module { room, module }]));
         let lines: Vec<&str> = text.lines().collect();
-        assert_eq!(lines.len(), 5);
+        assert_eq!(lines.len(), 7);
         assert_eq!(lines[0], "module 0 0");
         assert_eq!(lines[2], format!("repacked {own}"));
         assert_eq!(lines[3], format!("repacked 0 0 70 {hex}aaaa"));
+        // One pattern of two rows, and an output of 132 bytes.
+        let records = format!(
+            "0300{}{}",
+            "00".repeat(44),
+            "00000000000000010004000000000002"
+        );
+        let filled = "aa".repeat(room as usize - 62);
+        assert_eq!(lines[4], format!("records 0 0 62 {records}{filled}"));
+        let filled = "aa".repeat(132 - 62);
+        assert_eq!(lines[5], format!("records 0 0 62 {records}{filled}"));
     }
 }
 
-/// A module that is longer than 65,536 bytes is repacked into that much room, which may be enough.
+/// A module that is longer than 65,536 bytes is repacked into that much room, which may be enough; so are its records written.
 #[test]
 fn a_module_of_more_than_65536_bytes() {
     let of_rows = |rows: u16, entry: &[u8]| {
@@ -181,10 +212,12 @@ fn a_module_of_more_than_65536_bytes() {
         (of_rows(30_000, &[1, 1, 5]), "17 120064 0"),
     ] {
         let text = expected(&encoded(&[Case::Module { room: 0, module }]));
-        let line = text.lines().nth(3).expect("there are five lines");
-        let words: Vec<&str> = line.split(' ').collect();
-        assert_eq!(words[1..4].join(" "), answer);
-        assert_eq!(words[4].len(), 2 * 65_536);
+        for (line, answer) in [(3, answer), (5, "0 0 62")] {
+            let line = text.lines().nth(line).expect("there are seven lines");
+            let words: Vec<&str> = line.split(' ').collect();
+            assert_eq!(words[1..4].join(" "), answer);
+            assert_eq!(words[4].len(), 2 * 65_536);
+        }
     }
 }
 
@@ -409,9 +442,12 @@ fn more_room_than_65536_is_taken_as_that() {
         assert_eq!(
             expected(&corpus),
             format!(
-                "module 2 0\nlines 0 0 15 72656675736564203220617420300a{}\nrepacked 2 0 0 {}\nrepacked 2 0 0 \ncases 1\n",
+                "module 2 0\nlines 0 0 15 72656675736564203220617420300a{}\nrepacked 2 0 0 {}\nrepacked 2 0 0 \n\
+                 records 2 0 0 {}\nrecords 2 0 0 {}\ncases 1\n",
                 "aa".repeat(65_536 - 15),
-                "aa".repeat(65_536)
+                "aa".repeat(65_536),
+                "aa".repeat(65_536),
+                "aa".repeat(60)
             )
         );
     }
@@ -430,7 +466,7 @@ fn the_corpus_is_read_back_and_within_its_bounds() {
     }
     assert!(left.is_empty());
     let text = expected(&corpus);
-    assert!(text.len() <= 2_400_000, "{} bytes", text.len());
+    assert!(text.len() <= 3_500_000, "{} bytes", text.len());
     assert!(text.ends_with(&format!("\ncases {}\n", made.len())));
 }
 
@@ -547,9 +583,11 @@ fn the_corpus_has_every_kind_of_answer() {
         assert!(count >= 200, "{start}: {count}");
     }
     for number in [0, 2, 3, 4, 5, 6, 7, 8, 9, 10, 11, 12, 13, 14, 15, 17] {
-        let start = format!("repacked {number} ");
-        let count = text.lines().filter(|line| line.starts_with(&start)).count();
-        assert!(count >= 60, "{start}: {count}");
+        for word in ["repacked", "records"] {
+            let start = format!("{word} {number} ");
+            let count = text.lines().filter(|line| line.starts_with(&start)).count();
+            assert!(count >= 60, "{start}: {count}");
+        }
     }
     for kind in 0..4 {
         let start = format!("cell 0 0 {kind} ");
