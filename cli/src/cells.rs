@@ -9,7 +9,6 @@ use crate::input;
 use crate::library::{self, Cell, Info, Refusal, NOTE_KEY_OFF, NOTE_NONE, NOTE_PITCH};
 use crate::names;
 use crate::output::Output;
-use crate::small::{nothing, Small};
 
 /// What is to be shown: a pattern, and of it all rows and tracks, or some.
 pub struct Asked {
@@ -36,7 +35,7 @@ pub fn run(file: &OsStr, asked: &Asked, out: &mut Output) -> Result<u8, Fault> {
     see_that_it_is_there(file, &module, asked.pattern, &shown, rows, info)?;
     let expected = usize::from(rows) * usize::from(info.tracks);
     let cells = library::cells(&module, asked.pattern, expected).map_err(refused)?;
-    let notes = notes(&module, info.tracks).map_err(refused)?;
+    let notes = notes().map_err(refused)?;
     out.line(&format!(
         "pattern {}: {rows} rows, {} tracks",
         asked.pattern, info.tracks
@@ -197,23 +196,22 @@ fn push_command(line: &mut String, command: u8) {
     }
 }
 
-/// How each of the 256 notes is shown. Which are pitches, and which is the key off, the library says: it is asked for each, in a
-/// pattern of one row whose first cell has that note.
-fn notes(module: &[u8], tracks: u16) -> Result<Vec<String>, Refusal> {
-    let one_pattern = Info {
-        patterns: 1,
-        ..nothing(tracks)
-    };
-    let mut small = Small::new(
-        module,
-        one_pattern,
-        &[(b"SONG", &[]), (b"INST", &[]), (b"SMPL", &[])],
-    );
+/// A module with one pattern, of one row of 4 packed bytes: track 1, a mask that names the note, the note, the row end.
+const ONE_NOTE: &[u8; 68] = b"DBM0\x03\x00\x00\x00\
+    INFO\x00\x00\x00\x0A\x00\x00\x00\x00\x00\x00\x00\x01\x00\x04\
+    SONG\x00\x00\x00\x00INST\x00\x00\x00\x00SMPL\x00\x00\x00\x00\
+    PATT\x00\x00\x00\x0A\x00\x01\x00\x00\x00\x04\x01\x01\x00\x00";
+
+/// The place of the note in it.
+const NOTE: usize = 66;
+
+/// How each of the 256 notes is shown. Which are pitches, and which is the key off, the library says: it is asked for each.
+fn notes() -> Result<Vec<String>, Refusal> {
+    let mut module = *ONE_NOTE;
     (0..=255)
         .map(|note| {
-            // 1 row of 4 packed bytes: track 1, a mask that names the note, the note, the row end.
-            let block = [0, 1, 0, 0, 0, 4, 1, 1, note, 0];
-            library::cell(small.with(b"PATT", &[&block]), 0, 0, 1).map(|cell| note_text(&cell))
+            module[NOTE] = note;
+            library::cell(&module, 0, 0, 1).map(|cell| note_text(&cell))
         })
         .collect()
 }

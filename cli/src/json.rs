@@ -1,202 +1,260 @@
 //! A report as JSON. docs/CLI.md has the schema.
 
 use std::ffi::OsStr;
-use std::fmt::{self, Display, Formatter, Write};
 
 use crate::fault::Fault;
-use crate::library::{Envelope, Instrument, Sample, Song};
-use crate::names;
+use crate::names::{self, JsonName};
 use crate::output::Output;
-use crate::records::{self, loop_kind, points, Loop, Report};
+use crate::records::{self, Envelope, Instrument, Loop, Report, Sample, Song};
 use crate::report;
+use crate::text::{put, Hex, Piece};
 
 /// The version of the schema. It changes where a field is taken away or comes to mean something else; new fields may be added.
 const SCHEMA: u32 = 1;
 
 /// One object, each record of it on a line of its own.
-pub fn write(file: &OsStr, report: &Report, out: &mut Output) -> Result<(), Fault> {
-    out.line("{")?;
-    for line in summary(file, report) {
-        out.line(&format!("  {line},"))?;
-    }
-    let songs = report.songs.iter().enumerate().map(song);
-    list("songs", songs, out)?;
-    let instruments = report.instruments.iter().enumerate().map(instrument);
-    list("instruments", instruments, out)?;
-    let patterns = report.patterns.iter().enumerate().map(pattern);
-    list("patterns", patterns, out)?;
-    let samples = report.samples.iter().enumerate().map(sample);
-    list("samples", samples, out)?;
-    let volume = report.volume_envelopes.iter().enumerate().map(envelope);
-    list("volume_envelopes", volume, out)?;
-    let panning = report.panning_envelopes.iter().enumerate().map(envelope);
-    last_list("panning_envelopes", panning, out)?;
-    out.line("}")
+pub fn write(file: &OsStr, bytes: usize, report: &Report, out: &mut Output) -> Result<(), Fault> {
+    out.put(|text| summary(text, file, bytes, report))?;
+    list("songs", &report.songs, song, out)?;
+    out.text(",\n")?;
+    list("instruments", &report.instruments, instrument, out)?;
+    out.text(",\n")?;
+    list("patterns", &report.patterns, pattern, out)?;
+    out.text(",\n")?;
+    list("samples", &report.samples, sample, out)?;
+    out.text(",\n")?;
+    list("volume_envelopes", &report.volume_envelopes, envelope, out)?;
+    out.text(",\n")?;
+    list(
+        "panning_envelopes",
+        &report.panning_envelopes,
+        envelope,
+        out,
+    )?;
+    out.text("\n}\n")
 }
 
-/// A list, and a comma, since another follows.
-fn list(name: &str, items: impl Iterator<Item = String>, out: &mut Output) -> Result<(), Fault> {
-    items_of(name, items, out)?;
-    out.line(",")
-}
-
-fn last_list(
+/// A list of records; each is told how many stand before it.
+fn list<Record>(
     name: &str,
-    items: impl Iterator<Item = String>,
+    records: &[Record],
+    record: fn(&mut String, usize, &Record),
     out: &mut Output,
 ) -> Result<(), Fault> {
-    items_of(name, items, out)?;
-    out.line("")
-}
-
-fn items_of(
-    name: &str,
-    items: impl Iterator<Item = String>,
-    out: &mut Output,
-) -> Result<(), Fault> {
-    out.text(&format!("  \"{name}\": ["))?;
-    let mut between = "";
-    for item in items {
-        out.text(&format!("{between}\n    {item}"))?;
-        between = ",";
+    out.put(|text| put!(text, "  \"", name, "\": ["))?;
+    let mut between = "\n    ";
+    for (index, one) in records.iter().enumerate() {
+        out.put(|text| {
+            put!(text, between);
+            record(text, index, one);
+        })?;
+        between = ",\n    ";
     }
-    out.text(match between {
-        "" => "]",
+    out.text(match records {
+        [] => "]",
         _ => "\n  ]",
     })
 }
 
-fn summary(file: &OsStr, report: &Report) -> [String; 6] {
+fn summary(text: &mut String, file: &OsStr, bytes: usize, report: &Report) {
     let info = report.info;
-    [
-        format!("\"schema\": {SCHEMA}"),
-        format!("\"file\": {}", string(&names::file(file))),
-        format!("\"bytes\": {}", report.bytes),
-        format!(
-            "\"version\": {{\"text\": \"{}\", \"version\": {}, \"revision\": {}}}",
-            report::version(report),
-            report.version.version,
-            report.version.revision
-        ),
-        format!("\"name\": {}", name(&report.name)),
-        format!(
-            "\"counts\": {{\"instruments\": {}, \"samples\": {}, \"songs\": {}, \"patterns\": {}, \"tracks\": {}, \
-             \"volume_envelopes\": {}, \"panning_envelopes\": {}}}",
-            info.instruments,
-            info.samples,
-            info.songs,
-            info.patterns,
-            info.tracks,
-            report.volume_envelopes.len(),
-            report.panning_envelopes.len()
-        ),
-    ]
+    put!(text, "{\n  \"schema\": ", SCHEMA, ",\n  \"file\": ");
+    string(text, &names::file(file));
+    put!(
+        text,
+        ",\n  \"bytes\": ",
+        bytes,
+        ",\n  \"version\": {\"text\": \""
+    );
+    report::version(text, report);
+    put!(
+        text,
+        "\", \"version\": ",
+        report.version,
+        ", \"revision\": ",
+        report.revision,
+        "},\n  \"name\": "
+    );
+    name(text, report.name);
+    put!(
+        text,
+        ",\n  \"counts\": {\"instruments\": ",
+        info.instruments
+    );
+    put!(
+        text,
+        ", \"samples\": ",
+        info.samples,
+        ", \"songs\": ",
+        info.songs
+    );
+    put!(
+        text,
+        ", \"patterns\": ",
+        info.patterns,
+        ", \"tracks\": ",
+        info.tracks
+    );
+    put!(
+        text,
+        ", \"volume_envelopes\": ",
+        report.volume_envelopes.len()
+    );
+    put!(
+        text,
+        ", \"panning_envelopes\": ",
+        report.panning_envelopes.len(),
+        "},\n"
+    );
 }
 
-fn song((number, (song, playlist)): (usize, &(Song, Vec<u16>))) -> String {
-    format!(
-        "{{\"number\": {number}, \"name\": {}, \"length\": {}, \"playlist\": {}}}",
-        name(&song.name),
-        song.length,
-        array(playlist.iter())
-    )
+fn song(text: &mut String, number: usize, song: &Song) {
+    put!(text, "{\"number\": ", number, ", \"name\": ");
+    name(text, song.name);
+    put!(text, ", \"length\": ", song.length(), ", \"playlist\": ");
+    array(text, song.playlist());
+    put!(text, "}");
 }
 
-fn instrument((index, instrument): (usize, &Instrument)) -> String {
-    let kind = match loop_kind(instrument) {
+fn instrument(text: &mut String, index: usize, instrument: &Instrument) {
+    let kind = match instrument.loop_kind() {
         Loop::None => "none",
         Loop::Forward => "forward",
         Loop::PingPong => "ping-pong",
     };
-    format!(
-        "{{\"number\": {}, \"name\": {}, \"sample\": {}, \"volume\": {}, \"panning\": {}, \"rate\": {}, \"flags\": {}, \
-         \"loop\": {{\"kind\": \"{kind}\", \"start\": {}, \"length\": {}}}}}",
-        index + 1,
-        name(&instrument.name),
+    put!(text, "{\"number\": ", index + 1, ", \"name\": ");
+    name(text, instrument.name);
+    put!(
+        text,
+        ", \"sample\": ",
         instrument.sample,
-        instrument.volume,
+        ", \"volume\": ",
+        instrument.volume
+    );
+    put!(
+        text,
+        ", \"panning\": ",
         instrument.panning,
-        instrument.rate,
+        ", \"rate\": ",
+        instrument.rate
+    );
+    put!(
+        text,
+        ", \"flags\": ",
         instrument.flags,
+        ", \"loop\": {\"kind\": \"",
+        kind
+    );
+    put!(
+        text,
+        "\", \"start\": ",
         instrument.loop_start,
-        instrument.loop_length
-    )
+        ", \"length\": ",
+        instrument.loop_length,
+        "}}"
+    );
 }
 
-fn pattern((number, rows): (usize, &u16)) -> String {
-    format!("{{\"number\": {number}, \"rows\": {rows}}}")
+fn pattern(text: &mut String, number: usize, rows: &u16) {
+    put!(text, "{\"number\": ", number, ", \"rows\": ", *rows, "}");
 }
 
-fn sample((index, (sample, length)): (usize, &(Sample, u64))) -> String {
-    format!(
-        "{{\"number\": {}, \"width\": {}, \"frames\": {}, \"length\": {length}}}",
+fn sample(text: &mut String, index: usize, sample: &Sample) {
+    put!(
+        text,
+        "{\"number\": ",
         index + 1,
-        sample.width,
-        sample.frames
-    )
+        ", \"width\": ",
+        sample.width
+    );
+    put!(
+        text,
+        ", \"frames\": ",
+        sample.frames,
+        ", \"length\": ",
+        sample.length(),
+        "}"
+    );
 }
 
-fn envelope((number, envelope): (usize, &Envelope)) -> String {
-    let points = points(envelope).map(|(position, value)| Point { position, value });
-    format!(
-        "{{\"number\": {number}, \"instrument\": {}, \"flags\": {}, \"on\": {}, \"sections\": {}, \"first_sustain\": {}, \
-         \"loop_first\": {}, \"loop_last\": {}, \"second_sustain\": {}, \"points\": {}}}",
-        envelope.instrument,
+fn envelope(text: &mut String, number: usize, envelope: &Envelope) {
+    put!(
+        text,
+        "{\"number\": ",
+        number,
+        ", \"instrument\": ",
+        envelope.instrument
+    );
+    put!(
+        text,
+        ", \"flags\": ",
         envelope.flags,
-        records::has(envelope, records::ON),
-        envelope.sections,
-        envelope.first_sustain,
+        ", \"on\": ",
+        envelope.has(records::ON)
+    );
+    put!(text, ", \"sections\": ", envelope.sections);
+    put!(text, ", \"first_sustain\": ", envelope.first_sustain);
+    put!(
+        text,
+        ", \"loop_first\": ",
         envelope.loop_first,
-        envelope.loop_last,
+        ", \"loop_last\": ",
+        envelope.loop_last
+    );
+    put!(
+        text,
+        ", \"second_sustain\": ",
         envelope.second_sustain,
-        array(points)
-    )
+        ", \"points\": "
+    );
+    array(
+        text,
+        envelope
+            .points()
+            .map(|(position, value)| Point { position, value }),
+    );
+    put!(text, "}");
 }
 
 /// A name: as the text report prints it, without the quotes, and all of its bytes.
-fn name(bytes: &[u8]) -> String {
-    format!(
-        "{{\"text\": {}, \"hex\": \"{}\"}}",
-        string(&names::escaped(bytes)),
-        names::hex(bytes)
-    )
+fn name(text: &mut String, bytes: &[u8]) {
+    put!(text, "{\"text\": \"", JsonName(bytes), "\", \"hex\": \"");
+    for &byte in bytes {
+        put!(text, Hex(byte));
+    }
+    put!(text, "\"}");
 }
 
 struct Point {
     position: u16,
-    value: i32,
+    value: i16,
 }
 
-impl Display for Point {
-    fn fmt(&self, formatter: &mut Formatter) -> fmt::Result {
-        write!(formatter, "[{}, {}]", self.position, self.value)
+impl Piece for Point {
+    fn put(&self, text: &mut String) {
+        put!(text, "[", self.position, ", ", self.value, "]");
     }
 }
 
-fn array(items: impl Iterator<Item = impl Display>) -> String {
-    let mut text = String::from("[");
-    let mut between = "";
+fn array(text: &mut String, items: impl Iterator<Item = impl Piece>) {
+    let mut between = "[";
     for item in items {
-        let _ = write!(text, "{between}{item}");
+        put!(text, between, item);
         between = ", ";
     }
-    text.push(']');
-    text
+    put!(text, if between == "[" { "[]" } else { "]" });
 }
 
 /// A string. The texts that come here have no control characters; should one come, it is escaped.
-fn string(text: &str) -> String {
-    let mut quoted = String::from("\"");
-    for character in text.chars() {
+fn string(text: &mut String, unquoted: &str) {
+    text.push('"');
+    for character in unquoted.chars() {
         match character {
-            '"' => quoted.push_str("\\\""),
-            '\\' => quoted.push_str("\\\\"),
-            '\0'..='\x1F' => {
-                let _ = write!(quoted, "\\u{:04x}", u32::from(character));
-            }
-            _ => quoted.push(character),
+            '"' => text.push_str("\\\""),
+            '\\' => text.push_str("\\\\"),
+            '\0'..='\x1F' => put!(text, "\\u00", Hex(character as u8)),
+            _ => text.push(character),
         }
     }
-    quoted.push('"');
-    quoted
+    text.push('"');
 }

@@ -47,57 +47,15 @@ struct Verdict {
 /// The length that a call has written. The check of a stream has it too, and leaves it 0.
 type Length = u64;
 
-#[repr(C)]
-#[derive(Clone, Copy, PartialEq, Eq)]
-pub struct Version {
-    pub version: u8,
-    pub revision: u8,
-}
-
 /// How many there are of each. The names are those of INFO's fields, in their order.
 #[repr(C)]
-#[derive(Clone, Copy, PartialEq, Eq)]
+#[derive(Clone, Copy, Debug, PartialEq, Eq)]
 pub struct Info {
     pub instruments: u16,
     pub samples: u16,
     pub songs: u16,
     pub patterns: u16,
     pub tracks: u16,
-}
-
-#[repr(C)]
-#[derive(Clone, Copy, PartialEq, Eq)]
-pub struct Song {
-    pub name: [u8; 44],
-    pub length: u16,
-}
-
-#[repr(C)]
-#[derive(Clone, Copy, PartialEq, Eq)]
-pub struct Instrument {
-    pub name: [u8; 30],
-    pub sample: u16,
-    pub volume: u16,
-    pub panning: i16,
-    pub flags: u16,
-    pub rate: u32,
-    pub loop_start: u32,
-    pub loop_length: u32,
-}
-
-/// The points in use are sections + 1; the others are zeros.
-#[repr(C)]
-#[derive(Clone, Copy, PartialEq, Eq)]
-pub struct Envelope {
-    pub instrument: u16,
-    pub flags: u8,
-    pub sections: u8,
-    pub first_sustain: u8,
-    pub loop_first: u8,
-    pub loop_last: u8,
-    pub second_sustain: u8,
-    pub positions: [u16; 32],
-    pub values: [i32; 32],
 }
 
 /// The kinds of a cell's note.
@@ -120,46 +78,9 @@ pub struct Cell {
     pub parameter2: u8,
 }
 
-#[repr(C)]
-#[derive(Clone, Copy, PartialEq, Eq)]
-pub struct Sample {
-    pub width: u8,
-    pub frames: u32,
-}
-
-/// Where the frames of a sample stand in the module, and how many bytes they have.
-#[repr(C)]
-#[derive(Clone, Copy, PartialEq, Eq)]
-pub struct Frames {
-    pub offset: u64,
-    pub length: u64,
-}
-
-/// The two kinds of envelopes.
-#[derive(Clone, Copy, Debug, PartialEq, Eq)]
-pub enum Kind {
-    Volume,
-    Panning,
-}
-
 extern "C" {
     fn dbm0_check_module(module: *const u8, length: usize) -> Verdict;
-    fn dbm0_version(module: *const u8, length: usize) -> Told<Version>;
-    fn dbm0_name(module: *const u8, length: usize) -> Told<[u8; 44]>;
     fn dbm0_info(module: *const u8, length: usize) -> Told<Info>;
-    fn dbm0_song(module: *const u8, length: usize, song: usize) -> Told<Song>;
-    fn dbm0_playlist(
-        module: *const u8,
-        length: usize,
-        song: usize,
-        out: *mut u8,
-        out_length: usize,
-    ) -> Told<Length>;
-    fn dbm0_instrument(module: *const u8, length: usize, instrument: usize) -> Told<Instrument>;
-    fn dbm0_volume_envelopes(module: *const u8, length: usize) -> Told<u16>;
-    fn dbm0_panning_envelopes(module: *const u8, length: usize) -> Told<u16>;
-    fn dbm0_volume_envelope(module: *const u8, length: usize, envelope: usize) -> Told<Envelope>;
-    fn dbm0_panning_envelope(module: *const u8, length: usize, envelope: usize) -> Told<Envelope>;
     fn dbm0_rows(module: *const u8, length: usize, pattern: usize) -> Told<u16>;
     fn dbm0_cell(
         module: *const u8,
@@ -175,8 +96,12 @@ extern "C" {
         out: *mut u8,
         out_length: usize,
     ) -> Told<Length>;
-    fn dbm0_sample(module: *const u8, length: usize, sample: usize) -> Told<Sample>;
-    fn dbm0_frames(module: *const u8, length: usize, sample: usize) -> Told<Frames>;
+    fn dbm0_records(
+        module: *const u8,
+        length: usize,
+        out: *mut u8,
+        out_length: usize,
+    ) -> Told<Length>;
     fn dbm0_repack(
         module: *const u8,
         length: usize,
@@ -198,52 +123,8 @@ pub fn check(module: &[u8]) -> Result<(), Refusal> {
     }
 }
 
-pub fn version(module: &[u8]) -> Result<Version, Refusal> {
-    unsafe { dbm0_version(module.as_ptr(), module.len()) }.result()
-}
-
-pub fn name(module: &[u8]) -> Result<[u8; 44], Refusal> {
-    unsafe { dbm0_name(module.as_ptr(), module.len()) }.result()
-}
-
 pub fn info(module: &[u8]) -> Result<Info, Refusal> {
     unsafe { dbm0_info(module.as_ptr(), module.len()) }.result()
-}
-
-/// A song, counted from 0.
-pub fn song(module: &[u8], song: usize) -> Result<Song, Refusal> {
-    unsafe { dbm0_song(module.as_ptr(), module.len(), song) }.result()
-}
-
-/// All entries of a song, which are expected to be so many, 2 bytes each.
-pub fn playlist(module: &[u8], song: usize, expected: u16) -> Result<Vec<u8>, Refusal> {
-    filled(2 * usize::from(expected), |out| {
-        let (start, length) = (out.as_mut_ptr(), out.len());
-        unsafe { dbm0_playlist(module.as_ptr(), module.len(), song, start, length) }
-    })
-}
-
-/// An instrument, counted from 1.
-pub fn instrument(module: &[u8], instrument: usize) -> Result<Instrument, Refusal> {
-    unsafe { dbm0_instrument(module.as_ptr(), module.len(), instrument) }.result()
-}
-
-/// How many envelopes of a kind there are.
-pub fn envelopes(module: &[u8], kind: Kind) -> Result<u16, Refusal> {
-    let call = match kind {
-        Kind::Volume => dbm0_volume_envelopes,
-        Kind::Panning => dbm0_panning_envelopes,
-    };
-    unsafe { call(module.as_ptr(), module.len()) }.result()
-}
-
-/// An envelope of a kind, counted from 0.
-pub fn envelope(module: &[u8], kind: Kind, envelope: usize) -> Result<Envelope, Refusal> {
-    let call = match kind {
-        Kind::Volume => dbm0_volume_envelope,
-        Kind::Panning => dbm0_panning_envelope,
-    };
-    unsafe { call(module.as_ptr(), module.len(), envelope) }.result()
 }
 
 /// The rows of a pattern, counted from 0.
@@ -264,14 +145,13 @@ pub fn cells(module: &[u8], pattern: usize, expected: usize) -> Result<Vec<u8>, 
     })
 }
 
-/// A sample, counted from 1.
-pub fn sample(module: &[u8], sample: usize) -> Result<Sample, Refusal> {
-    unsafe { dbm0_sample(module.as_ptr(), module.len(), sample) }.result()
-}
-
-/// The frames of a sample, counted from 1.
-pub fn frames(module: &[u8], sample: usize) -> Result<Frames, Refusal> {
-    unsafe { dbm0_frames(module.as_ptr(), module.len(), sample) }.result()
+/// All records of the module, one behind the other. The 60 bytes of the summary stand before them, and no record is longer than its
+/// block, so that is the room to begin with.
+pub fn records(module: &[u8]) -> Result<Vec<u8>, Refusal> {
+    filled(module.len() + 60, |out| {
+        let (start, length) = (out.as_mut_ptr(), out.len());
+        unsafe { dbm0_records(module.as_ptr(), module.len(), start, length) }
+    })
 }
 
 /// The module repacked. It is never longer than the module, so that is the room to begin with.

@@ -19,7 +19,7 @@ mod reader;
 mod records;
 mod repack;
 mod report;
-mod small;
+mod text;
 
 use std::process::ExitCode;
 

@@ -1,39 +1,56 @@
 //! Bytes and file names as they are printed.
 
 use std::ffi::OsStr;
-use std::fmt::Write;
 use std::os::unix::ffi::OsStrExt;
+
+use crate::text::{put, Hex, Piece};
 
 /// A name of a module, which is bytes, between quotes. The zeros at its end are padding and not printed. Printable ASCII is printed as
 /// it is, but for the quote and the backslash; these and all other bytes are printed as \xHH.
+pub struct Quoted<'n>(pub &'n [u8]);
+
+impl Piece for Quoted<'_> {
+    fn put(&self, text: &mut String) {
+        text.push('"');
+        put_escaped(text, self.0, "\\");
+        text.push('"');
+    }
+}
+
+/// The same without the quotes, and with each backslash as a JSON string has it.
+pub struct JsonName<'n>(pub &'n [u8]);
+
+impl Piece for JsonName<'_> {
+    fn put(&self, text: &mut String) {
+        put_escaped(text, self.0, "\\\\");
+    }
+}
+
 pub fn quoted(name: &[u8]) -> String {
-    format!("\"{}\"", escaped(name))
+    let mut text = String::new();
+    put!(&mut text, Quoted(name));
+    text
 }
 
 /// The same without the quotes.
 pub fn escaped(name: &[u8]) -> String {
+    let mut text = String::new();
+    put_escaped(&mut text, name, "\\");
+    text
+}
+
+fn put_escaped(text: &mut String, name: &[u8], backslash: &str) {
     let end = name
         .iter()
         .rposition(|&byte| byte != 0)
         .map_or(0, |last| last + 1);
-    let mut text = String::new();
     for &byte in &name[..end] {
         match byte {
-            b'"' | b'\\' => push_hex(&mut text, byte),
+            b'"' | b'\\' => put!(text, backslash, "x", Hex(byte)),
             0x20..=0x7E => text.push(char::from(byte)),
-            _ => push_hex(&mut text, byte),
+            _ => put!(text, backslash, "x", Hex(byte)),
         }
     }
-    text
-}
-
-/// All bytes, two hexadecimal digits each.
-pub fn hex(bytes: &[u8]) -> String {
-    let mut text = String::new();
-    for byte in bytes {
-        let _ = write!(text, "{byte:02x}");
-    }
-    text
 }
 
 /// The name of a file: as it was given, but for what could not stand in one line of text. Control characters, backslashes and bytes
@@ -59,5 +76,5 @@ pub fn file(name: &OsStr) -> String {
 }
 
 fn push_hex(text: &mut String, byte: u8) {
-    let _ = write!(text, "\\x{byte:02x}");
+    put!(text, "\\x", Hex(byte));
 }

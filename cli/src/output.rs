@@ -4,13 +4,18 @@
 //! one, is a fault.
 
 use std::fs::File;
-use std::io::{self, BufWriter, ErrorKind, Write};
+use std::io::{self, ErrorKind, Write};
 use std::os::fd::AsFd;
 
 use crate::fault::{reason, Fault};
+use crate::text::put;
+
+/// Text is held back until it has this many bytes.
+const MOST_HELD: usize = 1 << 16;
 
 pub struct Output {
-    to: BufWriter<File>,
+    to: File,
+    held: String,
     closed: bool,
 }
 
@@ -18,9 +23,9 @@ impl Output {
     /// Standard output as a file: that of the standard library would not tell of one that cannot be written to.
     pub fn new() -> Result<Output, Fault> {
         let opened = io::stdout().as_fd().try_clone_to_owned();
-        let file = File::from(opened.map_err(|error| not_written(&error))?);
         Ok(Output {
-            to: BufWriter::with_capacity(1 << 16, file),
+            to: File::from(opened.map_err(|error| not_written(&error))?),
+            held: String::new(),
             closed: false,
         })
     }
@@ -30,16 +35,28 @@ impl Output {
         self.closed
     }
 
+    /// Prints what is put behind the text that is held back.
+    pub fn put(&mut self, put: impl FnOnce(&mut String)) -> Result<(), Fault> {
+        if self.closed {
+            return Ok(());
+        }
+        put(&mut self.held);
+        match self.held.len() < MOST_HELD {
+            true => Ok(()),
+            false => self.flush(),
+        }
+    }
+
     pub fn text(&mut self, text: &str) -> Result<(), Fault> {
-        self.bytes(text.as_bytes())
+        self.put(|held| held.push_str(text))
     }
 
     pub fn line(&mut self, text: &str) -> Result<(), Fault> {
-        self.text(text)?;
-        self.text("\n")
+        self.put(|held| put!(held, text, "\n"))
     }
 
     pub fn bytes(&mut self, bytes: &[u8]) -> Result<(), Fault> {
+        self.flush()?;
         if self.closed {
             return Ok(());
         }
@@ -52,8 +69,9 @@ impl Output {
         if self.closed {
             return Ok(());
         }
-        let flushed = self.to.flush();
-        self.noted(flushed)
+        let written = self.to.write_all(self.held.as_bytes());
+        self.held.clear();
+        self.noted(written)
     }
 
     fn noted(&mut self, result: io::Result<()>) -> Result<(), Fault> {
@@ -64,7 +82,7 @@ impl Output {
                 Ok(())
             }
             Err(error) => {
-                // What is still held back shall not be tried again.
+                // Nothing more shall be tried.
                 self.closed = true;
                 Err(not_written(&error))
             }

@@ -1,8 +1,8 @@
 //! Plain reading of a module's bytes: chunks, blocks and numbers.
 //!
 //! It decides nothing. The library says whether a module is accepted and what is wrong with it; this only finds the bytes that the
-//! words of a refusal speak of (explain.rs), and cuts an accepted module into small ones (small.rs). It is tested, not proved. Every
-//! reading is checked against the end, and gives nothing where there is nothing.
+//! words of a refusal speak of (explain.rs). It is tested, not proved. Every reading is checked against the end, and gives nothing
+//! where there is nothing.
 
 /// The identifier of a chunk.
 pub type Name = [u8; 4];

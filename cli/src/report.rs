@@ -1,166 +1,194 @@
 //! `dbm0 report`: the page of a module for the register.
 
 use std::ffi::OsStr;
-use std::fmt::Write;
 
 use crate::fault::{Fault, FINE};
 use crate::input;
 use crate::json;
-use crate::library::{Envelope, Instrument, Sample, Song};
-use crate::names::quoted;
+use crate::library;
+use crate::names::{self, Quoted};
 use crate::output::Output;
-use crate::records::{self, loop_kind, points, Loop, Report};
+use crate::records::{self, Envelope, Instrument, Loop, Report, Sample, Song};
+use crate::text::{put, Hex, Many};
 
 pub fn run(file: &OsStr, as_json: bool, out: &mut Output) -> Result<u8, Fault> {
     let module = input::read(file)?;
-    let report =
-        records::gather(&module).map_err(|refusal| Fault::refused(file, &module, refusal))?;
+    let shown =
+        library::records(&module).map_err(|refusal| Fault::refused(file, &module, refusal))?;
+    let report = Report::of(&shown).ok_or_else(|| not_understood(file))?;
     if as_json {
-        json::write(file, &report, out)?;
+        json::write(file, module.len(), &report, out)?;
     } else {
-        page(&report, out)?;
+        page(module.len(), &report, out)?;
     }
     out.flush()?;
     Ok(FINE)
 }
 
+/// What the library writes is proved, so this is never told. Should it be, nothing is printed that is not there.
+fn not_understood(file: &OsStr) -> Fault {
+    Fault::failed(format!(
+        "{}: the records of the library are not as expected: build the program again with its own archives",
+        names::file(file)
+    ))
+}
+
 /// One line for each thing. Songs, patterns and envelopes are counted from 0, instruments and samples from 1.
-fn page(report: &Report, out: &mut Output) -> Result<(), Fault> {
-    summary(report, out)?;
-    for (number, (song, playlist)) in report.songs.iter().enumerate() {
-        out.line(&song_line(number, song, playlist))?;
+fn page(bytes: usize, report: &Report, out: &mut Output) -> Result<(), Fault> {
+    out.put(|text| summary(text, bytes, report))?;
+    for (number, song) in report.songs.iter().enumerate() {
+        out.put(|text| song_line(text, number, song))?;
     }
     for (index, instrument) in report.instruments.iter().enumerate() {
-        out.line(&instrument_line(index + 1, instrument))?;
+        out.put(|text| instrument_line(text, index + 1, instrument))?;
     }
-    for (number, rows) in report.patterns.iter().enumerate() {
-        out.line(&format!("pattern {number}: {}", many(*rows, "row")))?;
+    for (number, &rows) in report.patterns.iter().enumerate() {
+        out.put(|text| put!(text, "pattern ", number, ": ", Many(rows, "row"), "\n"))?;
     }
-    for (index, (sample, length)) in report.samples.iter().enumerate() {
-        out.line(&sample_line(index + 1, sample, *length))?;
+    for (index, sample) in report.samples.iter().enumerate() {
+        out.put(|text| sample_line(text, index + 1, sample))?;
     }
     for (kind, envelopes) in envelopes(report) {
         for (number, envelope) in envelopes.iter().enumerate() {
-            out.line(&format!(
-                "{kind} envelope {number}: {}",
-                envelope_words(envelope)
-            ))?;
+            out.put(|text| envelope_line(text, kind, number, envelope))?;
         }
     }
     Ok(())
 }
 
-fn envelopes(report: &Report) -> [(&'static str, &[Envelope]); 2] {
+fn envelopes<'r>(report: &'r Report) -> [(&'static str, &'r [Envelope<'r>]); 2] {
     [
         ("volume", &report.volume_envelopes),
         ("panning", &report.panning_envelopes),
     ]
 }
 
-fn summary(report: &Report, out: &mut Output) -> Result<(), Fault> {
+fn summary(text: &mut String, bytes: usize, report: &Report) {
     let info = report.info;
-    out.line(&format!("version {}", version(report)))?;
-    out.line(&format!("name {}", quoted(&report.name)))?;
-    out.line(&format!("bytes {}", report.bytes))?;
+    put!(text, "version ");
+    version(text, report);
+    put!(
+        text,
+        "\nname ",
+        Quoted(report.name),
+        "\nbytes ",
+        bytes,
+        "\n"
+    );
     let counts = [
-        ("instruments", info.instruments),
-        ("samples", info.samples),
-        ("songs", info.songs),
-        ("patterns", info.patterns),
-        ("tracks", info.tracks),
+        ("instruments ", info.instruments),
+        ("samples ", info.samples),
+        ("songs ", info.songs),
+        ("patterns ", info.patterns),
+        ("tracks ", info.tracks),
     ];
     for (what, count) in counts {
-        out.line(&format!("{what} {count}"))?;
+        put!(text, what, count, "\n");
     }
     for (kind, envelopes) in envelopes(report) {
-        out.line(&format!("{kind} envelopes {}", envelopes.len()))?;
+        put!(text, kind, " envelopes ", envelopes.len(), "\n");
     }
-    Ok(())
 }
 
 /// The revision is two decimal digits of four bits each, and always printed as two.
-pub fn version(report: &Report) -> String {
-    let stored = report.version;
-    format!("{}.{:02x}", stored.version, stored.revision)
+pub fn version(text: &mut String, report: &Report) {
+    put!(text, report.version, ".", Hex(report.revision));
 }
 
-fn song_line(number: usize, song: &Song, playlist: &[u16]) -> String {
-    let mut line = format!("song {number} {}: patterns", quoted(&song.name));
-    if playlist.is_empty() {
-        line.push_str(" none");
+fn song_line(text: &mut String, number: usize, song: &Song) {
+    put!(text, "song ", number, " ", Quoted(song.name), ": patterns");
+    if song.length() == 0 {
+        put!(text, " none");
     }
-    for pattern in playlist {
-        let _ = write!(line, " {pattern}");
+    for pattern in song.playlist() {
+        put!(text, " ", pattern);
     }
-    line
+    put!(text, "\n");
 }
 
-fn instrument_line(number: usize, instrument: &Instrument) -> String {
-    let sample = match instrument.sample {
-        0 => "no sample".to_string(),
-        sample => format!("sample {sample}"),
-    };
-    format!(
-        "instrument {number} {}: {sample}, volume {}, panning {}, rate {}, {}",
-        quoted(&instrument.name),
+fn instrument_line(text: &mut String, number: usize, instrument: &Instrument) {
+    put!(
+        text,
+        "instrument ",
+        number,
+        " ",
+        Quoted(instrument.name),
+        ": "
+    );
+    match instrument.sample {
+        0 => put!(text, "no sample"),
+        sample => put!(text, "sample ", sample),
+    }
+    put!(
+        text,
+        ", volume ",
         instrument.volume,
-        instrument.panning,
-        instrument.rate,
-        loop_words(instrument)
-    )
+        ", panning ",
+        instrument.panning
+    );
+    put!(text, ", rate ", instrument.rate, ", ");
+    loop_words(text, instrument);
+    put!(text, "\n");
 }
 
 /// The kind, and start + length. What is stored of a loop that is none is told too, unless it is nothing.
-fn loop_words(instrument: &Instrument) -> String {
-    let numbers = format!("{} + {}", instrument.loop_start, instrument.loop_length);
-    match loop_kind(instrument) {
-        Loop::Forward => format!("forward loop {numbers}"),
-        Loop::PingPong => format!("ping-pong loop {numbers}"),
-        Loop::None if instrument.loop_start == 0 && instrument.loop_length == 0 => {
-            "no loop".to_string()
-        }
-        Loop::None => format!("no loop (stored: {numbers})"),
+fn loop_words(text: &mut String, instrument: &Instrument) {
+    let (start, length) = (instrument.loop_start, instrument.loop_length);
+    match instrument.loop_kind() {
+        Loop::Forward => put!(text, "forward loop ", start, " + ", length),
+        Loop::PingPong => put!(text, "ping-pong loop ", start, " + ", length),
+        Loop::None if start == 0 && length == 0 => put!(text, "no loop"),
+        Loop::None => put!(text, "no loop (stored: ", start, " + ", length, ")"),
     }
 }
 
-fn sample_line(number: usize, sample: &Sample, length: u64) -> String {
-    format!(
-        "sample {number}: {} bits, {}, {}",
-        sample.width,
-        many(sample.frames, "frame"),
-        many(length, "byte")
-    )
+fn sample_line(text: &mut String, number: usize, sample: &Sample) {
+    put!(text, "sample ", number, ": ", sample.width, " bits, ");
+    put!(
+        text,
+        Many(sample.frames, "frame"),
+        ", ",
+        Many(sample.length(), "byte"),
+        "\n"
+    );
 }
 
 /// Sustain points and the loop are told where they are in use.
-fn envelope_words(envelope: &Envelope) -> String {
-    let mut words = format!("instrument {}, ", envelope.instrument);
-    words.push_str(match records::has(envelope, records::ON) {
-        true => "on",
-        false => "off",
-    });
-    if records::has(envelope, records::FIRST_SUSTAIN) {
-        let _ = write!(words, ", first sustain at point {}", envelope.first_sustain);
+fn envelope_line(text: &mut String, kind: &str, number: usize, envelope: &Envelope) {
+    put!(
+        text,
+        kind,
+        " envelope ",
+        number,
+        ": instrument ",
+        envelope.instrument
+    );
+    put!(
+        text,
+        if envelope.has(records::ON) {
+            ", on"
+        } else {
+            ", off"
+        }
+    );
+    if envelope.has(records::FIRST_SUSTAIN) {
+        put!(text, ", first sustain at point ", envelope.first_sustain);
     }
-    if records::has(envelope, records::LOOP) {
-        let (first, last) = (envelope.loop_first, envelope.loop_last);
-        let _ = write!(words, ", loop from point {first} to {last}");
+    if envelope.has(records::LOOP) {
+        put!(
+            text,
+            ", loop from point ",
+            envelope.loop_first,
+            " to ",
+            envelope.loop_last
+        );
     }
-    if records::has(envelope, records::SECOND_SUSTAIN) {
-        let point = envelope.second_sustain;
-        let _ = write!(words, ", second sustain at point {point}");
+    if envelope.has(records::SECOND_SUSTAIN) {
+        put!(text, ", second sustain at point ", envelope.second_sustain);
     }
-    words.push_str(", points");
-    for (position, value) in points(envelope) {
-        let _ = write!(words, " {position}:{value}");
+    put!(text, ", points");
+    for (position, value) in envelope.points() {
+        put!(text, " ", position, ":", value);
     }
-    words
-}
-
-/// `1 row`, `2 rows`.
-fn many(count: impl Into<u64>, noun: &str) -> String {
-    match count.into() {
-        1 => format!("1 {noun}"),
-        count => format!("{count} {noun}s"),
-    }
+    put!(text, "\n");
 }

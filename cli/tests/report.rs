@@ -7,8 +7,9 @@ use std::path::{Path, PathBuf};
 use std::process::Command;
 
 use common::{escaped, run, run_on, sample, sample_bytes, text, Folder, PROGRAM};
-use reference::draft::{Chunk, Instrument, Pattern, Sample, Song, Tune};
+use reference::draft::{Chunk, Envelope, Instrument, Pattern, Sample, Song, Tune};
 use reference::generate::{module, Most, Random};
+use reference::module::read;
 use reference::records::{self, Kind};
 
 const CAROUSEL: &str = "\
@@ -516,6 +517,120 @@ fn large_modules() {
         first.starts_with("song 3 \"song\": patterns 0 3 6 9 "),
         "{first}"
     );
+}
+
+/// The page of a module, as the second program has taken it apart.
+fn expected_page(bytes: &[u8]) -> String {
+    let module = read(bytes).expect("an accepted module");
+    let (header, info) = (module.header, module.info);
+    let mut page = format!(
+        "version {}.{:02x}\nname \"{}\"\nbytes {}\ninstruments {}\nsamples {}\nsongs {}\npatterns {}\ntracks {}\n\
+         volume envelopes {}\npanning envelopes {}\n",
+        header.version,
+        header.revision,
+        escaped(module.name.unwrap_or_default()),
+        bytes.len(),
+        info.instruments,
+        info.samples,
+        info.songs,
+        info.patterns,
+        info.tracks,
+        module.volume_envelopes.len(),
+        module.panning_envelopes.len()
+    );
+    for (number, song) in module.songs.iter().enumerate() {
+        page += &format!("song {number} \"{}\": patterns", escaped(song.name));
+        if song.playlist.bytes.is_empty() {
+            page += " none";
+        }
+        for entry in song.playlist.numbers() {
+            page += &format!(" {}", entry.value);
+        }
+        page += "\n";
+    }
+    for (index, instrument) in module.instruments.iter().enumerate() {
+        assert!(!instrument.is_looped() && instrument.sample.value == 0);
+        page += &format!(
+            "instrument {} \"{}\": no sample, volume {}, panning {}, rate {}, no loop\n",
+            index + 1,
+            escaped(instrument.name),
+            instrument.volume.value,
+            instrument.panning.signed(),
+            instrument.rate.value
+        );
+    }
+    for (number, pattern) in module.patterns.iter().enumerate() {
+        page += &format!("pattern {number}: {} rows\n", pattern.rows);
+    }
+    assert!(module.samples.is_empty());
+    for (kind, envelopes, scaled) in [
+        ("volume", &module.volume_envelopes, false),
+        ("panning", &module.panning_envelopes, header.version == 2),
+    ] {
+        for (number, envelope) in envelopes.iter().enumerate() {
+            let on = if envelope.has(0) { "on" } else { "off" };
+            page += &format!(
+                "{kind} envelope {number}: instrument {}, {on}, points",
+                envelope.instrument.value
+            );
+            assert!(envelope.flags.value <= 1);
+            for (position, value) in envelope.points_in_use() {
+                let value = match scaled {
+                    true => 4 * value.value as i64 - 128,
+                    false => value.signed(),
+                };
+                page += &format!(" {}:{value}", position.value);
+            }
+            page += "\n";
+        }
+    }
+    page
+}
+
+/// As many songs as there may be, and very many envelopes: both reports are what the second program says.
+#[test]
+fn very_many_records() {
+    let envelopes = |count: u32, least: i16| {
+        let of = |number: u32| Envelope {
+            instrument: 1 + (number % 255) as u16,
+            flags: (number % 2) as u8,
+            sections: (number % 32) as u8,
+            points: (0..32)
+                .map(|point| {
+                    (
+                        number as u16 ^ point << 11,
+                        least + point as i16 + (number % 33) as i16,
+                    )
+                })
+                .collect(),
+            ..Envelope::default()
+        };
+        Some((0..count).map(of).collect())
+    };
+    let folder = Folder::new();
+    for (version, least) in [(2, 0), (3, -70)] {
+        let tune = Tune {
+            version,
+            revision: 0x21,
+            songs: (0..32_767)
+                .map(|song: u32| Song {
+                    name: format!("song \"{song}\"").into_bytes(),
+                    playlist: (0..song % 64)
+                        .map(|entry| (song * 7 + entry * entry) as u16 % 1_024)
+                        .collect(),
+                })
+                .collect(),
+            instruments: vec![Instrument::default(); 255],
+            patterns: vec![Pattern::default(); 1_024],
+            volume_envelopes: envelopes(13_000, 0),
+            panning_envelopes: envelopes(12_000, least),
+            ..Tune::default()
+        };
+        let module = tune.bytes();
+        let (report, page) = reported(&folder, &version.to_string(), &module);
+        assert!(page == expected_page(&module), "version {version}");
+        assert!(read_back("page", &[report])[0] == page, "version {version}");
+    }
 }
 
 /// A file whose name cannot stand in a line or in JSON as it is.
