@@ -5,6 +5,7 @@ use std::fmt::Debug;
 use crate::interface::{self, Answer, ModuleAnswer};
 use reference::corpus::Case;
 use reference::expect::MOST_ROOM;
+use reference::generate::Random;
 use reference::refusal::Refusal;
 use reference::{module, pattern};
 
@@ -192,6 +193,49 @@ pub fn module(library: Library, module: &[u8]) -> Result<(), String> {
     }
     let expected = (REFERENCE.check_module)(module);
     same_answer("check_module", is, expected).map_err(told)
+}
+
+/// A call that fills an output from a module, of a library or of the reference.
+pub type Fill = fn(&[u8], &mut Lent) -> Answer;
+
+/// A call with one length of the output: it answers and writes what the reference does, and the module stays.
+pub fn into_room(
+    call: &str,
+    library: Fill,
+    reference: Fill,
+    module: &[u8],
+    room: usize,
+) -> Result<(), String> {
+    let stored = module.to_vec();
+    let (mut is_lent, mut expected_lent) = (Lent::new(room), Lent::new(room));
+    let is = library(module, &mut is_lent);
+    let expected = reference(module, &mut expected_lent);
+    same_answer(call, is, expected)
+        .and_then(|()| same_bytes(call, &is_lent, &expected_lent))
+        .and_then(|()| match module == stored {
+            true => Ok(()),
+            false => Err("the module is changed".to_string()),
+        })
+        .map_err(|what| with_module(format!("{what} (with room {room})"), &stored))
+}
+
+/// Lengths of an output: around the needed one and around the module's own, none, shorter and longer.
+pub fn rooms(reference: Fill, module: &[u8], random: &mut Random) -> Vec<usize> {
+    let needed = match reference(module, &mut Lent::new(0)) {
+        Answer {
+            number: 17, place, ..
+        } => place as usize,
+        _ => module.len(),
+    };
+    let short = random.below(needed as u64 + 1) as usize;
+    let more = 3 + random.below(100) as usize;
+    let mut rooms = vec![0, 1, short, needed + more];
+    for length in [needed, module.len()] {
+        rooms.extend(length.saturating_sub(2)..=length + 2);
+    }
+    rooms.sort_unstable();
+    rooms.dedup();
+    rooms
 }
 
 /// What differs, with the whole module where it is not too long to be read.

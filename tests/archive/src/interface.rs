@@ -74,6 +74,7 @@ extern "C" {
         out: *mut u8,
         out_length: usize,
     ) -> Answer;
+    fn dbm0_records(module: *const u8, length: usize, out: *mut u8, out_length: usize) -> Answer;
     fn dbm0_repack(module: *const u8, length: usize, out: *mut u8, out_length: usize) -> Answer;
 }
 
@@ -177,6 +178,24 @@ pub fn frame(module: &[u8], sample: usize, frame: usize) -> Told<i16> {
 pub fn all_frames(module: &[u8], sample: usize, out: &mut [u8]) -> Answer {
     let (start, length) = (out.as_mut_ptr(), out.len());
     unsafe { dbm0_all_frames(module.as_ptr(), module.len(), sample, start, length) }
+}
+
+pub fn records(module: &[u8], out: &mut [u8]) -> Answer {
+    let (start, length) = (out.as_mut_ptr(), out.len());
+    unsafe { dbm0_records(module.as_ptr(), module.len(), start, length) }
+}
+
+/// The records of a module into an output of no bytes at NULL.
+pub fn records_into_null(module: &[u8]) -> Answer {
+    // The header allows NULL where the length is 0.
+    unsafe { dbm0_records(module.as_ptr(), module.len(), std::ptr::null_mut(), 0) }
+}
+
+/// The records of a module of no bytes at NULL.
+pub fn records_of_null(out: &mut [u8]) -> Answer {
+    let (start, length) = (out.as_mut_ptr(), out.len());
+    // The header allows NULL where the length is 0.
+    unsafe { dbm0_records(std::ptr::null(), 0, start, length) }
 }
 
 pub fn repack(module: &[u8], out: &mut [u8]) -> Answer {

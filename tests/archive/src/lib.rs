@@ -2,6 +2,7 @@
 
 #![deny(unsafe_code)]
 
+pub mod all_records;
 pub mod compare;
 pub mod interface;
 pub mod large;

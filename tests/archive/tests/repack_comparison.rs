@@ -1,16 +1,16 @@
 //! The comparison of repacked modules itself: it finds nothing between the reference and the reference, and it notices each of these
 //! wrong repackers.
 
-use archive::compare::{answer, Lent};
+use archive::compare::{answer, Fill, Lent};
 use archive::interface::Answer;
 use archive::modules;
 use archive::queries;
-use archive::repacking::{compare, keeps, Repack, REFERENCE};
+use archive::repacking::{compare, keeps, REFERENCE};
 use reference::generate::Random;
 use reference::refusal::Refusal;
 
 /// How many of these modules differ from the reference, and of how many the library itself does not keep what it must.
-fn differences(library: Repack) -> (usize, usize) {
+fn differences(library: Fill) -> (usize, usize) {
     let modules = modules::some(200);
     let differ = |module: &&Vec<u8>| compare(library, module, &mut Random::new(1)).is_err();
     let lose = |module: &&Vec<u8>| {
@@ -24,14 +24,14 @@ fn differences(library: Repack) -> (usize, usize) {
 
 /// Noticed by the comparison, and also without the reference's repacker.
 #[track_caller]
-fn noticed(library: Repack) {
+fn noticed(library: Fill) {
     let (differ, lose) = differences(library);
     assert!(differ >= 3 && lose >= 3, "only {differ} and {lose}");
 }
 
 /// Noticed by the comparison: it keeps what it must, but is not what is asked for, or is wrong in an output of another length.
 #[track_caller]
-fn noticed_by_the_comparison_alone(library: Repack) {
+fn noticed_by_the_comparison_alone(library: Fill) {
     let (differ, lose) = differences(library);
     assert!(differ >= 3, "only {differ}");
     assert_eq!(lose, 0);
@@ -84,7 +84,7 @@ fn nothing_between_the_reference_and_itself() {
 #[test]
 fn stand_ins() {
     noticed(|module, lent| REFERENCE(module, &mut Lent::new(lent.out().len())));
-    let copied: Repack = |module, lent| {
+    let copied: Fill = |module, lent| {
         let answer = REFERENCE(module, lent);
         if answer.number != 0 || lent.out().len() < module.len() {
             return answer;
@@ -274,11 +274,11 @@ fn bytes_that_should_stay() {
         }
         answer
     });
-    let before: Repack = |module, lent| {
+    let before: Fill = |module, lent| {
         lent.bytes[63] ^= 1;
         REFERENCE(module, lent)
     };
-    let behind: Repack = |module, lent| {
+    let behind: Fill = |module, lent| {
         let end = 64 + lent.out().len();
         lent.bytes[end] ^= 1;
         REFERENCE(module, lent)
