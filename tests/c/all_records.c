@@ -1,0 +1,271 @@
+/*
+ * All records of a module at once with libdbm0.a, called from C: expectations
+ * typed by hand.
+ *
+ * Prints one line for each expectation that fails and, last, how many passed
+ * and failed. The exit status is 1 if any failed.
+ */
+
+#define _DEFAULT_SOURCE /* for MAP_ANONYMOUS */
+
+#include "dbm0.h"
+#include "expect.h"
+#include "lent.h"
+
+#include <stdio.h>
+#include <string.h>
+
+#define LEND(bytes) lend((bytes), sizeof(bytes) - 1)
+
+/* With an output of so many bytes these records are written, and what stands behind them stays. */
+static void written(const char *bytes, size_t needed, size_t room, int line)
+{
+    uint8_t *out = output(room);
+    dbm0_length_answer answer = dbm0_records(module, length, out, room);
+
+    count(answer.number == 0 && answer.place == 0, line, "it is refused");
+    count(answer.length == needed, line, "another length");
+    count(memcmp(out, bytes, needed) == 0, line, "other bytes");
+    count(rest_is_filled(room, needed), line, "bytes behind or before it do not stay");
+}
+
+/* With an output of so many bytes it is refused, and nothing is written. */
+static void refused(uint64_t number, uint64_t place, size_t room, int line)
+{
+    dbm0_length_answer answer = dbm0_records(module, length, output(room), room);
+
+    count(answer.number == number && answer.place == place, line, "another refusal");
+    count(answer.length == 0, line, "a length beside a refusal");
+    count(rest_is_filled(room, 0), line, "a refusal writes");
+}
+
+/* The records of the module are these, with outputs from none to longer than the module and 60 bytes. */
+static void shows(
+    const char *bytes, size_t bytes_length, const char *records, size_t needed, int line)
+{
+    size_t room;
+
+    lend(bytes, bytes_length);
+    for (room = 0; room < needed; room++)
+        refused(DBM0_MODULE_ROOM, needed, room, line);
+    for (room = needed; room < bytes_length + 63; room++)
+        written(records, needed, room, line);
+    count(memcmp(module, bytes, bytes_length) == 0, line, "the module is changed");
+}
+
+#define SHOWS(bytes, records) \
+    shows((bytes), sizeof(bytes) - 1, (records), sizeof(records) - 1, __LINE__)
+
+#define TIMES_4(bytes) bytes bytes bytes bytes
+#define TIMES_11(bytes) TIMES_4(bytes) TIMES_4(bytes) bytes bytes bytes
+#define ZEROS_4 "\0\0\0\0"
+#define NO_NAME TIMES_11(ZEROS_4)
+
+/* 58 bytes, and 60 of records. */
+#define SMALLEST \
+    "DBM0" "\x03\0\0\0" "INFO" "\0\0\0\x0A" "\0\0\0\0\0\0\0\0\0\x04" \
+    "SONG" "\0\0\0\0" "INST" "\0\0\0\0" "PATT" "\0\0\0\0" "SMPL" "\0\0\0\0"
+#define SMALLEST_RECORDS \
+    "\x03\0" NO_NAME "\0\0\0\0\0\0\0\0\0\x04" "\0\0" "\0\0"
+
+/*
+ * Records of all kinds, the chunks in an order of their own.
+ *
+ *      0 the version, revision $21
+ *      8 VENV   16 count, 18 the envelope
+ *    154 NAME
+ *    206 INFO   214 instruments, 216 samples, 218 songs, 220 patterns, 222 tracks
+ *    224 PENV   232 count, 234 the envelope, its first point at 242
+ *    370 SONG   378 the first song, its entries at 424, 426 and 428; 430 the second
+ *    476 INST   484 the instrument, its sample at 514, volume at 516, loop length at 526
+ *    534 ABCD, 1 byte
+ *    543 PATT   551 two rows, 563 one row and a filler
+ *    571 SMPL   579 8 bits, 591 16 bits, 601 32 bits, to 609
+ */
+#define NAME "The name of a module, forty-four bytes long."
+#define SONGS \
+    "Bytes that are \xFC and \x01, and zeros: \0 \0\0\0\0\0\0\0" \
+    "\0\x03" "\0\x01" "\0\0" "\0\x01" \
+    NO_NAME "\0\0"
+#define INSTRUMENT \
+    "An instrument, of thirty bytes" \
+    "\0\x01" "\0\x40" "\0\0\x20\xAB" "\0\0\0\x01" "\0\0\0\x03" "\xFF\x80" "\0\x02"
+#define INFO "\0\x01" "\0\x03" "\0\x02" "\0\x02" "\0\x06"
+#define UNUSED "\x12\x34\x56\x78"
+#define UNUSED_28 TIMES_11(UNUSED) TIMES_11(UNUSED) TIMES_4(UNUSED) UNUSED UNUSED
+#define ZEROS_28 TIMES_11(ZEROS_4) TIMES_11(ZEROS_4) TIMES_4(ZEROS_4) ZEROS_4 ZEROS_4
+/* Four points are in use; the last stands at $FFFF. */
+#define VOLUME "\0\x01" "\x0F\x03" "\x03\x01\x02\0" \
+    "\0\0\0\0" "\0\x01\0\x40" "\0\x02\0\x21" "\xFF\xFF\0\x40"
+
+#define FULL(version, panning) \
+    "DBM0" version "\x21\xDE\xAD" \
+    "VENV" "\0\0\0\x8A" "\0\x01" VOLUME UNUSED_28 \
+    "NAME" "\0\0\0\x2C" NAME \
+    "INFO" "\0\0\0\x0A" INFO \
+    "PENV" "\0\0\0\x8A" "\0\x01" panning \
+    "SONG" "\0\0\0\x62" SONGS \
+    "INST" "\0\0\0\x32" INSTRUMENT \
+    "ABCD" "\0\0\0\x01" "Z" \
+    "PATT" "\0\0\0\x14" "\0\x02" "\0\0\0\x06" "\x02\x03\x47\x01\0\0" "\0\x01" "\0\0\0\x01" "\0" "\x55" \
+    "SMPL" "\0\0\0\x1E" "\0\0\0\x01" "\0\0\0\x04" "PATT" "\0\0\0\x02" "\0\0\0\x01" "\x80\0" \
+    "\0\0\0\x04" "\0\0\0\0"
+
+/* 60 bytes, the songs, the instrument, the rows of two patterns, three samples, two envelopes: 502. */
+#define FULL_RECORDS(version, panning) \
+    version "\x21" NAME INFO "\0\x01" "\0\x01" \
+    SONGS INSTRUMENT \
+    "\0\x02" "\0\x01" \
+    "\0\x08" "\0\0\0\x04" "\0\x10" "\0\0\0\x01" "\0\x20" "\0\0\0\0" \
+    VOLUME ZEROS_28 \
+    panning
+
+/* One point in use, or all: in version 3 signed and as stored, in version 2 4v - 128. S1, L1, L2 and S2 are as stored. */
+#define ONE_POINT "\0\x01" "\0\0" "\x20\x21\x22\x23"
+#define ALL_POINTS "\0\x01" "\x01\x1F" "\xFF\0\0\xFF"
+#define FULL_3 FULL("\x03", ONE_POINT "\0\x07\xFF\x80" UNUSED UNUSED UNUSED UNUSED_28)
+#define FULL_3_RECORDS \
+    FULL_RECORDS("\x03", ONE_POINT "\0\x07\xFF\x80" ZEROS_4 ZEROS_4 ZEROS_4 ZEROS_28)
+#define FULL_2 FULL("\x02", ONE_POINT "\0\x07\0\x10" UNUSED UNUSED UNUSED UNUSED_28)
+#define FULL_2_RECORDS \
+    FULL_RECORDS("\x02", ONE_POINT "\0\x07\xFF\xC0" ZEROS_4 ZEROS_4 ZEROS_4 ZEROS_28)
+
+/* Four times eight points. */
+#define EIGHT_3 \
+    "\0\0\xFF\x80" "\0\x01\0\x80" "\0\x02\0\0" "\0\x03\xFF\xFF" \
+    "\xFF\xFF\0\x01" "\0\x04\0\x7F" "\0\x05\xFF\x81" "\0\x06\0\x40"
+#define EIGHT_2 \
+    "\0\0\0\0" "\0\x01\0\x40" "\0\x02\0\x20" "\0\x03\0\x1F" \
+    "\xFF\xFF\0\x21" "\0\x04\0\x3F" "\0\x05\0\x01" "\0\x06\0\x30"
+#define EIGHT_2_SHOWN \
+    "\0\0\xFF\x80" "\0\x01\0\x80" "\0\x02\0\0" "\0\x03\xFF\xFC" \
+    "\xFF\xFF\0\x04" "\0\x04\0\x7C" "\0\x05\xFF\x84" "\0\x06\0\x40"
+
+static void modules(void)
+{
+    HOLDS(sizeof(SMALLEST) - 1 == 58 && sizeof(SMALLEST_RECORDS) - 1 == 60);
+    SHOWS(SMALLEST, SMALLEST_RECORDS);
+    HOLDS(sizeof(FULL_3) - 1 == 609 && sizeof(FULL_3_RECORDS) - 1 == 502);
+    SHOWS(FULL_3, FULL_3_RECORDS);
+    SHOWS(FULL_2, FULL_2_RECORDS);
+    SHOWS(FULL("\x03", ALL_POINTS TIMES_4(EIGHT_3)), FULL_RECORDS("\x03", ALL_POINTS TIMES_4(EIGHT_3)));
+    SHOWS(FULL("\x02", ALL_POINTS TIMES_4(EIGHT_2)), FULL_RECORDS("\x02", ALL_POINTS TIMES_4(EIGHT_2_SHOWN)));
+}
+
+/* A name, and envelopes of which there are none. */
+static void behind_the_others(void)
+{
+    SHOWS(SMALLEST "VENV" "\0\0\0\x02" "\0\0" "PENV" "\0\0\0\x02" "\0\0", SMALLEST_RECORDS);
+    SHOWS(SMALLEST "NAME" "\0\0\0\x2C" NAME,
+          "\x03\0" NAME "\0\0\0\0\0\0\0\0\0\x04" "\0\0" "\0\0");
+    /* Bytes of NAME that are zeros stay where they are. */
+    SHOWS(SMALLEST "NAME" "\0\0\0\x2C" "\0\xFF" TIMES_4("\0 \0 ") TIMES_4("\0\0\0\0\0\0") "\x80\0",
+          "\x03\0" "\0\xFF" TIMES_4("\0 \0 ") TIMES_4("\0\0\0\0\0\0") "\x80\0" "\0\0\0\0\0\0\0\0\0\x04" "\0\0" "\0\0");
+}
+
+/* A byte of the module is another one: this refusal, whatever the output, and then the byte is as it was. */
+static void changed(size_t at, uint8_t byte, uint64_t number, uint64_t place, int line)
+{
+    static const size_t rooms[] = {0, 1, 60, 501, 502, 609, 700};
+    uint8_t stored = module[at];
+    size_t k;
+
+    module[at] = byte;
+    for (k = 0; k < sizeof rooms / sizeof *rooms; k++)
+        refused(number, place, rooms[k], line);
+    module[at] = stored;
+}
+
+#define CHANGED(at, byte, number, place) changed((at), (byte), (number), (place), __LINE__)
+
+static void refused_modules(void)
+{
+    LEND(FULL_3);
+    CHANGED(0, 'X', DBM0_MODULE_NOT_DBM0, 0);
+    CHANGED(4, 4, DBM0_MODULE_VERSION, 4);
+    CHANGED(578, 0x1F, DBM0_MODULE_CHUNK_CUT, 571);
+    CHANGED(534, 'a', DBM0_MODULE_IDENTIFIER, 534);
+    CHANGED(373, 'H', DBM0_MODULE_CHUNK_MISSING, 609);
+    CHANGED(223, 5, DBM0_MODULE_INFO_RANGE, 222);
+    CHANGED(219, 3, DBM0_MODULE_BLOCKS, 370);
+    CHANGED(425, 2, DBM0_MODULE_REFERENCE, 424);
+    CHANGED(515, 4, DBM0_MODULE_REFERENCE, 514);
+    CHANGED(517, 65, DBM0_MODULE_FIELD_RANGE, 516);
+    CHANGED(235, 2, DBM0_MODULE_REFERENCE, 234);
+    CHANGED(244, 1, DBM0_MODULE_FIELD_RANGE, 244);
+    CHANGED(529, 4, DBM0_MODULE_LOOP, 484);
+    CHANGED(558, 0x47, DBM0_MODULE_STREAM_BROKEN, 551);
+    /* Two faults: the first in the order of the checks. */
+    module[558] = 0x47;
+    CHANGED(529, 4, DBM0_MODULE_LOOP, 484);
+    module[558] = 0x03;
+    memcpy(module + 534, "NAME", 4);
+    refused(DBM0_MODULE_CHUNK_REPEATED, 534, 700, __LINE__);
+    memcpy(module + 534, "ABCD", 4);
+    memcpy(module + 8, "SMPL", 4);
+    refused(DBM0_MODULE_BEFORE_INFO, 8, 700, __LINE__);
+    memcpy(module + 8, "INFO", 4);
+    refused(DBM0_MODULE_CHUNK_LENGTH, 8, 700, __LINE__);
+    memcpy(module + 8, "VENV", 4);
+    written(FULL_3_RECORDS, 502, 502, __LINE__);
+    length = 608;
+    refused(DBM0_MODULE_CHUNK_CUT, 571, 700, __LINE__);
+}
+
+/* What is written is what the queries answer. */
+static void queries(void)
+{
+    uint8_t *out;
+    dbm0_envelope_answer envelope;
+    size_t point;
+
+    LEND(FULL_2);
+    out = output(502);
+    HOLDS(dbm0_records(module, length, out, 502).length == 502);
+    HOLDS(dbm0_version(module, length).version == out[0] && dbm0_version(module, length).revision == out[1]);
+    HOLDS(memcmp(dbm0_name(module, length).name, out + 2, 44) == 0);
+    HOLDS(dbm0_info(module, length).songs == out[51] && dbm0_info(module, length).tracks == out[55]);
+    HOLDS(dbm0_volume_envelopes(module, length).count == out[57]);
+    HOLDS(dbm0_panning_envelopes(module, length).count == out[59]);
+    HOLDS(memcmp(dbm0_song(module, length, 0).name, out + 60, 44) == 0);
+    HOLDS(dbm0_song(module, length, 0).length == out[105] && dbm0_entry(module, length, 0, 2).pattern == out[111]);
+    HOLDS(memcmp(dbm0_instrument(module, length, 1).name, out + 158, 30) == 0);
+    HOLDS(dbm0_instrument(module, length, 1).loop_length == out[203]);
+    HOLDS(dbm0_rows(module, length, 0).rows == out[209] && dbm0_rows(module, length, 1).rows == out[211]);
+    HOLDS(dbm0_sample(module, length, 3).width == out[225] && dbm0_sample(module, length, 1).frames == out[217]);
+    envelope = dbm0_panning_envelope(module, length, 0);
+    HOLDS(envelope.first_sustain == out[370] && envelope.second_sustain == out[373]);
+    for (point = 0; point < 32; point++) {
+        const uint8_t *shown = out + 374 + 4 * point;
+        HOLDS(envelope.positions[point] == shown[0] * 256 + shown[1]);
+        HOLDS(envelope.values[point] == (int16_t)(shown[2] * 256 + shown[3]));
+    }
+}
+
+static void nothing(void)
+{
+    dbm0_length_answer answer = dbm0_records(NULL, 0, NULL, 0);
+
+    HOLDS(answer.number == 2 && answer.place == 0 && answer.length == 0);
+    LEND(FULL_3);
+    answer = dbm0_records(module, length, NULL, 0);
+    HOLDS(answer.number == 17 && answer.place == 502 && answer.length == 0);
+    module = NULL, length = 0;
+    refused(DBM0_MODULE_NOT_DBM0, 0, 10, __LINE__);
+    HOLDS(DBM0_VERSION >= 10300);
+}
+
+int main(void)
+{
+    setvbuf(stdout, NULL, _IOLBF, 0);
+    if (!make_memory()) {
+        printf("there is no memory for the tests\n");
+        return 1;
+    }
+    modules();
+    behind_the_others();
+    refused_modules();
+    queries();
+    nothing();
+    return counted();
+}
