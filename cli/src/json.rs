@@ -41,11 +41,11 @@ fn list<Record>(
     record: fn(&mut String, usize, &Record),
     out: &mut Output,
 ) -> Result<(), Fault> {
-    out.put(|text| put!(text, "  \"", name, "\": ["))?;
+    out.put(|text| put!(text; "  \"", name, "\": ["))?;
     let mut between = "\n    ";
     for (index, one) in records.iter().enumerate() {
         out.put(|text| {
-            put!(text, between);
+            put!(text; between);
             record(text, index, one);
         })?;
         between = ",\n    ";
@@ -58,62 +58,25 @@ fn list<Record>(
 
 fn summary(text: &mut String, file: &OsStr, bytes: usize, report: &Report) {
     let info = report.info;
-    put!(text, "{\n  \"schema\": ", SCHEMA, ",\n  \"file\": ");
+    put!(text; "{\n  \"schema\": ", SCHEMA, ",\n  \"file\": ");
     string(text, &names::file(file));
-    put!(
-        text,
-        ",\n  \"bytes\": ",
-        bytes,
-        ",\n  \"version\": {\"text\": \""
-    );
+    put!(text; ",\n  \"bytes\": ", bytes, ",\n  \"version\": {\"text\": \"");
     report::version(text, report);
-    put!(
-        text,
-        "\", \"version\": ",
-        report.version,
-        ", \"revision\": ",
-        report.revision,
-        "},\n  \"name\": "
-    );
+    put!(text; "\", \"version\": ", report.version, ", \"revision\": ", report.revision, "},\n  \"name\": ");
     name(text, report.name);
-    put!(
-        text,
-        ",\n  \"counts\": {\"instruments\": ",
-        info.instruments
-    );
-    put!(
-        text,
-        ", \"samples\": ",
-        info.samples,
-        ", \"songs\": ",
-        info.songs
-    );
-    put!(
-        text,
-        ", \"patterns\": ",
-        info.patterns,
-        ", \"tracks\": ",
-        info.tracks
-    );
-    put!(
-        text,
-        ", \"volume_envelopes\": ",
-        report.volume_envelopes.len()
-    );
-    put!(
-        text,
-        ", \"panning_envelopes\": ",
-        report.panning_envelopes.len(),
-        "},\n"
-    );
+    put!(text; ",\n  \"counts\": {\"instruments\": ", info.instruments);
+    put!(text; ", \"samples\": ", info.samples, ", \"songs\": ", info.songs);
+    put!(text; ", \"patterns\": ", info.patterns, ", \"tracks\": ", info.tracks);
+    put!(text; ", \"volume_envelopes\": ", report.volume_envelopes.len());
+    put!(text; ", \"panning_envelopes\": ", report.panning_envelopes.len(), "},\n");
 }
 
 fn song(text: &mut String, number: usize, song: &Song) {
-    put!(text, "{\"number\": ", number, ", \"name\": ");
+    put!(text; "{\"number\": ", number, ", \"name\": ");
     name(text, song.name);
-    put!(text, ", \"length\": ", song.length(), ", \"playlist\": ");
+    put!(text; ", \"length\": ", song.length(), ", \"playlist\": ");
     array(text, song.playlist());
-    put!(text, "}");
+    put!(text; "}");
 }
 
 fn instrument(text: &mut String, index: usize, instrument: &Instrument) {
@@ -122,107 +85,46 @@ fn instrument(text: &mut String, index: usize, instrument: &Instrument) {
         Loop::Forward => "forward",
         Loop::PingPong => "ping-pong",
     };
-    put!(text, "{\"number\": ", index + 1, ", \"name\": ");
+    put!(text; "{\"number\": ", index + 1, ", \"name\": ");
     name(text, instrument.name);
-    put!(
-        text,
-        ", \"sample\": ",
-        instrument.sample,
-        ", \"volume\": ",
-        instrument.volume
-    );
-    put!(
-        text,
-        ", \"panning\": ",
-        instrument.panning,
-        ", \"rate\": ",
-        instrument.rate
-    );
-    put!(
-        text,
-        ", \"flags\": ",
-        instrument.flags,
-        ", \"loop\": {\"kind\": \"",
-        kind
-    );
-    put!(
-        text,
-        "\", \"start\": ",
-        instrument.loop_start,
-        ", \"length\": ",
-        instrument.loop_length,
-        "}}"
-    );
+    put!(text; ", \"sample\": ", instrument.sample, ", \"volume\": ", instrument.volume);
+    put!(text; ", \"panning\": ", instrument.panning, ", \"rate\": ", instrument.rate);
+    put!(text; ", \"flags\": ", instrument.flags, ", \"loop\": {\"kind\": \"", kind);
+    put!(text; "\", \"start\": ", instrument.loop_start, ", \"length\": ", instrument.loop_length, "}}");
 }
 
 fn pattern(text: &mut String, number: usize, rows: &u16) {
-    put!(text, "{\"number\": ", number, ", \"rows\": ", *rows, "}");
+    put!(text; "{\"number\": ", number, ", \"rows\": ", *rows, "}");
 }
 
 fn sample(text: &mut String, index: usize, sample: &Sample) {
-    put!(
-        text,
-        "{\"number\": ",
-        index + 1,
-        ", \"width\": ",
-        sample.width
-    );
-    put!(
-        text,
-        ", \"frames\": ",
-        sample.frames,
-        ", \"length\": ",
-        sample.length(),
-        "}"
-    );
+    put!(text; "{\"number\": ", index + 1, ", \"width\": ", sample.width);
+    put!(text; ", \"frames\": ", sample.frames, ", \"length\": ", sample.length(), "}");
 }
 
 fn envelope(text: &mut String, number: usize, envelope: &Envelope) {
-    put!(
-        text,
-        "{\"number\": ",
-        number,
-        ", \"instrument\": ",
-        envelope.instrument
-    );
-    put!(
-        text,
-        ", \"flags\": ",
-        envelope.flags,
-        ", \"on\": ",
-        envelope.has(records::ON)
-    );
-    put!(text, ", \"sections\": ", envelope.sections);
-    put!(text, ", \"first_sustain\": ", envelope.first_sustain);
-    put!(
-        text,
-        ", \"loop_first\": ",
-        envelope.loop_first,
-        ", \"loop_last\": ",
-        envelope.loop_last
-    );
-    put!(
-        text,
-        ", \"second_sustain\": ",
-        envelope.second_sustain,
-        ", \"points\": "
-    );
+    put!(text; "{\"number\": ", number, ", \"instrument\": ", envelope.instrument);
+    put!(text; ", \"flags\": ", envelope.flags, ", \"on\": ", envelope.has(records::ON));
+    put!(text; ", \"sections\": ", envelope.sections);
+    put!(text; ", \"first_sustain\": ", envelope.first_sustain);
+    put!(text; ", \"loop_first\": ", envelope.loop_first, ", \"loop_last\": ", envelope.loop_last);
+    put!(text; ", \"second_sustain\": ", envelope.second_sustain, ", \"points\": ");
     array(
         text,
         envelope
             .points()
             .map(|(position, value)| Point { position, value }),
     );
-    put!(text, "}");
+    put!(text; "}");
 }
 
 /// A name: as the text report prints it, without the quotes, and all of its bytes.
 fn name(text: &mut String, bytes: &[u8]) {
-    put!(text, "{\"text\": \"", JsonName(bytes), "\", \"hex\": \"");
+    put!(text; "{\"text\": \"", JsonName(bytes), "\", \"hex\": \"");
     for &byte in bytes {
-        put!(text, Hex(byte));
+        put!(text; Hex(byte));
     }
-    put!(text, "\"}");
+    put!(text; "\"}");
 }
 
 struct Point {
@@ -232,17 +134,17 @@ struct Point {
 
 impl Piece for Point {
     fn put(&self, text: &mut String) {
-        put!(text, "[", self.position, ", ", self.value, "]");
+        put!(text; "[", self.position, ", ", self.value, "]");
     }
 }
 
 fn array(text: &mut String, items: impl Iterator<Item = impl Piece>) {
     let mut between = "[";
     for item in items {
-        put!(text, between, item);
+        put!(text; between, item);
         between = ", ";
     }
-    put!(text, if between == "[" { "[]" } else { "]" });
+    put!(text; if between == "[" { "[]" } else { "]" });
 }
 
 /// A string. The texts that come here have no control characters; should one come, it is escaped.
@@ -252,7 +154,7 @@ fn string(text: &mut String, unquoted: &str) {
         match character {
             '"' => text.push_str("\\\""),
             '\\' => text.push_str("\\\\"),
-            '\0'..='\x1F' => put!(text, "\\u00", Hex(character as u8)),
+            '\0'..='\x1F' => put!(text; "\\u00", Hex(character as u8)),
             _ => text.push(character),
         }
     }

@@ -28,7 +28,7 @@ impl Piece for JsonName<'_> {
 
 pub fn quoted(name: &[u8]) -> String {
     let mut text = String::new();
-    put!(&mut text, Quoted(name));
+    put!(&mut text; Quoted(name));
     text
 }
 
@@ -46,9 +46,9 @@ fn put_escaped(text: &mut String, name: &[u8], backslash: &str) {
         .map_or(0, |last| last + 1);
     for &byte in &name[..end] {
         match byte {
-            b'"' | b'\\' => put!(text, backslash, "x", Hex(byte)),
+            b'"' | b'\\' => put!(text; backslash, "x", Hex(byte)),
             0x20..=0x7E => text.push(char::from(byte)),
-            _ => put!(text, backslash, "x", Hex(byte)),
+            _ => put!(text; backslash, "x", Hex(byte)),
         }
     }
 }
@@ -76,5 +76,5 @@ pub fn file(name: &OsStr) -> String {
 }
 
 fn push_hex(text: &mut String, byte: u8) {
-    put!(text, "\\x", Hex(byte));
+    put!(text; "\\x", Hex(byte));
 }

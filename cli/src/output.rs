@@ -52,7 +52,7 @@ impl Output {
     }
 
     pub fn line(&mut self, text: &str) -> Result<(), Fault> {
-        self.put(|held| put!(held, text, "\n"))
+        self.put(|held| put!(held; text, "\n"))
     }
 
     pub fn bytes(&mut self, bytes: &[u8]) -> Result<(), Fault> {

@@ -43,7 +43,7 @@ fn page(bytes: usize, report: &Report, out: &mut Output) -> Result<(), Fault> {
         out.put(|text| instrument_line(text, index + 1, instrument))?;
     }
     for (number, &rows) in report.patterns.iter().enumerate() {
-        out.put(|text| put!(text, "pattern ", number, ": ", Many(rows, "row"), "\n"))?;
+        out.put(|text| put!(text; "pattern ", number, ": ", Many(rows, "row"), "\n"))?;
     }
     for (index, sample) in report.samples.iter().enumerate() {
         out.put(|text| sample_line(text, index + 1, sample))?;
@@ -65,16 +65,9 @@ fn envelopes<'r>(report: &'r Report) -> [(&'static str, &'r [Envelope<'r>]); 2] 
 
 fn summary(text: &mut String, bytes: usize, report: &Report) {
     let info = report.info;
-    put!(text, "version ");
+    put!(text; "version ");
     version(text, report);
-    put!(
-        text,
-        "\nname ",
-        Quoted(report.name),
-        "\nbytes ",
-        bytes,
-        "\n"
-    );
+    put!(text; "\nname ", Quoted(report.name), "\nbytes ", bytes, "\n");
     let counts = [
         ("instruments ", info.instruments),
         ("samples ", info.samples),
@@ -83,112 +76,73 @@ fn summary(text: &mut String, bytes: usize, report: &Report) {
         ("tracks ", info.tracks),
     ];
     for (what, count) in counts {
-        put!(text, what, count, "\n");
+        put!(text; what, count, "\n");
     }
     for (kind, envelopes) in envelopes(report) {
-        put!(text, kind, " envelopes ", envelopes.len(), "\n");
+        put!(text; kind, " envelopes ", envelopes.len(), "\n");
     }
 }
 
 /// The revision is two decimal digits of four bits each, and always printed as two.
 pub fn version(text: &mut String, report: &Report) {
-    put!(text, report.version, ".", Hex(report.revision));
+    put!(text; report.version, ".", Hex(report.revision));
 }
 
 fn song_line(text: &mut String, number: usize, song: &Song) {
-    put!(text, "song ", number, " ", Quoted(song.name), ": patterns");
+    put!(text; "song ", number, " ", Quoted(song.name), ": patterns");
     if song.length() == 0 {
-        put!(text, " none");
+        put!(text; " none");
     }
     for pattern in song.playlist() {
-        put!(text, " ", pattern);
+        put!(text; " ", pattern);
     }
-    put!(text, "\n");
+    put!(text; "\n");
 }
 
 fn instrument_line(text: &mut String, number: usize, instrument: &Instrument) {
-    put!(
-        text,
-        "instrument ",
-        number,
-        " ",
-        Quoted(instrument.name),
-        ": "
-    );
+    put!(text; "instrument ", number, " ", Quoted(instrument.name), ": ");
     match instrument.sample {
-        0 => put!(text, "no sample"),
-        sample => put!(text, "sample ", sample),
+        0 => put!(text; "no sample"),
+        sample => put!(text; "sample ", sample),
     }
-    put!(
-        text,
-        ", volume ",
-        instrument.volume,
-        ", panning ",
-        instrument.panning
-    );
-    put!(text, ", rate ", instrument.rate, ", ");
+    put!(text; ", volume ", instrument.volume, ", panning ", instrument.panning);
+    put!(text; ", rate ", instrument.rate, ", ");
     loop_words(text, instrument);
-    put!(text, "\n");
+    put!(text; "\n");
 }
 
 /// The kind, and start + length. What is stored of a loop that is none is told too, unless it is nothing.
 fn loop_words(text: &mut String, instrument: &Instrument) {
     let (start, length) = (instrument.loop_start, instrument.loop_length);
     match instrument.loop_kind() {
-        Loop::Forward => put!(text, "forward loop ", start, " + ", length),
-        Loop::PingPong => put!(text, "ping-pong loop ", start, " + ", length),
-        Loop::None if start == 0 && length == 0 => put!(text, "no loop"),
-        Loop::None => put!(text, "no loop (stored: ", start, " + ", length, ")"),
+        Loop::Forward => put!(text; "forward loop ", start, " + ", length),
+        Loop::PingPong => put!(text; "ping-pong loop ", start, " + ", length),
+        Loop::None if start == 0 && length == 0 => put!(text; "no loop"),
+        Loop::None => put!(text; "no loop (stored: ", start, " + ", length, ")"),
     }
 }
 
 fn sample_line(text: &mut String, number: usize, sample: &Sample) {
-    put!(text, "sample ", number, ": ", sample.width, " bits, ");
-    put!(
-        text,
-        Many(sample.frames, "frame"),
-        ", ",
-        Many(sample.length(), "byte"),
-        "\n"
-    );
+    put!(text; "sample ", number, ": ", sample.width, " bits, ");
+    put!(text; Many(sample.frames, "frame"), ", ", Many(sample.length(), "byte"), "\n");
 }
 
 /// Sustain points and the loop are told where they are in use.
 fn envelope_line(text: &mut String, kind: &str, number: usize, envelope: &Envelope) {
-    put!(
-        text,
-        kind,
-        " envelope ",
-        number,
-        ": instrument ",
-        envelope.instrument
-    );
-    put!(
-        text,
-        if envelope.has(records::ON) {
-            ", on"
-        } else {
-            ", off"
-        }
-    );
+    put!(text; kind, " envelope ", number, ": instrument ", envelope.instrument);
+    put!(text; if envelope.has(records::ON) { ", on" } else { ", off" });
     if envelope.has(records::FIRST_SUSTAIN) {
-        put!(text, ", first sustain at point ", envelope.first_sustain);
+        put!(text; ", first sustain at point ", envelope.first_sustain);
     }
     if envelope.has(records::LOOP) {
-        put!(
-            text,
-            ", loop from point ",
-            envelope.loop_first,
-            " to ",
-            envelope.loop_last
-        );
+        put!(text; ", loop from point ", envelope.loop_first, " to ", envelope.loop_last);
     }
     if envelope.has(records::SECOND_SUSTAIN) {
-        put!(text, ", second sustain at point ", envelope.second_sustain);
+        put!(text; ", second sustain at point ", envelope.second_sustain);
     }
-    put!(text, ", points");
+    put!(text; ", points");
     for (position, value) in envelope.points() {
-        put!(text, " ", position, ":", value);
+        put!(text; " ", position, ":", value);
     }
-    put!(text, "\n");
+    put!(text; "\n");
 }

@@ -5,9 +5,9 @@ pub trait Piece {
     fn put(&self, text: &mut String);
 }
 
-/// Puts pieces behind a text: `put!(text, "pattern ", number, ": ", rows)`.
+/// Puts pieces behind a text: `put!(text; "pattern ", number, ": ", rows)`.
 macro_rules! put {
-    ($text:expr, $($piece:expr),+ $(,)?) => {{
+    ($text:expr; $($piece:expr),+) => {{
         let text: &mut String = $text;
         $($crate::text::Piece::put(&$piece, text);)+
     }};
@@ -85,7 +85,7 @@ pub struct Many<Count>(pub Count, pub &'static str);
 impl<Count: Into<u64> + Copy> Piece for Many<Count> {
     fn put(&self, text: &mut String) {
         let Many(count, noun) = *self;
-        put!(text, count.into(), " ", noun);
+        put!(text; count.into(), " ", noun);
         if count.into() != 1 {
             text.push('s');
         }
@@ -104,19 +104,19 @@ mod tests {
         for power in powers {
             for number in [power - 1, power, power.saturating_add(1), u64::MAX - power] {
                 let mut text = String::new();
-                put!(&mut text, number, " ", number as u32, " ", number as u16);
+                put!(&mut text; number, " ", number as u32, " ", number as u16);
                 let expected = format!("{number} {} {}", number as u32, number as u16);
                 assert_eq!(text, expected);
             }
         }
         for number in i16::MIN..=i16::MAX {
             let mut text = String::new();
-            put!(&mut text, number);
+            put!(&mut text; number);
             assert_eq!(text, number.to_string());
         }
         for number in 0..=u8::MAX {
             let mut text = String::new();
-            put!(&mut text, number, " ", Hex(number));
+            put!(&mut text; number, " ", Hex(number));
             assert_eq!(text, format!("{number} {number:02x}"));
         }
     }
@@ -124,18 +124,7 @@ mod tests {
     #[test]
     fn words() {
         let mut text = String::from("a ");
-        put!(
-            &mut text,
-            true,
-            " ",
-            false,
-            " ",
-            Many(0u16, "row"),
-            " ",
-            Many(1u16, "row"),
-            " ",
-            Many(2u64, "byte")
-        );
+        put!(&mut text; true, " ", false, " ", Many(0u16, "row"), " ", Many(1u16, "row"), " ", Many(2u64, "byte"));
         assert_eq!(text, "a true false 0 rows 1 row 2 bytes");
     }
 }
