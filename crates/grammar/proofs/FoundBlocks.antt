@@ -7,7 +7,7 @@ use mathlib.Core.List.{List, [], _∷_}
 use mathlib.Core.Bool.{Bool, true, false, cond}
 use native.Mathlib.Omega.{arith}
 use lib.Dec.{ltb}
-use borrow.Author.Tests.{eq-eqb, le-leb, ltb-false}
+use borrow.Author.Tests.{eq-eqb, le-leb, lt-ltb, ltb-true, ltb-false}
 use Rattle.refusal.specs.Numbers.{refusal}
 use Rattle.refusal.specs.Rules.{firstBroken}
 use Rattle.refusal.specs.declared.Cause.the-variants.{NotThere}
@@ -20,7 +20,7 @@ use Rattle.layout.specs.declared.Outline.{Outline}
 use Rattle.layout.specs.declared.Outline.the-variants.{Found as Opened, Refused as OpeningRefused}
 use Rattle.blocks.specs.Sizes.{sizeOf, placeAfter, firstBlock, blockAt}
 use Rattle.blocks.specs.Filling.{dataEnd}
-use Rattle.module.specs.Verdicts.{contentRules, contentIf, opened}
+use Rattle.module.specs.Verdicts.{contentRules, contentIf, opened, verdictOf, moduleVerdict}
 use Rattle.queries.specs.Finding.{kindOf, chunkOf, countOf, firstOf, there, blockOf, foundIn, foundIf, found}
 use Rattle.queries.specs.declared.Thing.{Thing}
 use Rattle.queries.specs.declared.Thing.the-variants.{Song, Instrument, Pattern, Sample, VolumeEnvelope, PanningEnvelope}
@@ -32,6 +32,21 @@ use Rattle.grammar.proofs.Holding.{and-says, leb-says, ltb-says, accept
 use Rattle.grammar.proofs.ChunkPlaces.{WholeAt, header-of, PlacesWhole, outline-places}
 use Rattle.grammar.proofs.ContentPlaces.{BlockIn, block-in, count-there}
 use Rattle.grammar.proofs.ContentRules.{BlocksHold, ContentHolds, content-hold}
+
+-- A module that is accepted opens, and one that is refused does not.
+pub accepted-opens : (m : List ℕ) → moduleVerdict m ≡ Accepted → (l : Layout) × (opened m ≡ Opened l)
+accepted-opens m = go (opened m) refl
+  where
+    go : (o : Outline) → opened m ≡ o → verdictOf o ≡ Accepted → (l : Layout) × (opened m ≡ Opened l)
+    go (Opened l) h e = (l, h)
+    go (OpeningRefused r) h e = let z : _≡_ {A = ℕ} 0 1 = cc in absurd (omega arith)
+
+pub refused-opens : (m : List ℕ) (r : Refusal) → moduleVerdict m ≡ VerdictRefused r → opened m ≡ OpeningRefused r
+refused-opens m r = go (opened m) refl
+  where
+    go : (o : Outline) → opened m ≡ o → verdictOf o ≡ VerdictRefused r → opened m ≡ OpeningRefused r
+    go (Opened l) h e = let z : _≡_ {A = ℕ} 0 1 = cc in absurd (omega arith)
+    go (OpeningRefused s) h e = cc
 
 -- A module that opens: its layout is that of whole chunks, and the rules for its content all hold.
 pub record Opens (m : List ℕ) (l : Layout) : Type 0 where
@@ -78,6 +93,11 @@ module _ (m : List ℕ) (thing : Thing) (number : ℕ) (b : Block) where
 
   pub found-numbered : (l : Layout) → opened m ≡ Opened l → found m thing number ≡ At b → Numbered m l thing number b
   found-numbered l o e = found-in m l thing number b (sym (ap (foundIf m thing number) o) ∙ e)
+
+-- Each number that is counted is found.
+pub counted-found : (m : List ℕ) (l : Layout) (thing : Thing) (number : ℕ) → opened m ≡ Opened l → firstOf thing ≤ number → number - firstOf thing < countOf m l thing → found m thing number ≡ At (blockOf m l thing number)
+counted-found m l thing number o first counted =
+    ap (foundIf m thing number) o ∙ simp (le-leb (firstOf thing) number first, lt-ltb (number - firstOf thing) (countOf m l thing) counted)
 
 -- The chunk of a thing.
 module _ {m : List ℕ} {l : Layout} where
@@ -153,7 +173,7 @@ module _ (m : List ℕ) (thing : Thing) (number : ℕ) (b : Block) (e : found m 
 
       go : (t : Bool) → ltb (number + 1 - firstOf thing) (countOf m l thing) ≡ t → b .at + sizeOf (kindOf thing) m (b .at) ≡ dataEnd (chunkOf l thing)
       go true h =
-          let more : found m thing (number + 1) ≡ At (blockOf m l thing (number + 1)) = ap (foundIf m thing (number + 1)) o ∙ simp (le-leb (firstOf thing) (number + 1) (omega (arith, s .first)), h) in
+          let more : found m thing (number + 1) ≡ At (blockOf m l thing (number + 1)) = counted-found m l thing (number + 1) o (omega (arith, s .first)) (ltb-true (number + 1 - firstOf thing) (countOf m l thing) h) in
           let z : _≡_ {A = ℕ} 0 1 = cc in
           absurd (omega arith)
       go false h =

@@ -7,7 +7,6 @@ use native.Mathlib.Omega.{arith}
 use native.Mathlib.Nat.{add-assoc, add-zero}
 use lib.ListN.{length, getD, take, drop, replicate, length-append, length-drop, length-replicate, take-append-drop}
 use lib.Seq.{take-at, drop-at, drop-drop, take-all, length-take-le}
-use borrow.Author.Tests.{le-leb, lt-ltb}
 use Rattle.cells.specs.Cells.{joined}
 use Rattle.numbers.specs.Numbers.{number16, number32, partOf, bytes32}
 use Rattle.layout.specs.declared.Layout.{Layout}
@@ -16,7 +15,7 @@ use Rattle.blocks.specs.Sizes.{sizeOf, placeAfter}
 use Rattle.blocks.specs.declared.Kind.the-variants.{Pattern as PatternKind}
 use Rattle.module.specs.Streams.{packedBytes}
 use Rattle.module.specs.Verdicts.{opened}
-use Rattle.queries.specs.Finding.{foundIf, found, blockOf}
+use Rattle.queries.specs.Finding.{found, blockOf}
 use Rattle.queries.specs.declared.Block.{Block}
 use Rattle.queries.specs.declared.Found.the-variants.{At}
 use Rattle.queries.specs.declared.Thing.the-variants.{Pattern}
@@ -25,7 +24,7 @@ use Rattle.grammar.proofs.Locating.{PartAt, number32-at, number32-drop, part-le
 use Rattle.grammar.proofs.Holding.{every-at, every-of}
 use Rattle.grammar.proofs.Cutting.{Sized, sized-least, block-there}
 use Rattle.grammar.proofs.Identifiers.{number-letters}
-use Rattle.grammar.proofs.FoundBlocks.{found-numbered}
+use Rattle.grammar.proofs.FoundBlocks.{found-numbered, counted-found}
 use Rattle.repack.specs.Repacked.{packed, repackedStream, repackedPatterns, repackedModule}
 use Rattle.repack.proofs.ChunksAnew.{pattAnew, split-anew}
 use Rattle.repack.proofs.Accepting.{patterns-in, module-replaced}
@@ -154,9 +153,7 @@ module _ (m : List ℕ) (bytes : Bytes m) (l : Layout) (o : opened m ≡ Found l
     below = every-at i [] h (blocks-bytes m bytes l o)
 
     counted-there : found m Pattern i ≡ At (blockOf m l Pattern i)
-    counted-there =
-        let same : i - 0 ≡ i = omega arith in
-        ap (foundIf m Pattern i) o ∙ simp (le-leb 0 i (omega arith), same, lt-ltb i (l .patterns) (omega (arith, blocks-in m bytes l o .filled .number)))
+    counted-there = counted-found m l Pattern i o (omega arith) (omega (arith, blocks-in m bytes l o .filled .number))
 
     packed-block : AllPacked → blockAnew (l .tracks) block ≡ block
     packed-block all =

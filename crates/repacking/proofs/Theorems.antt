@@ -27,11 +27,12 @@ use Rattle.queries.specs.declared.Block.{Block}
 use Rattle.queries.specs.declared.Found.the-variants.{At}
 use Rattle.queries.specs.declared.Thing.the-variants.{Pattern}
 use Rattle.grammar.specs.Rules.{Bytes}
+use Rattle.grammar.proofs.FoundBlocks.{accepted-opens}
 use Rattle.showing.specs.Showing.{ShowsSame}
 use Rattle.showing.proofs.Theorems.{alike-shows}
 use Rattle.repack.specs.Repacked.{repackedModule, repackAnswerIf, repackAnswer, repacked}
 use Rattle.repacking.specs.Packed.{PackedAt}
-use Rattle.repacking.proofs.Opening.{accepted-opens, repacked-opened}
+use Rattle.repacking.proofs.Opening.{repacked-opened}
 use Rattle.repacking.proofs.ModuleAnew.{no-longer, bytes-anew}
 use Rattle.repacking.proofs.AlikeAnew.{otherOpens, repacked-alike}
 use Rattle.repacking.proofs.AgainAnew.{repacked-again}
