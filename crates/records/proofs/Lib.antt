@@ -4,3 +4,6 @@ pub mod Points
 pub mod RecordLengths
 pub mod WritingRecords
 pub mod Accepting
+pub mod ByNumber
+pub mod Telling
+pub mod Theorems

@@ -46,7 +46,7 @@ module _ (m : List ℕ) (bytes : Bytes m) where
       rw (third, fourth) (sym (number32-stored m bytes at))
 
   -- A number, and what stands behind it.
-  next16 : (k at to : ℕ) → at + 2 ≡ to → bytesFrom m at (2 + k) ≡ bytes16 (number16 m at) ++ bytesFrom m to k
+  pub next16 : (k at to : ℕ) → at + 2 ≡ to → bytesFrom m at (2 + k) ≡ bytes16 (number16 m at) ++ bytesFrom m to k
   next16 k at to e = bytes-split m 2 k at to e ∙ ap (λ (l : List ℕ). l ++ bytesFrom m to k) (two-bytes at)
 
   next32 : (k at to : ℕ) → at + 4 ≡ to → bytesFrom m at (4 + k) ≡ bytes32 (number32 m at) ++ bytesFrom m to k

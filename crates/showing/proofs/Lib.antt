@@ -7,4 +7,5 @@ pub mod SameInstruments
 pub mod SameEnvelopes
 pub mod SamePatterns
 pub mod SameSamples
+pub mod SameRecords
 pub mod Theorems

@@ -27,7 +27,7 @@ module _ {m n : List ℕ} {at to : ℕ} (s : SameBlock Envelope m n at to) where
   points-same shown unused offset sections first =
       each-same (pointShown shown unused offset sections n to) (pointShown shown unused offset sections m at) 32 0 0 (λ i h. same-if (leb (0 + i) sections) unused (λ used. simp add-assoc (rw (same-16 s (offset + 4 * (0 + i)) (omega arith)))))
 
-  envelope-same : (kind : EnvelopeKind) {version other : ℕ} → other ≡ version → shownEnvelope n kind other to ≡ shownEnvelope m kind version at
+  pub envelope-same : (kind : EnvelopeKind) {version other : ℕ} → other ≡ version → shownEnvelope n kind other to ≡ shownEnvelope m kind version at
   unfolding sizeOf
   envelope-same kind {version} v =
       rw (v, same-first16 s (omega arith), same-byte s 2 (omega arith), same-byte s 3 (omega arith), same-byte s 4 (omega arith), same-byte s 5 (omega arith), same-byte s 6 (omega arith), same-byte s 7 (omega arith), points-same (λ v. v) 0 8 (byteAt m (at + 3)) (omega arith), points-same (valueOf kind version) (pos 0) 10 (byteAt m (at + 3)) (omega arith))

@@ -11,7 +11,7 @@ use Rattle.showing.proofs.Alike.{SameBlock, Alike}
 use Rattle.showing.proofs.SameBytes.{same-16, same-32, same-front}
 use Rattle.showing.proofs.AlikeAnswers.{by-finding}
 
-instrument-same : {m n : List ℕ} {at to : ℕ} → SameBlock InstrumentKind m n at to → shownInstrument n to ≡ shownInstrument m at
+pub instrument-same : {m n : List ℕ} {at to : ℕ} → SameBlock InstrumentKind m n at to → shownInstrument n to ≡ shownInstrument m at
 unfolding sizeOf
 instrument-same s =
     rw (same-front s 30 (omega arith), same-16 s 30 (omega arith), same-16 s 32 (omega arith), same-32 s 34 (omega arith), same-32 s 38 (omega arith), same-32 s 42 (omega arith), same-16 s 46 (omega arith), same-16 s 48 (omega arith))

@@ -30,7 +30,7 @@ module _ {m n : List ℕ} {at to : ℕ} (s : SameBlock SampleKind m n at to) whe
   unfolding sizeOf
   count-same = same-32 s 4 (omega arith)
 
-  sample-same : shownSample n to ≡ shownSample m at
+  pub sample-same : shownSample n to ≡ shownSample m at
   sample-same = rw (flags-same, count-same)
 
   -- The part that is handed out.

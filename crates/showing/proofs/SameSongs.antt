@@ -20,7 +20,7 @@ module _ {m n : List ℕ} {at to : ℕ} (s : SameBlock SongKind m n at to) where
   unfolding sizeOf
   length-same = same-16 s 44 (omega arith)
 
-  song-same : shownSong n to ≡ shownSong m at
+  pub song-same : shownSong n to ≡ shownSong m at
   unfolding sizeOf
   song-same = rw (same-front s 44 (omega arith), length-same)
 
@@ -31,7 +31,7 @@ module _ {m n : List ℕ} {at to : ℕ} (s : SameBlock SongKind m n at to) where
   entry-same : (entry : ℕ) → entryIn n to entry ≡ entryIn m at entry
   entry-same entry = rw length-same (same-if (ltb entry (number16 m (at + 44))) _ (λ h. rw (pattern-same entry (ltb-true entry _ h))))
 
-  playlist-same : playlistBytes n to ≡ playlistBytes m at
+  pub playlist-same : playlistBytes n to ≡ playlistBytes m at
   unfolding sizeOf
   playlist-same = rw length-same (same-bytes s 46 (2 * number16 m (at + 44)) (omega arith))
 

@@ -13,6 +13,7 @@ use Rattle.showing.proofs.SameInstruments.{same-instrument}
 use Rattle.showing.proofs.SameEnvelopes.{same-envelopes, same-envelope}
 use Rattle.showing.proofs.SamePatterns.{same-rows, same-cell, same-unpacking, same-unpacking-output}
 use Rattle.showing.proofs.SameSamples.{same-sample, same-frames, same-frame, same-all-frames, same-all-frames-output}
+use Rattle.showing.proofs.SameRecords.{same-records, same-records-output}
 
 pub alike-shows : {m n : List ℕ} → Alike m n → ShowsSame m n
 alike-shows a = record {
@@ -35,4 +36,6 @@ alike-shows a = record {
   frame = same-frame a;
   allFrames = same-all-frames a;
   allFramesWritten = same-all-frames-output a;
+  records = same-records a;
+  recordsWritten = same-records-output a;
 }

@@ -1,4 +1,4 @@
--- FORMAT.md, Q1 to Q14: when two modules show the same: every query answers the same of both, whatever is asked for, a refusal
+-- FORMAT.md, Q1 to Q16: when two modules show the same: every query answers the same of both, whatever is asked for, a refusal
 -- too, and a lent output is left the same. The answers are those that the contracts of the queries cite.
 use Prim.Native.Nat.{ℕ}
 use mathlib.Core.Path.{_≡_}
@@ -10,6 +10,7 @@ use Rattle.envelopes.specs.Shown.{countAnswer, envelopeAnswer}
 use Rattle.envelopes.specs.declared.EnvelopeKind.{EnvelopeKind}
 use Rattle.patterns.specs.Shown.{rowsAnswer, cellAnswer, unpackAnswer, unpackOutput}
 use Rattle.samples.specs.Shown.{sampleAnswer, framesAnswer, framesPart, frameAnswer, allFramesAnswer, allFramesOutput}
+use Rattle.records.specs.Records.{allAnswer, allOutput}
 
 -- Q12: the frames of a sample, handed out as a part of each module: the same refusal, the same length and the same bytes. The
 -- answer's offset is not spoken of: it says where in its module the part stands, and that may differ.
@@ -22,7 +23,7 @@ pub record SameFrames (m n : List ℕ) (sample : ℕ) : Type 0 where
 -- The second module shows what the first shows. A query that fills a lent output has two fields: what it answers, for every room,
 -- and what the output then holds, for every output (F8).
 -- Q4: version. Q5: name. Q6: info. Q7: song, entry, playlist. Q8: instrument. Q9: envelopes, how many of a kind, and envelope.
--- Q10: rows, cell, cells. Q11: sample. Q12: frames. Q13: frame, allFrames.
+-- Q10: rows, cell, cells. Q11: sample. Q12: frames. Q13: frame, allFrames. Q16: records.
 pub record ShowsSame (m n : List ℕ) : Type 0 where
   pub version : versionAnswer n ≡ versionAnswer m
   pub name : nameAnswer n ≡ nameAnswer m
@@ -43,3 +44,5 @@ pub record ShowsSame (m n : List ℕ) : Type 0 where
   pub frame : (sample frame : ℕ) → frameAnswer n sample frame ≡ frameAnswer m sample frame
   pub allFrames : (sample room : ℕ) → allFramesAnswer n sample room ≡ allFramesAnswer m sample room
   pub allFramesWritten : (sample : ℕ) (out : List ℕ) → allFramesOutput n sample out ≡ allFramesOutput m sample out
+  pub records : (room : ℕ) → allAnswer n room ≡ allAnswer m room
+  pub recordsWritten : (out : List ℕ) → allOutput n out ≡ allOutput m out

@@ -1,0 +1,52 @@
+-- The theorem about all records of a module by one call. In plain words, for every list of bytes:
+--
+-- 19. The records that the call writes are just what the queries answer, number by number: what the module says of itself, as version, name,
+--     INFO's numbers and the numbers of envelopes are answered; then every song, with each entry of its playlist; every instrument, from 1;
+--     the rows of every pattern; every sample, from 1; every volume envelope and every panning envelope; as many of each as the queries
+--     say, in the order of Q16. So of an accepted module the call answers the length of these records, and writes them to the front of the
+--     output; with too little room it answers 17 with that length, and the output stays. Of a refused module it answers the refusal, and
+--     the output stays.
+--
+-- What the call answers is `allAnswer`, and what it leaves `allOutput`: those that its contract cites. `recordsTold` has the queries' own
+-- answers and no place of a block.
+use Prim.Native.Nat.{ℕ}
+use mathlib.Core.Path.{_≡_, ap, _∙_}
+use mathlib.Core.List.{List}
+use lib.ListN.{length}
+use Rattle.refusal.specs.declared.Refusal.{Refusal}
+use Rattle.refusal.specs.declared.Verdict.the-variants.{Accepted, Refused}
+use Rattle.layout.specs.declared.Layout.{Layout}
+use Rattle.layout.specs.declared.Outline.the-variants.{Found}
+use Rattle.module.specs.Verdicts.{opened, moduleVerdict}
+use Rattle.queries.specs.Lengths.{refusedLength, lengthIf, outputIf}
+use Rattle.grammar.specs.Rules.{Bytes}
+use Rattle.grammar.proofs.FoundBlocks.{accepted-opens, refused-opens}
+use Rattle.records.specs.Records.{allRecords, allAnswerIf, allAnswer, allOutputIf, allOutput}
+use Rattle.records.specs.Told.{recordsTold}
+use Rattle.records.proofs.Telling as Telling
+
+-- 19.
+pub records-told : (m : List ℕ) → Bytes m → (l : Layout) → opened m ≡ Found l → allRecords m l ≡ recordsTold m
+records-told m bytes l o = Telling.records-told m l o bytes
+
+module _ (m : List ℕ) (bytes : Bytes m) (accepted : moduleVerdict m ≡ Accepted) where
+  abbrev layout : Layout
+  layout = accepted-opens m accepted .0
+
+  opens : opened m ≡ Found layout
+  opens = accepted-opens m accepted .1
+
+  pub all-told : (room : ℕ) → allAnswer m room ≡ lengthIf (length (recordsTold m)) room
+  all-told room =
+      ap (allAnswerIf m room) opens ∙ ap (λ (records : List ℕ). lengthIf (length records) room) (records-told m bytes layout opens)
+
+  pub all-written : (out : List ℕ) → allOutput m out ≡ outputIf (lengthIf (length (recordsTold m)) (length out)) (recordsTold m) out
+  all-written out =
+      ap (allOutputIf m out) opens ∙ ap (λ (records : List ℕ). outputIf (lengthIf (length records) (length out)) records out) (records-told m bytes layout opens)
+
+module _ (m : List ℕ) (r : Refusal) (refused : moduleVerdict m ≡ Refused r) where
+  pub all-refused : (room : ℕ) → allAnswer m room ≡ refusedLength r
+  all-refused room = ap (allAnswerIf m room) (refused-opens m r refused)
+
+  pub all-kept : (out : List ℕ) → allOutput m out ≡ out
+  all-kept out = ap (allOutputIf m out) (refused-opens m r refused)
