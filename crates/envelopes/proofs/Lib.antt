@@ -1,1 +1,2 @@
 pub mod Scaling
+mod Records
