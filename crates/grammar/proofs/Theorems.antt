@@ -4,6 +4,7 @@
 --     module is a header and chunks, one behind the other, of which M2 to M9 hold. SONG, INST, PATT and SMPL are as many blocks as INFO
 --     says, one behind the other, and nothing else; VENV and PENV, where they are there, as many as their own count says. Of each block
 --     B2 to B6 and V1 to V7 hold; the stream of a pattern is rows of sound entries, as in theorem 6.
+--  9. The accepted modules are exactly the encodings of well-formed descriptions: crates/format/proofs/Theorems.antt.
 -- 10. For every list of numbers: where the check refuses a module, the place of the refusal is as F17 says, and not past the module's
 --     end. For 1 and 2 it is 0, for 3 it is 4, for 8 the end. For 4 and 5 a chunk's header begins there; for 6 that of a covered chunk,
 --     for 7 that of SONG, INST, PATT or SMPL, for 9 that of NAME or INFO, for 11 that of SONG, INST, PATT, SMPL, VENV or PENV. For 10
