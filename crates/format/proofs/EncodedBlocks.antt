@@ -12,6 +12,7 @@ use Rattle.cells.specs.Cells.{joined}
 use Rattle.packed_rows.specs.Entries.{Entry, soundEntry, streamOf}
 use Rattle.packed_rows.specs.Theorems.{every, allSound}
 use Rattle.packed_rows.proofs.Reading.{both-true}
+use Rattle.packed_rows.proofs.Shapes.{getD-mapped}
 use Rattle.packed_rows.proofs.Soundness.{sound-facts}
 use Rattle.numbers.specs.Numbers.{byteAt, number16, number32, bytes16, bytes32}
 use Rattle.numbers.proofs.Stored.{bytes16-again, bytes32-again}
@@ -22,7 +23,7 @@ use Rattle.repacking.proofs.PackedBytes.{bytes32-bytes, EntriesBytes, stream-by
 use Rattle.format.specs.Description.{Info, Song, Instrument, Pattern, Width, eight, sixteen, thirtyTwo, Sample, Point, Envelope, INFO}
 use Rattle.format.specs.Encoding.{infoBytes, songBytes, instrumentBytes, patternBytes, flagsOf, frameBytes, sampleBytes, pointBytes, envelopeBytes, envelopesBytes, chunkBytes}
 use Rattle.format.specs.WellFormed.{InfoFits, SongFits, InstrumentFits, PatternFits, FrameFits, SampleFits, PointFits, EnvelopeFits, EnvelopesFit, noSample, framesOf}
-use Rattle.format.proofs.Stored.{bytes16-bytes, bytes16-number, number16-past, getD-mapped}
+use Rattle.format.proofs.Stored.{bytes16-bytes, bytes16-number, number16-past}
 use Rattle.format.proofs.ReadingBlocks.{info-instruments, info-samples, info-songs, info-patterns, info-tracks, song-size, song-length, song-entry, instrument-size, instrument-sample, instrument-volume, instrument-loop-start, instrument-loop-length, instrument-panning, instrument-flags, sample-size, sample-flags, sample-frames, envelope-size, envelope-instrument, envelope-flags, envelope-sections, envelope-first-sustain, envelope-loop-first, envelope-loop-last, envelope-second-sustain, envelope-value}
 
 -- Records of which the encoding of each is bytes.

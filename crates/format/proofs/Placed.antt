@@ -6,6 +6,7 @@ use mathlib.Core.List.{List, [], _++_, map}
 use mathlib.Core.Bool.{Bool, true, false, cond, _&&_}
 use lib.ListN.{length, getD, length-map}
 use lib.Dec.{leb, ltb}
+use Rattle.packed_rows.proofs.Shapes.{getD-mapped}
 use Rattle.cells.specs.Cells.{joined}
 use Rattle.numbers.specs.Numbers.{number16, bytes32}
 use Rattle.layout.specs.declared.Layout.{Layout}
@@ -28,7 +29,7 @@ use Rattle.format.specs.Description.{Info, INFO, SONG, INST, PATT, SMPL,
 use Rattle.format.specs.Encoding.{infoBytes, chunkBytes, headerBytes, encoded}
 use Rattle.format.specs.WellFormed.{In, WellFormed}
 use Rattle.format.specs.Shown.{notThere, listed}
-use Rattle.format.proofs.Stored.{number16-past, getD-mapped}
+use Rattle.format.proofs.Stored.{number16-past}
 use Rattle.format.proofs.ReadingBlocks.{info-instruments, info-samples, info-songs, info-patterns, info-tracks}
 use Rattle.format.proofs.EncodedModule.{in-among, encoded-chunks, encoded-accepted}
 

@@ -44,9 +44,3 @@ module _ {A : Type 0} (f : A → List ℕ) (size : ℕ) (one : (x : A) → lengt
   piece-at {m} {at} (x ∷ xs) zero other h p = subst (λ (k : ℕ). PartAt m k (f x)) (omega arith) (part-first (f x) (joined (map f xs)) p)
   piece-at {m} {at} (x ∷ xs) (suc i) other h p =
       subst (λ (k : ℕ). PartAt m k (f (getD xs i other))) (omega (arith, one x, suc-mul i size)) (piece-at xs i other (omega arith) (part-rest (f x) (joined (map f xs)) p))
-
--- One of those that a function gives.
-pub getD-mapped : {A B : Type 0} (f : A → B) (xs : List A) (i : ℕ) (first : B) (other : A) → i < length xs → getD (map f xs) i first ≡ f (getD xs i other)
-getD-mapped f [] i first other h = absurd (omega arith)
-getD-mapped f (x ∷ xs) zero first other h = refl
-getD-mapped f (x ∷ xs) (suc i) first other h = getD-mapped f xs i first other (omega arith)

@@ -16,6 +16,12 @@ pub data Each {A : Type 0} (P : A → Type 0) : ℕ → List A → Type 0 where
   none : Each P zero []
   one : {n : ℕ} {x : A} {xs : List A} → P x → Each P n xs → Each P (suc n) (x ∷ xs)
 
+-- One of those that a function gives, where there is one: what stands for one that is not there does not matter.
+pub getD-mapped : {A B : Type 0} (f : A → B) (xs : List A) (i : ℕ) (first : B) (other : A) → i < length xs → getD (map f xs) i first ≡ f (getD xs i other)
+getD-mapped f [] i first other h = absurd (omega arith)
+getD-mapped f (x ∷ xs) zero first other h = refl
+getD-mapped f (x ∷ xs) (suc i) first other h = getD-mapped f xs i first other (omega arith)
+
 -- So many lists of one length: so many blocks of bytes, or cells of six fields.
 abbrev pub Blocks : {A : Type 0} → ℕ → ℕ → List (List A) → Type 0
 Blocks n size xs = Each (λ x. length x ≡ size) n xs

@@ -1,7 +1,7 @@
 -- Passing over the first rows of an accepted stream.
-use Prim.Native.Nat.{ℕ, zero, suc, _+_, _-_, _*_, _<_, _≤_}
+use Prim.Native.Nat.{ℕ, suc, _+_, _-_, _*_, _<_, _≤_}
 use mathlib.Core.Path.{_≡_, refl, sym, ap, _∙_}
-use mathlib.Core.List.{List, [], _∷_, map}
+use mathlib.Core.List.{List, [], _∷_}
 use native.Mathlib.Omega.{arith}
 use native.Mathlib.Nat.{zero-add, sub-zero}
 use lib.ListN.{length, getD, drop}
@@ -20,7 +20,7 @@ use Rattle.packed_rows.specs.Stream.{Reading, reading, brokenAt, whole, 
 use Rattle.packed_rows.specs.Steps.{RowAhead, Skipped, Loaded, RowsRead, AfterRows, cellAt, cellRead}
 use Rattle.packed_rows.proofs.Reading.{both-true}
 use Rattle.packed_rows.proofs.Grammar.{reads-exactly}
-use Rattle.packed_rows.proofs.Shapes.{row-joined, row-from-shaped}
+use Rattle.packed_rows.proofs.Shapes.{getD-mapped, row-joined, row-from-shaped}
 use Rattle.packed_rows.proofs.Carrying.{block-at}
 use Rattle.packed_rows.proofs.ByVerdict.{accepted-reading, refused-reading}
 
@@ -64,11 +64,6 @@ module _ (s : List ℕ) (n : ℕ) (all : RowsRead s n) where
       skips-turn after skipped =
           record { done = suc (state .done); counts = omega (arith, state .counts, some); reads = skipped (all .tracks * 6) skips-ahead }
 
-getD-map-in : {A B : Type 0} (f : A → B) (l : List A) (n : ℕ) (d : A) (d′ : B) → n < length l → getD (map f l) n d′ ≡ f (getD l n d)
-getD-map-in f [] n d d′ h = absurd (omega arith)
-getD-map-in f (x ∷ xs) zero d d′ h = refl
-getD-map-in f (x ∷ xs) (suc n) d d′ h = getD-map-in f xs n d d′ (omega arith)
-
 -- One cell: the row behind the rows passed over, and six of its bytes.
 module _ (s : List ℕ) (rows tracks row track : ℕ) (ok : verdictOf (readStream rows tracks s) ≡ Accepted) (there : cellThere rows tracks row track ≡ true) where
   abbrev read : (entries : List (List Entry)) × (readStream rows tracks s ≡ whole entries)
@@ -106,7 +101,7 @@ module _ (s : List ℕ) (rows tracks row track : ℕ) (ok : verdictOf (readStrea
         let rows-are : rowsFrom tracks (entriesRead (readStream rows tracks s)) ≡ rowsFrom tracks (read .0) = ap (λ (r : Reading). rowsFrom tracks (entriesRead r)) (read .1) in
         sym (block-at tracks 6 (track - 1) line emptyCell inside)
         ∙ ap (λ (r : Row). getD r (track - 1) emptyCell)
-        (whole-row ∙ sym (getD-map-in (rowFrom tracks) (read .0) row [] [] (omega (arith, row-there, all-rows s row all-read))))
+        (whole-row ∙ sym (getD-mapped (rowFrom tracks) (read .0) row [] [] (omega (arith, row-there, all-rows s row all-read))))
         ∙ ap (λ (rs : List Row). getD (getD rs row []) (track - 1) emptyCell) (sym rows-are)
 
 -- The answer for a cell, by the verdict of the stream.

@@ -1,8 +1,8 @@
 -- An accepted module and the module repacked are alike: their headers and INFO are the same bytes, and so is every chunk but PATT; and
 -- each pattern has the same rows and holds the same cells.
-use Prim.Native.Nat.{ℕ, zero, suc, _+_, _-_, _<_}
+use Prim.Native.Nat.{ℕ, _+_, _-_, _<_}
 use mathlib.Core.Path.{_≡_, refl, sym, ap, _∙_}
-use mathlib.Core.List.{List, [], _∷_, map}
+use mathlib.Core.List.{List, [], map}
 use mathlib.Core.Bool.{Bool, true, false, cond, _&&_}
 use native.Mathlib.Omega.{arith}
 use lib.ListN.{length, getD, take, drop, replicate, length-drop, length-map, take-append-drop}
@@ -10,6 +10,7 @@ use lib.Dec.{leb, ltb}
 use lib.Seq.{length-take-le}
 use Rattle.refusal.specs.Numbers.{refusal}
 use Rattle.refusal.specs.declared.Cause.the-variants.{NotThere}
+use Rattle.packed_rows.proofs.Shapes.{getD-mapped}
 use Rattle.numbers.specs.Numbers.{number16, partOf, bytesFrom}
 use Rattle.numbers.proofs.Parts.{bytes-part}
 use Rattle.layout.specs.declared.Place.{Place}
@@ -55,11 +56,6 @@ same-pattern {m} {n} {at} {to} tracks block b p q =
       there = rw (rows-same q (c .sized), packed-same q (c .sized)) (c .accepted);
       cells = rw (rows-same p (b .sized), packed-same p (b .sized), rows-same q (c .sized), packed-same q (c .sized)) (anew-cells tracks block b);
     }
-
-getD-mapped : (f : List ℕ → List ℕ) (list : List (List ℕ)) (i : ℕ) → i < length list → getD (map f list) i [] ≡ f (getD list i [])
-getD-mapped f [] i h = absurd (omega arith)
-getD-mapped f (x ∷ list) zero h = refl
-getD-mapped f (x ∷ list) (suc i) h = getD-mapped f list i (omega arith)
 
 -- The name that is shown, by whether NAME is there.
 name-missing : (m : List ℕ) (l : Layout) → l .places .name .present ≡ false → nameOf m l ≡ replicate 44 0
@@ -182,7 +178,7 @@ module _ (m : List ℕ) (bytes : Bytes m) (l : Layout) (o : opened m ≡ Opened 
       let here = block-there PatternKind list i inside (blocks-in m bytes l o .there) (blocks-in m bytes l o .sized) in
       let size : length (anew m bytes l o) ≡ length list = length-map list (blockAnew (l .tracks)) in
       let there = block-there PatternKind (anew m bytes l o) i (omega (arith, size)) (patterns-there .there) (patterns-there .sized) in
-      let same : getD (anew m bytes l o) i [] ≡ blockAnew (l .tracks) block = getD-mapped (blockAnew (l .tracks)) list i inside in
+      let same : getD (anew m bytes l o) i [] ≡ blockAnew (l .tracks) block = getD-mapped (blockAnew (l .tracks)) list i [] [] inside in
       same-pattern (l .tracks) block (every-at i [] inside (sound-blocks m bytes l o)) here (rw same at there)
   same-thing Sample i h = same-blocks SampleKind 8 smpl-other (l .places .smpl) (k .places .smpl) (first .smpl) (second .smpl) (outline-of m bytes l o .mandatory .smpl .1) (first .counts _ info-there .1) (second .counts _ (stays-among m bytes l o info-other info-there) .1) (content-of m bytes l o .samples) (content-of m bytes l o .samplesFill) (every-of sample-sized (content-of m bytes l o .sampleRules)) i h
   same-thing VolumeEnvelope i h = same-envelope (l .places .venv) (k .places .venv) (content-of m bytes l o .volumeEnvelopes) volume i h
