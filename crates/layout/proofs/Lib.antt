@@ -2,3 +2,4 @@ pub mod Tests
 pub mod ChunksBefore
 pub mod Walking
 pub mod Outlining
+pub mod Others

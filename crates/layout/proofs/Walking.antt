@@ -13,11 +13,12 @@ use Rattle.refusal.specs.declared.Verdict.the-variants.{Accepted, Refused}
 use Rattle.numbers.specs.Numbers.{number32}
 use Rattle.layout.specs.Chunks.{Chunk, chunkAt, chunkEnd, covered, occurs, chunkRules, whole, goOn, chunksFrom, chunks}
 use Rattle.layout.specs.Outlines.{standing, placesOf}
-use Rattle.layout.specs.Steps.{putIn, placedRules, walked}
+use Rattle.layout.specs.Steps.{putIn, placedRules, walked, OthersTo}
 use Rattle.layout.specs.declared.Places.{Places}
 use Rattle.layout.specs.declared.walk.Walked.the-variants.{Whole, Refused as WalkRefused}
 use Rattle.refusal.proofs.RuleLists.{rules-held}
 use Rattle.layout.proofs.ChunksBefore.{rules-placed, put-more}
+use Rattle.layout.proofs.Others.{other-end, other-holds, other-stays}
 
 -- An accepted chunk is no second one of a covered kind.
 not-repeated : (m : List ℕ) (before : List Chunk) (at : ℕ) → firstBroken (chunkRules m before at) ≡ Accepted → (covered (number32 m at) && occurs (number32 m at) before) ≡ false
@@ -72,3 +73,10 @@ module _ (m : List ℕ) (p : Places) (at : ℕ) (w : Walking m p at) where
         placed = put ∙ ap (λ (q : Places). putIn q (number32 m at) (standing (chunkAt m at))) (w .placed) ∙ put-more (chunkAt m at) (w .before) (not-repeated m (w .before) at (by-chunks Accepted e));
         same = next .2;
       }
+
+-- Chunks that are stepped over move the loop on, and no place.
+pub walking-others : (m : List ℕ) (p : Places) (n at end : ℕ) → OthersTo m n at end → Walking m p at → Walking m p end
+walking-others m p zero at end e w = rw (← e) w
+walking-others m p (suc n) at end (is, more) w =
+    let behind : at + 8 + number32 m (at + 4) ≤ length m = other-end m at is in
+    walking-others m p n (at + 8 + number32 m (at + 4)) end more (walking-turn m p at w (omega (arith, behind)) (other-holds m at is p) p (other-stays m at is p (standing (chunkAt m at))))

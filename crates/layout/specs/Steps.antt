@@ -1,14 +1,15 @@
 -- Definitions that private functions cite: what the walk knows of the chunks before a place is only where the covered ones stand.
-use Prim.Native.Nat.{ℕ, _+_}
+use Prim.Native.Nat.{ℕ, zero, suc, _+_}
+use mathlib.Core.Path.{_≡_}
 use mathlib.Core.List.{List, [], _∷_}
-use mathlib.Core.Bool.{Bool, cond, not, _&&_, _||_}
+use mathlib.Core.Bool.{Bool, true, cond, not, _&&_, _||_}
 use lib.ListN.{length}
 use lib.Dec.{eqb, leb}
 use Rattle.refusal.specs.Numbers.{refusal}
 use Rattle.refusal.specs.Rules.{Rule, rule}
 use Rattle.refusal.specs.declared.Cause.the-variants.{ChunkCut, Identifier, Repeated, BeforeInfo, Missing, FixedLength}
 use Rattle.numbers.specs.Numbers.{number32}
-use Rattle.layout.specs.Chunks.{NAME, INFO, SONG, INST, PATT, SMPL, VENV, PENV, needsInfo, fourLetters, infoRules, Walk, whole, stopped}
+use Rattle.layout.specs.Chunks.{NAME, INFO, SONG, INST, PATT, SMPL, VENV, PENV, needsInfo, covered, fourLetters, infoRules, Walk, whole, stopped}
 use Rattle.layout.specs.Outlines.{placesOf, layoutWith}
 use Rattle.layout.specs.declared.Outline.{Outline}
 use Rattle.layout.specs.declared.Outline.the-variants.{Found, Refused as OutlineRefused}
@@ -50,6 +51,14 @@ placedRules m at p =
     ∷ rule (fourLetters m at) Identifier at
     ∷ rule (leb (at + 8 + number32 m (at + 4)) (length m)) ChunkCut at
     ∷ metRules m at (number32 m at) (number32 m (at + 4)) p
+
+-- Whether a whole chunk stands at a place that is stepped over; and so many of them, from one place to another.
+abbrev pub isOther : List ℕ → ℕ → Bool
+isOther m at = leb (at + 8) (length m) && (leb (at + 8 + number32 m (at + 4)) (length m) && (fourLetters m at && not (covered (number32 m at))))
+
+abbrev pub OthersTo : List ℕ → ℕ → ℕ → ℕ → Type 0
+OthersTo m zero at end = at ≡ end
+OthersTo m (suc n) at end = (isOther m at ≡ true) × OthersTo m n (at + 8 + number32 m (at + 4)) end
 
 -- What the walk over the chunks gives.
 abbrev pub walked : Walk → Walked

@@ -11,12 +11,12 @@ use refusal::refuse;
 ghost use mathlib.Core.Path.{_≡_};
 ghost use mathlib.Core.List.{[]};
 ghost use mathlib.Core.Bool.{true, cond};
-ghost use Prim.Native.Nat.{_+_, _<_, _≤_};
+ghost use Prim.Native.Nat.{ℕ, _+_, _<_, _≤_};
 ghost use lib.ListN.{length};
 ghost use Rattle.refusal.specs.Rules.{firstBroken};
-ghost use Rattle.layout.specs.Chunks.{isLetter, fourLetters, needsInfo, tracksFit, infoRules, chunks};
+ghost use Rattle.layout.specs.Chunks.{isLetter, fourLetters, needsInfo, covered, tracksFit, infoRules, chunks};
 ghost use Rattle.layout.specs.Outlines.{absent as absentPlace, placesOf};
-ghost use Rattle.layout.specs.Steps.{presentIn, putIn, lengthOf, metRules, placedRules, walked};
+ghost use Rattle.layout.specs.Steps.{presentIn, putIn, lengthOf, isOther, OthersTo, metRules, placedRules, walked};
 
 const NAME: u32 = 0x4E414D45;
 
@@ -175,6 +175,39 @@ fn check_chunk(m: &[u8], at: usize, p: Places) -> Verdict
     check_met(m, at, number32(m, at), length, p)
 }
 
+// Whether a chunk is one of the eight that are covered.
+fn is_covered(identifier: u32) -> bool
+    ensures { λ r. ⌜ r ≡ covered identifier ⌝ }
+{
+    (identifier == NAME)
+        | ((identifier == INFO)
+            | (needs_info(identifier) | ((identifier == VENV) | (identifier == PENV))))
+}
+
+// Whether a whole chunk stands at a place that is stepped over.
+fn is_other(m: &[u8], at: usize) -> bool
+    requires { ⌜ at < 0x1000000000000000 ⌝ }
+    ensures { λ r. ⌜ r ≡ isOther (now (m .entry)) at ⌝ }
+{
+    if m.len() < at + 8 {
+        return false;
+    }
+    let length = number32(m, at + 4) as usize;
+    (at + 8 + length <= m.len()) & (four_letters(m, at) & !is_covered(number32(m, at)))
+}
+
+// The place behind the chunks from a place on that are stepped over.
+fn skip_others(m: &[u8], start: usize) -> usize
+    requires { ⌜ (start < 0x1000000000000000) × (length (now m) ≤ 16777216) ⌝ }
+    ensures { λ r. ⌜ ((n : ℕ) × OthersTo (now (m .entry)) n start r) × (start ≤ r) ⌝ }
+{
+    let mut at = start;
+    while is_other(m, at) {
+        at = at + 8 + number32(m, at + 4) as usize;
+    }
+    at
+}
+
 // The place of the chunk whose header stands at a place.
 fn standing(at: usize, length: u32) -> Place
     requires { ⌜ at < 0x100000000 ⌝ }
@@ -218,14 +251,14 @@ pub fn walk_chunks(m: &[u8]) -> Walked
     ensures { λ r. ⌜ r ≡ walked (chunks (now (m .entry))) ⌝ }
 {
     let mut p = no_places();
-    let mut at = 8;
+    let mut at = skip_others(m, 8);
     while at < m.len() {
         if let Verdict::Refused(r) = check_chunk(m, at, p) {
             return Walked::Refused(r);
         }
         let length = number32(m, at + 4);
         p = put(p, number32(m, at), standing(at, length));
-        at = at + 8 + length as usize;
+        at = skip_others(m, at + 8 + length as usize);
     }
     Walked::Whole(p)
 }

@@ -1,8 +1,9 @@
-use Prim.Native.Nat.{_-_}
+use Prim.Native.Nat.{_+_, _-_}
 use mathlib.Core.Path.{_∙_, sym}
+use native.Mathlib.Omega.{arith}
 use lib.ListN.{length}
 use borrow.Author.Needs.{needs}
-use Rattle.layout.proofs.Walking.{Walking, walking-first, walking-refused, walking-turn, walking-last}
+use Rattle.layout.proofs.Walking.{Walking, walking-first, walking-refused, walking-turn, walking-last, walking-others}
 use Rattle.layout.proofs.walk.walk_chunks.Statement.{statement}
 use Rattle.layout.proofs.walk.walk_chunks.Tie as tie
 
@@ -13,21 +14,33 @@ abbrev μ-loop : tie.MeasureT-loop
 μ-loop m p₀ at₀ p at = length m - at
 
 loop-holds : tie.Need-loop-holds Inv-loop μ-loop
-loop-holds c = rw (c .no-places .ensures) (walking-first (c .before .before .args .m .now))
+loop-holds c = walking-others (c .before .before .before .args .m .now) (c .before .no-places .result) (c .skip-others .ensures .0 .0) 8 (c .skip-others .result) (c .skip-others .ensures .0 .1) (rw (c .before .no-places .ensures) (walking-first (c .before .before .before .args .m .now)))
 
 returns : tie.Need-returns Inv-loop μ-loop
-returns c = sym (walking-refused (c .before .before .before .before .before .before .before .before .args .m .now) (c .before .before .before .before .before .loop .p) (c .before .before .before .before .before .loop .at) (c .before .before .before .before .before .loop .inv) (c .before .before .before .before .loop-test .taken) (c .before .r .given .0 .0) (sym (c .before .before .before .check-chunk .ensures) ∙ c .before .r .given .1))
+returns c = sym (walking-refused (c .before .before .before .before .before .before .before .before .before .args .m .now) (c .before .before .before .before .before .loop .p) (c .before .before .before .before .before .loop .at) (c .before .before .before .before .before .loop .inv) (c .before .before .before .before .loop-test .taken) (c .before .r .given .0 .0) (sym (c .before .before .before .check-chunk .ensures) ∙ c .before .r .given .1))
 
 enum-told : tie.Need-enum-told Inv-loop μ-loop
 enum-told c = search needs
 
+add-skip-others : tie.Need-add-skip-others Inv-loop μ-loop
+add-skip-others c = omega (arith, c .before .before .before .before .before .before .before .loop-test .taken, c .before .before .before .before .before .before .before .before .before .before .before .before .pre)
+
+add-skip-others-2 : tie.Need-add-skip-others-2 Inv-loop μ-loop
+add-skip-others-2 c = omega (arith, c .before .before .before .before .before .before .before .loop-test .taken, c .before .before .before .before .before .before .before .before .before .before .before .before .pre)
+
+skip-others-requires-2 : tie.Need-skip-others-requires-2 Inv-loop μ-loop
+skip-others-requires-2 c κs = (omega (arith, c .before .before .before .before .before .before .before .loop-test .taken, c .before .before .before .before .before .before .before .before .before .before .before .before .pre), c .before .before .before .before .before .before .before .before .before .before .before .before .pre)
+
+loop-less : tie.Need-loop-less Inv-loop μ-loop
+loop-less c = omega (arith, c .skip-others2 .ensures .1, c .before .before .before .before .before .before .before .before .loop-test .taken)
+
 loop-again : tie.Need-loop-again Inv-loop μ-loop
-loop-again c = rw (c .before .before .before .number32 .ensures) (walking-turn (c .before .before .before .before .before .before .before .before .before .before .before .args .m .now) (c .before .before .before .before .before .before .before .before .loop .p) (c .before .before .before .before .before .before .before .before .loop .at) (c .before .before .before .before .before .before .before .before .loop .inv) (c .before .before .before .before .before .before .before .loop-test .taken) (sym (c .before .before .before .before .before .before .check-chunk .ensures) ∙ c .before .before .before .before .enum-told .given .1) (c .put .result) (c .put .ensures ∙ simp (c .before .standing .ensures, c .before .before .before .number32 .ensures, c .before .before .number322 .ensures)))
+loop-again c = walking-others (c .before .before .before .before .before .before .before .before .before .before .before .before .before .args .m .now) (c .before .put .result) (c .skip-others2 .ensures .0 .0) (c .before .before .before .before .before .before .before .before .before .loop .at + 8 + c .before .before .before .before .number32 .result) (c .skip-others2 .result) (c .skip-others2 .ensures .0 .1) (rw (c .before .before .before .before .number32 .ensures) (walking-turn (c .before .before .before .before .before .before .before .before .before .before .before .before .before .args .m .now) (c .before .before .before .before .before .before .before .before .before .loop .p) (c .before .before .before .before .before .before .before .before .before .loop .at) (c .before .before .before .before .before .before .before .before .before .loop .inv) (c .before .before .before .before .before .before .before .before .loop-test .taken) (sym (c .before .before .before .before .before .before .before .check-chunk .ensures) ∙ c .before .before .before .before .before .enum-told .given .1) (c .before .put .result) (c .before .put .ensures ∙ simp (c .before .before .standing .ensures, c .before .before .before .before .number32 .ensures, c .before .before .before .number322 .ensures))))
 
 returns-2 : tie.Need-returns-2 Inv-loop μ-loop
-returns-2 c = sym (walking-last (c .before .before .before .before .args .m .now) (c .before .loop .p) (c .before .loop .at) (c .before .loop .inv) (c .loop-test .left))
+returns-2 c = sym (walking-last (c .before .before .before .before .before .args .m .now) (c .before .loop .p) (c .before .loop .at) (c .before .loop .inv) (c .loop-test .left))
 
 pub walk-chunks-spec : {M : Type 1} → statement M
 walk-chunks-spec =
     tie.close
-    (tie.spec Inv-loop μ-loop (λ c κs. search needs) loop-holds (λ c κs. search needs) (λ c. search needs) returns enum-told (λ c. search needs) (λ c κs. search needs) (λ c κs. search needs) (λ c κs. search needs) (λ c κs. search needs) (λ c. search needs) (λ c. search needs) (λ c. search needs) (λ c. search needs) loop-again returns-2)
+    (tie.spec Inv-loop μ-loop (λ c κs. search needs) (λ c κs. search needs) loop-holds (λ c κs. search needs) (λ c. search needs) returns enum-told (λ c. search needs) (λ c κs. search needs) (λ c κs. search needs) (λ c κs. search needs) (λ c κs. search needs) add-skip-others (λ c. search needs) add-skip-others-2 skip-others-requires-2 loop-less loop-again returns-2)
