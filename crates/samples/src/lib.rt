@@ -16,7 +16,7 @@ use refusal::Cause;
 use refusal::Refusal;
 use refusal::refuse;
 ghost use mathlib.Core.Path.{_≡_};
-ghost use Prim.Native.Nat.{_*_, _/_, _<_};
+ghost use Prim.Native.Nat.{_*_, _/_, _<_, _+_, min};
 ghost use lib.ListN.{length};
 ghost use Rattle.numbers.specs.Numbers.{signed16};
 ghost use Rattle.samples.specs.Shown.{frameBytes, frame16, noSample, shownSample, sampleAnswer, noFrames, shownFrames, framesAnswer, framesPart, noFrame, frameIn, frameAnswer, allFramesIn, allFramesOutputIn, allFramesAnswer, allFramesOutput};
@@ -125,7 +125,7 @@ pub fn frames_place(m: &[u8], sample: usize) -> FramesAnswer
 
 // The frames of a sample, counted from 1: the part of the module that they are. It is empty where `frames_place` gives a refusal.
 pub fn frames(m: &[u8], sample: usize) -> &[u8]
-    ensures { λ r. ⌜ now r ≡ framesPart (now (m .entry)) sample ⌝ }
+    ensures { λ r. ⌜ (now r ≡ framesPart (now (m .entry)) sample) × (r .ptr .0 ≡ m .entry .ptr .0) × (r .ptr .1 ≡ min (framesAnswer (now (m .entry)) sample .offset) (length (now (m .entry))) + m .entry .ptr .1) ⌝ }
 {
     let a = frames_place(m, sample);
     part(m, a.offset, a.length)

@@ -3,7 +3,7 @@ use Rattle.patterns.proofs.packed.Statement.{statement}
 use Rattle.patterns.proofs.packed.Tie as tie
 
 returns : tie.Need-returns
-returns c = rw (c .part .ensures, c .before .number32 .ensures)
+returns c = rw (c .part .ensures .0, c .before .number32 .ensures)
 
 pub packed-spec : {M : Type 1} → statement M
 packed-spec =
