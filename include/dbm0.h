@@ -25,16 +25,20 @@
  * - A query gives, the first that applies: the module's own refusal (1 to 15,
  *   as dbm0_check_module), then 18, then 17 where an output is lent. Instruments,
  *   samples and tracks are counted from 1, all else from 0.
- * - A call that fills an output tells the needed length as the place of 17:
- *   call it with an output of length 0 to ask for it. On success, bytes behind
- *   the written length stay as they were.
+ * - A call that fills an output gives the needed length as the place of 17:
+ *   call it with an output of length 0 to ask for it. Where nothing is needed
+ *   (an empty playlist, a pattern of 0 rows, a sample of 0 frames), that call
+ *   succeeds with length 0. On success, bytes after the written length stay as
+ *   they were.
  * - Every query checks the module first; that is most of its time. What comes
  *   on top of the check is said at each. Work on many entries, cells or frames
  *   goes through the calls that fill an output, and work on many records
  *   through dbm0_records.
  * - No call keeps any state, allocates, or waits. They may run on any thread
- *   and at the same time.
- * - A call needs less than 2,560 bytes of stack.
+ *   and at the same time, as long as no call's output is used by another: two
+ *   calls at the same time must not share an output.
+ * - A call needs less than 2,560 bytes of stack. What memcpy and memset need
+ *   is not counted.
  */
 
 #ifndef DBM0_H
@@ -50,7 +54,7 @@ extern "C" {
 #endif
 
 /* The version of this interface: major x 10000 + minor x 100 + patch. */
-#define DBM0_VERSION 10300
+#define DBM0_VERSION 10301
 
 /* The most bytes that a module may have. */
 #define DBM0_MODULE_MOST_BYTES 16777216

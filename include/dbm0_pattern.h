@@ -26,7 +26,8 @@
  *   written length stay as they were.
  * - No call keeps any state, allocates, or waits. They may run on any thread
  *   and at the same time, as long as no call's output is used by another.
- * - A call needs less than 512 bytes of stack.
+ * - A call needs less than 512 bytes of stack. What memset needs is not
+ *   counted.
  * - A call with an output of length 0 tells the needed length: the answer is
  *   then DBM0_PATTERN_OUTPUT_TOO_SHORT with the length as its place (or, for
  *   a pattern of 0 rows, success with length 0).
@@ -43,7 +44,7 @@ extern "C" {
 #endif
 
 /* The version of this interface: major x 10000 + minor x 100 + patch. */
-#define DBM0_PATTERN_VERSION 10000
+#define DBM0_PATTERN_VERSION 10001
 
 /* No refusal. */
 #define DBM0_PATTERN_OK 0

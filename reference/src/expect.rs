@@ -102,7 +102,7 @@ fn written(
 /// The line of a cell that was asked for.
 fn asked_cell(text: &mut String, answer: Result<Cell, Refusal>) {
     let (number, place) = numbers(answer.err());
-    let values = answer.map_or([0; 8], values);
+    let values = answer.map_or([0; 9], values);
     line(
         text,
         format_args!("cell {number} {place} {}", spaced(values)),
@@ -121,18 +121,19 @@ fn numbers(refusal: Option<Refusal>) -> (u64, u64) {
     refusal.map_or((0, 0), |refusal| (refusal.number, refusal.place))
 }
 
-/// The kind of note with its two numbers, then the five other fields.
-fn values(cell: Cell) -> [u8; 8] {
-    let (kind, a, b) = match cell.note {
-        Note::None => (0, 0, 0),
-        Note::KeyOff => (1, 0, 0),
-        Note::Pitch { octave, semitone } => (2, octave, semitone),
-        Note::Unknown(byte) => (3, byte, 0),
+/// The note in numbers (kind, octave, semitone, the byte of an unknown one), then the five other fields.
+fn values(cell: Cell) -> [u8; 9] {
+    let (kind, octave, semitone, unknown) = match cell.note {
+        Note::None => (0, 0, 0, 0),
+        Note::KeyOff => (1, 0, 0, 0),
+        Note::Pitch { octave, semitone } => (2, octave, semitone, 0),
+        Note::Unknown(byte) => (3, 0, 0, byte),
     };
     [
         kind,
-        a,
-        b,
+        octave,
+        semitone,
+        unknown,
         cell.instrument,
         cell.command1,
         cell.parameter1,
@@ -141,7 +142,7 @@ fn values(cell: Cell) -> [u8; 8] {
     ]
 }
 
-fn spaced(values: [u8; 8]) -> String {
+fn spaced(values: [u8; 9]) -> String {
     values.map(|value| value.to_string()).join(" ")
 }
 

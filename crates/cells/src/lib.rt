@@ -1,6 +1,6 @@
 // A cell as it is shown.
 ghost use mathlib.Core.Path.{_≡_};
-ghost use Rattle.cells.specs.Shown.{isPitch, shownNote, shownCell};
+ghost use Rattle.cells.specs.Shown.{isPitch, shownNote, noteNumbers, shownCell};
 
 // The note of a shown cell.
 pub enum Note {
@@ -8,6 +8,15 @@ pub enum Note {
     KeyOff,
     Pitch { octave: u8, semitone: u8 },
     Unknown(u8),
+}
+
+// A note in numbers: its kind (0 none, 1 key off, 2 pitch, 3 unknown), octave and semitone of a pitch, and the byte of an unknown one;
+// what a kind does not have is 0.
+pub struct NoteNumbers {
+    pub kind: u8,
+    pub octave: u8,
+    pub semitone: u8,
+    pub unknown: u8,
 }
 
 // A shown cell.
@@ -44,6 +53,38 @@ fn is_pitch(note: u8) -> bool
     ensures { λ r. ⌜ r ≡ isPitch note ⌝ }
 {
     (1 <= note / 16) & ((note / 16 <= 8) & (note % 16 <= 11))
+}
+
+// A note in numbers.
+pub fn note_numbers(note: Note) -> NoteNumbers
+    ensures { λ r. ⌜ r ≡ noteNumbers note ⌝ }
+{
+    match note {
+        Note::None => NoteNumbers {
+            kind: 0,
+            octave: 0,
+            semitone: 0,
+            unknown: 0,
+        },
+        Note::KeyOff => NoteNumbers {
+            kind: 1,
+            octave: 0,
+            semitone: 0,
+            unknown: 0,
+        },
+        Note::Pitch { octave, semitone } => NoteNumbers {
+            kind: 2,
+            octave,
+            semitone,
+            unknown: 0,
+        },
+        Note::Unknown(byte) => NoteNumbers {
+            kind: 3,
+            octave: 0,
+            semitone: 0,
+            unknown: byte,
+        },
+    }
 }
 
 // A cell as it is shown.

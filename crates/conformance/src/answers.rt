@@ -2,6 +2,7 @@
 use crate::text::print_numbers;
 use cells::Cell;
 use cells::Note;
+use cells::note_numbers;
 use listing_text::Listing;
 use packed_rows::CellAnswer;
 use packed_rows::Packing;
@@ -14,13 +15,6 @@ pub struct Answer {
     pub number: usize,
     pub place: usize,
     pub length: usize,
-}
-
-// A note as it is printed: 0 none, 1 key off, 2 a pitch, 3 unknown, with octave and semitone, or the byte.
-pub struct NoteNumbers {
-    pub kind: u8,
-    pub a: u8,
-    pub b: u8,
 }
 
 fn of_refusal(r: Refusal) -> Answer {
@@ -89,31 +83,6 @@ fn found(c: CellAnswer) -> Cell {
     }
 }
 
-pub fn note_numbers(note: Note) -> NoteNumbers {
-    match note {
-        Note::None => NoteNumbers {
-            kind: 0,
-            a: 0,
-            b: 0,
-        },
-        Note::KeyOff => NoteNumbers {
-            kind: 1,
-            a: 0,
-            b: 0,
-        },
-        Note::Pitch { octave, semitone } => NoteNumbers {
-            kind: 2,
-            a: octave,
-            b: semitone,
-        },
-        Note::Unknown(byte) => NoteNumbers {
-            kind: 3,
-            a: byte,
-            b: 0,
-        },
-    }
-}
-
 // Prints the line of a cell that was asked for.
 pub fn print_cell_answer(answer: CellAnswer, line: &mut [u8]) {
     let a = of_cell(answer);
@@ -124,8 +93,9 @@ pub fn print_cell_answer(answer: CellAnswer, line: &mut [u8]) {
         a.number,
         a.place,
         p.kind as usize,
-        p.a as usize,
-        p.b as usize,
+        p.octave as usize,
+        p.semitone as usize,
+        p.unknown as usize,
         c.instrument as usize,
         c.command1 as usize,
         c.parameter1 as usize,

@@ -1,5 +1,4 @@
 // One case after the other.
-use crate::answers::note_numbers;
 use crate::answers::of_listing;
 use crate::answers::of_packing;
 use crate::answers::of_unpacking;
@@ -14,6 +13,7 @@ use crate::text::fill;
 use crate::text::print_bytes;
 use crate::text::print_numbers;
 use crate::text::within;
+use cells::note_numbers;
 ghost use Prim.Native.Nat.{_≤_};
 ghost use lib.ListN.{length};
 
@@ -72,8 +72,9 @@ fn print_shown(cell: [u8; 6], line: &mut [u8]) {
     let p = note_numbers(note);
     let numbers = [
         p.kind as usize,
-        p.a as usize,
-        p.b as usize,
+        p.octave as usize,
+        p.semitone as usize,
+        p.unknown as usize,
         c.instrument as usize,
         c.command1 as usize,
         c.parameter1 as usize,

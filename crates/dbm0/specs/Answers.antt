@@ -5,12 +5,10 @@ use Rattle.refusal.specs.declared.Refusal.{Refusal}
 use Rattle.refusal.specs.declared.Verdict.{Verdict}
 use Rattle.refusal.specs.declared.Verdict.the-variants.{Accepted, Refused}
 use Rattle.cells.specs.declared.Cell.{Cell}
-use Rattle.cells.specs.declared.Note.{Note}
-use Rattle.cells.specs.declared.Note.the-variants.{None, KeyOff, Pitch, Unknown}
+use Rattle.cells.specs.Shown.{noteNumbers}
 use Rattle.packed_rows.specs.declared.CellAnswer.{CellAnswer}
 use Rattle.packed_rows.specs.declared.CellAnswer.the-variants.{Found, Refused as CellRefused}
 use Rattle.dbm0.specs.declared.ModuleAnswer.{ModuleAnswer}
-use Rattle.dbm0.specs.declared.NoteNumbers.{NoteNumbers}
 use Rattle.dbm0.specs.declared.PatternCell.{PatternCell}
 
 abbrev pub told : ℕ → ℕ → ModuleAnswer
@@ -19,13 +17,6 @@ told number place = record { number = number; place = place }
 abbrev pub toldModule : Verdict → ModuleAnswer
 toldModule Accepted = told 0 0
 toldModule (Refused r) = told (r .number) (r .place)
-
--- N2 to N4: a note in numbers: its kind, octave and semitone of a pitch, the byte of an unknown note.
-abbrev pub noteNumbers : Note → NoteNumbers
-noteNumbers None = record { kind = 0; octave = 0; semitone = 0; unknown = 0 }
-noteNumbers KeyOff = record { kind = 1; octave = 0; semitone = 0; unknown = 0 }
-noteNumbers (Pitch octave semitone) = record { kind = 2; octave = octave; semitone = semitone; unknown = 0 }
-noteNumbers (Unknown byte) = record { kind = 3; octave = 0; semitone = 0; unknown = byte }
 
 abbrev pub noCell : Refusal → PatternCell
 noCell r = record {

@@ -1,7 +1,7 @@
 // The C entry points of the module reader: the check of a module, every query about it, all its records, and its repacking. An answer begins
 // with the refusal's number (0: none) and place.
 use cells::Cell;
-use cells::Note;
+use cells::note_numbers;
 use envelopes::CountAnswer;
 use envelopes::EnvelopeAnswer;
 use envelopes::EnvelopeKind;
@@ -31,22 +31,13 @@ ghost use Rattle.patterns.specs.Shown.{rowsAnswer, cellAnswer, unpackAnswer, un
 ghost use Rattle.samples.specs.Shown.{sampleAnswer, framesAnswer, frameAnswer, allFramesAnswer, allFramesOutput};
 ghost use Rattle.records.specs.Records.{allAnswer, allOutput};
 ghost use Rattle.repack.specs.Repacked.{repackAnswer, repackOutput};
-ghost use Rattle.dbm0.specs.Answers.{told, toldModule, noteNumbers, noCell, foundCell, toldCell};
+ghost use Rattle.dbm0.specs.Answers.{told, toldModule, noCell, foundCell, toldCell};
 
 // The answer of the check.
 #[repr(C)]
 pub struct ModuleAnswer {
     pub number: u64,
     pub place: usize,
-}
-
-// A note in numbers: its kind (0 none, 1 key off, 2 pitch, 3 unknown), octave and semitone of a pitch, and the byte of an unknown one;
-// what a kind does not have is 0.
-pub struct NoteNumbers {
-    pub kind: u8,
-    pub octave: u8,
-    pub semitone: u8,
-    pub unknown: u8,
 }
 
 // A cell.
@@ -180,37 +171,6 @@ pub extern "C" fn dbm0_rows(m: &[u8], pattern: usize) -> RowsAnswer
     ensures { λ r. ⌜ r ≡ rowsAnswer (now (m .entry)) pattern ⌝ }
 {
     patterns::rows(m, pattern)
-}
-
-fn note_numbers(note: Note) -> NoteNumbers
-    ensures { λ r. ⌜ r ≡ noteNumbers note ⌝ }
-{
-    match note {
-        Note::None => NoteNumbers {
-            kind: 0,
-            octave: 0,
-            semitone: 0,
-            unknown: 0,
-        },
-        Note::KeyOff => NoteNumbers {
-            kind: 1,
-            octave: 0,
-            semitone: 0,
-            unknown: 0,
-        },
-        Note::Pitch { octave, semitone } => NoteNumbers {
-            kind: 2,
-            octave,
-            semitone,
-            unknown: 0,
-        },
-        Note::Unknown(byte) => NoteNumbers {
-            kind: 3,
-            octave: 0,
-            semitone: 0,
-            unknown: byte,
-        },
-    }
 }
 
 fn no_cell(r: Refusal) -> PatternCell

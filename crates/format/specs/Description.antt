@@ -1,5 +1,6 @@
--- FORMAT.md, D1 and D2: a module as data. Numbers are as they are stored, unsigned; names, fillers and the data of other chunks are lists
--- of bytes. What of this is a module, WellFormed.antt says; which bytes it is, Encoding.antt.
+-- FORMAT.md, D1 and D2: a module as data. Numbers are as they are stored, unsigned: panning, values and frames are signed where they are
+-- shown (Shown.antt). Names, fillers and the data of other chunks are lists of bytes. WellFormed.antt says what of this is a module,
+-- Encoding.antt which bytes it is.
 use Prim.Native.Nat.{ℕ}
 use mathlib.Core.List.{List}
 use Rattle.packed_rows.specs.Entries.{Entry}
@@ -17,7 +18,7 @@ pub record Song : Type 0 where
   pub name : List ℕ
   pub playlist : List ℕ
 
--- B3: an instrument. Its sample is counted from 1, and 0 is none; its panning is a signed number.
+-- B3: an instrument. Its sample is counted from 1, and 0 is none; its panning is as stored, and signed when it is shown.
 pub record Instrument : Type 0 where
   pub name : List ℕ
   pub sample : ℕ
@@ -33,7 +34,7 @@ pub record Pattern : Type 0 where
   pub rows : List (List Entry)
   pub filler : List ℕ
 
--- B5: a sample: frames of 8, 16 or 32 bits, each a signed number.
+-- B5: a sample: frames of 8, 16 or 32 bits, as stored, and signed when they are shown.
 pub data Width : Type 0 where
   eight : Width
   sixteen : Width
@@ -43,7 +44,7 @@ pub record Sample : Type 0 where
   pub width : Width
   pub frames : List ℕ
 
--- B6: an envelope, and its points.
+-- B6: an envelope, and its points, whose values are as stored.
 pub record Point : Type 0 where
   pub position : ℕ
   pub value : ℕ

@@ -1,5 +1,7 @@
 -- The register samples P1 to P12 (document 01, "Register samples"), as the rows of one table under one statement: what the definitions
--- give, as numbers, is what the register says. P1 to P9 are streams, P10 to P12 small modules, written out byte by byte.
+-- give, as numbers, is what the register says. P1 to P9 are streams, P10 to P12 small modules, written out byte by byte. Rows with the
+-- number 0 are not in the register: notes at the ends of the octaves and semitones, a cell of six different fields, and a row whose
+-- packed bytes show the order of tracks.
 use Prim.Native.Nat.{ℕ, suc}
 use mathlib.Core.Path.{_≡_, refl}
 use mathlib.Core.List.{List, [], _∷_, _++_, map}
@@ -8,6 +10,7 @@ use lib.IntN.{ℤ, pos, negsuc}
 use Rattle.refusal.specs.Numbers.{verdictNumber, verdictPlace}
 use Rattle.refusal.specs.declared.Verdict.{Verdict}
 use Rattle.cells.specs.Cells.{joined, rowsOf}
+use Rattle.cells.specs.Shown.{shownNote, noteNumbers}
 use Rattle.packed_rows.specs.Stream.{readFrom, reading, cellsRead}
 use Rattle.packed_rows.specs.Packer.{packedStream}
 use Rattle.packed_rows.specs.Answers.{checkAnswer, cellOf, cellNumbers}
@@ -22,7 +25,7 @@ use Rattle.samples.specs.Shown.{frameAnswer}
 use Rattle.samples.specs.declared.FrameAnswer.{FrameAnswer}
 use Rattle.grammar.specs.Rules.{infoLetters, songLetters, instLetters, pattLetters, smplLetters, penvLetters}
 
--- A row of the table: the sample's number, what the definitions give, and what the register says.
+-- A row of the table: the sample's number (0: none of the register), what the definitions give, and what the register says.
 pub record Sample : Type 0 where
   pub number : ℕ
   pub found : List ℕ
@@ -67,6 +70,50 @@ p9 = 0x00 ∷ []
 
 accepted : List ℕ
 accepted = 0 ∷ 0 ∷ []
+
+-- The pattern of P1, P2 and P3: 2 rows of 4 cells; row 0 track 2 is G-4, instrument 1.
+g4Cells : List ℕ
+g4Cells =
+    0 ∷ 0 ∷ 0 ∷ 0 ∷ 0 ∷ 0
+    ∷ 0x47 ∷ 1 ∷ 0 ∷ 0 ∷ 0 ∷ 0
+    ∷ 0 ∷ 0 ∷ 0 ∷ 0 ∷ 0 ∷ 0
+    ∷ 0 ∷ 0 ∷ 0 ∷ 0 ∷ 0 ∷ 0
+    ∷ 0 ∷ 0 ∷ 0 ∷ 0 ∷ 0 ∷ 0
+    ∷ 0 ∷ 0 ∷ 0 ∷ 0 ∷ 0 ∷ 0
+    ∷ 0 ∷ 0 ∷ 0 ∷ 0 ∷ 0 ∷ 0
+    ∷ 0 ∷ 0 ∷ 0 ∷ 0 ∷ 0 ∷ 0
+    ∷ []
+
+-- An empty row of 4 cells.
+emptyCells : List ℕ
+emptyCells = replicate 24 0
+
+-- One row, in track 1 a cell of six different fields.
+sixFields : List ℕ
+sixFields = 0x01 ∷ 0x3F ∷ 0x47 ∷ 0x02 ∷ 0x03 ∷ 0x04 ∷ 0x05 ∷ 0x06 ∷ 0x00 ∷ []
+
+-- One row of 4 cells, all but the second non-empty, and what it packs to: tracks 1, 3 and 4, with masks $01, $22 and $3F.
+threeCells : List ℕ
+threeCells =
+    0x47 ∷ 0 ∷ 0 ∷ 0 ∷ 0 ∷ 0
+    ∷ 0 ∷ 0 ∷ 0 ∷ 0 ∷ 0 ∷ 0
+    ∷ 0 ∷ 2 ∷ 0 ∷ 0 ∷ 0 ∷ 9
+    ∷ 0x11 ∷ 0x22 ∷ 0x33 ∷ 0x44 ∷ 0x55 ∷ 0x66
+    ∷ []
+
+threePacked : List ℕ
+threePacked =
+    0x01 ∷ 0x01 ∷ 0x47
+    ∷ 0x03 ∷ 0x22 ∷ 2 ∷ 9
+    ∷ 0x04 ∷ 0x3F ∷ 0x11 ∷ 0x22 ∷ 0x33 ∷ 0x44 ∷ 0x55 ∷ 0x66
+    ∷ 0x00
+    ∷ []
+
+-- How a note is shown, in numbers: kind, octave, semitone, the byte of an unknown one.
+noteShown : ℕ → List ℕ
+noteShown note =
+    let n = noteNumbers (shownNote note) in
+    n .kind ∷ n .octave ∷ n .semitone ∷ n .unknown ∷ []
 
 -- A signed number as two: 1 and its magnitude where it is negative, else 0 and itself.
 signNumbers : ℤ → List ℕ
@@ -127,20 +174,23 @@ unfolding smallModule
 p12 flags frame = smallModule 3 0 1 [] (0 ∷ 0 ∷ 0 ∷ flags ∷ 0 ∷ 0 ∷ 0 ∷ 1 ∷ frame) []
 
 pub samples : List Sample
-unfolding checked repacked p1 p2 p3 p4 p5 p7 p8 p9 accepted moduleChecked valueNumbers frameNumbers p10 p11 p12
+unfolding checked repacked p1 p2 p3 p4 p5 p7 p8 p9 g4Cells emptyCells sixFields threeCells threePacked noteShown accepted moduleChecked valueNumbers frameNumbers p10 p11 p12
 samples =
     record { number = 1; found = checked 2 4 p1; registered = accepted }
-    ∷ record { number = 1; found = cellNumbers (cellOf p1 2 4 0 2); registered = 0 ∷ 0 ∷ 0x47 ∷ 1 ∷ 0 ∷ 0 ∷ 0 ∷ 0 ∷ [] }
+    ∷ record { number = 1; found = cellNumbers (cellOf p1 2 4 0 2); registered = 0 ∷ 0 ∷ 2 ∷ 4 ∷ 7 ∷ 0 ∷ 1 ∷ 0 ∷ 0 ∷ 0 ∷ 0 ∷ [] }
+    ∷ record { number = 1; found = cellsRead 2 4 p1; registered = g4Cells }
     ∷ record { number = 1; found = repacked 2 4 p1; registered = p1 }
     ∷ record { number = 2; found = checked 2 4 p2; registered = accepted }
-    ∷ record { number = 2; found = cellsRead 2 4 p2; registered = cellsRead 2 4 p1 }
+    ∷ record { number = 2; found = cellsRead 2 4 p2; registered = g4Cells }
     ∷ record { number = 2; found = repacked 2 4 p2; registered = p1 }
     ∷ record { number = 3; found = checked 2 4 p3; registered = accepted }
-    ∷ record { number = 3; found = cellsRead 2 4 p3; registered = cellsRead 2 4 p1 }
+    ∷ record { number = 3; found = cellsRead 2 4 p3; registered = g4Cells }
     ∷ record { number = 3; found = repacked 2 4 p3; registered = p1 }
     ∷ record { number = 4; found = checked 1 4 p4; registered = accepted }
+    ∷ record { number = 4; found = cellsRead 1 4 p4; registered = emptyCells }
     ∷ record { number = 4; found = repacked 1 4 p4; registered = 0 ∷ [] }
     ∷ record { number = 5; found = checked 1 4 p5; registered = accepted }
+    ∷ record { number = 5; found = cellsRead 1 4 p5; registered = emptyCells }
     ∷ record { number = 5; found = repacked 1 4 p5; registered = 0 ∷ [] }
     ∷ record { number = 6; found = checked 0 4 []; registered = accepted }
     ∷ record { number = 6; found = checked 0 4 (0 ∷ []); registered = 15 ∷ 0 ∷ [] }
@@ -155,6 +205,18 @@ samples =
     ∷ record { number = 11; found = moduleChecked (p11 0 32 65); registered = 13 ∷ 136 ∷ [] }
     ∷ record { number = 12; found = frameNumbers (frameAnswer (p12 4 (0xFF ∷ 0xFF ∷ 0xFF ∷ 0xFF ∷ [])) 1 0); registered = 0 ∷ 0 ∷ 1 ∷ 1 ∷ [] }
     ∷ record { number = 12; found = frameNumbers (frameAnswer (p12 1 (0x80 ∷ [])) 1 0); registered = 0 ∷ 0 ∷ 1 ∷ 32768 ∷ [] }
+    ∷ record { number = 0; found = noteShown 0; registered = 0 ∷ 0 ∷ 0 ∷ 0 ∷ [] }
+    ∷ record { number = 0; found = noteShown 0x0B; registered = 3 ∷ 0 ∷ 0 ∷ 0x0B ∷ [] }
+    ∷ record { number = 0; found = noteShown 0x10; registered = 2 ∷ 1 ∷ 0 ∷ 0 ∷ [] }
+    ∷ record { number = 0; found = noteShown 0x1B; registered = 2 ∷ 1 ∷ 11 ∷ 0 ∷ [] }
+    ∷ record { number = 0; found = noteShown 0x1C; registered = 3 ∷ 0 ∷ 0 ∷ 0x1C ∷ [] }
+    ∷ record { number = 0; found = noteShown 0x1F; registered = 1 ∷ 0 ∷ 0 ∷ 0 ∷ [] }
+    ∷ record { number = 0; found = noteShown 0x8B; registered = 2 ∷ 8 ∷ 11 ∷ 0 ∷ [] }
+    ∷ record { number = 0; found = noteShown 0x8C; registered = 3 ∷ 0 ∷ 0 ∷ 0x8C ∷ [] }
+    ∷ record { number = 0; found = noteShown 0x90; registered = 3 ∷ 0 ∷ 0 ∷ 0x90 ∷ [] }
+    ∷ record { number = 0; found = cellNumbers (cellOf sixFields 1 4 0 1); registered = 0 ∷ 0 ∷ 2 ∷ 4 ∷ 7 ∷ 0 ∷ 2 ∷ 3 ∷ 4 ∷ 5 ∷ 6 ∷ [] }
+    ∷ record { number = 0; found = packedStream (rowsOf 1 4 threeCells); registered = threePacked }
+    ∷ record { number = 0; found = cellsRead 1 4 threePacked; registered = threeCells }
     ∷ []
 
 -- The statement.

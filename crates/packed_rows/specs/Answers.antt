@@ -13,7 +13,7 @@ use Rattle.cells.specs.Cells.{both, sizesFit, cellBytes, rowsOf, emptyCell}
 use Rattle.packed_rows.specs.Entries.{rowsFrom}
 use Rattle.packed_rows.specs.Stream.{Reading, brokenAt, whole, readStream, entriesRead, cellsRead}
 use Rattle.packed_rows.specs.Packer.{packedStream, packedLength}
-use Rattle.cells.specs.Shown.{shownCell, noteByte}
+use Rattle.cells.specs.Shown.{noteNumbers, shownCell}
 use Rattle.packed_rows.specs.declared.Unpacking.{Unpacking}
 use Rattle.packed_rows.specs.declared.Unpacking.the-variants.{Unpacked, Refused as UnpackingRefused}
 use Rattle.packed_rows.specs.declared.Packing.{Packing}
@@ -103,8 +103,11 @@ cellOf stream rows tracks row track =
     (cond (not (cellThere rows tracks row track)) (CellRefused (refusal NotThere 0))
     (cellIf (readStream rows tracks stream) tracks row track))
 
--- F1, N1: what the answer for a cell tells as numbers: the refusal's number and place, 0 and 0 where there is none, and then
--- the note's byte, the instrument and the two commands with their parameters.
+-- F1, N1 to N4: the answer for a cell as numbers: the refusal's number and place, 0 and 0 where there is none; then the note in
+-- numbers, the instrument and the two commands with their parameters.
 abbrev pub cellNumbers : CellAnswer → List ℕ
-cellNumbers (Found c) = 0 ∷ 0 ∷ noteByte (c .note) ∷ c .instrument ∷ c .command1 ∷ c .parameter1 ∷ c .command2 ∷ c .parameter2 ∷ []
+cellNumbers (Found c) =
+    0 ∷ 0
+    ∷ noteNumbers (c .note) .kind ∷ noteNumbers (c .note) .octave ∷ noteNumbers (c .note) .semitone ∷ noteNumbers (c .note) .unknown
+    ∷ c .instrument ∷ c .command1 ∷ c .parameter1 ∷ c .command2 ∷ c .parameter2 ∷ []
 cellNumbers (CellRefused r) = r .number ∷ r .place ∷ []

@@ -1,6 +1,6 @@
 use borrow.Author.Needs.{needs}
-use Rattle.dbm0.proofs.note_numbers.Statement.{statement}
-use Rattle.dbm0.proofs.note_numbers.Tie as tie
+use Rattle.cells.proofs.note_numbers.Statement.{statement}
+use Rattle.cells.proofs.note_numbers.Tie as tie
 
 enum-told : tie.Need-enum-told
 enum-told c = search needs
