@@ -3,7 +3,7 @@
 -- So a stream has one list of entries or one place of its fault, and no accepted stream begins another.
 use Prim.Native.Nat.{ℕ, zero, suc, _+_, _-_, _<_}
 use mathlib.Core.Path.{_≡_, refl, sym, ap, subst, _∙_}
-use mathlib.Core.Logic.{_↔_, _⊎_, inl, inr}
+use mathlib.Core.Logic.{_↔_}
 use mathlib.Core.List.{List, [], _∷_, _++_, map, append-assoc, append-nil}
 use mathlib.Core.Bool.{true}
 use native.Mathlib.Omega.{arith}
@@ -12,8 +12,8 @@ use lib.ListN.{length, length-append}
 use Rattle.cells.specs.Cells.{joined}
 use Rattle.packed_rows.specs.Entries.{Entry, entryBytes, soundEntry, rowStream, streamOf}
 use Rattle.packed_rows.specs.Stream.{Reading, brokenAt, whole, newRow, addEntry, reading, readStream}
-use Rattle.packed_rows.specs.Theorems.{every, allSound, StreamOf, BrokenAt}
-use Rattle.packed_rows.proofs.Reading.{Neither, both-true, true-both, front-entry, reading-end, reading-over, reading-row-end, reading-entry, reading-broken, along}
+use Rattle.packed_rows.specs.Theorems.{every, allSound, StreamOf, StreamFault, faultyEntry, leftOver, rowEndsLack, BrokenAt}
+use Rattle.packed_rows.proofs.Reading.{Neither, nothing-neither, both-true, true-both, front-entry, reading-end, reading-over, reading-row-end, reading-entry, reading-broken, along}
 
 -- The bytes of entries.
 abbrev run : List Entry → List ℕ
@@ -35,7 +35,11 @@ module _ (tracks rows rows′ q : ℕ) (head rest : List ℕ) (b : BrokenAt rows
     unfinishedSound = t;
     splits = rw (grown, append-assoc) (ap (λ (l : List ℕ). head ++ l) (b .splits));
     there = rw (grown, length-append) (ap (λ (n : ℕ). length head + n) (b .there));
-    why = elim (b .why) [ inl w ↦ inl (less (w .0), w .1, w .2) | inr w ↦ inr (same (w .0) (w .1) .0, same (w .0) (w .1) .1, w .2) ];
+    why = elim (b .why) [
+      | faultyEntry l some noRowEnd noEntry ↦ faultyEntry (less l) some noRowEnd noEntry
+      | leftOver l u some ↦ leftOver (same l u .0) (same l u .1) some
+      | rowEndsLack l none ↦ rowEndsLack (less l) none
+    ];
   }
 
 broken-row-end : (tracks rows q : ℕ) (rest : List ℕ) → BrokenAt rows tracks rest q → BrokenAt (suc rows) tracks (0 ∷ rest) (1 + q)
@@ -60,7 +64,7 @@ broken-entry tracks rows q e rest h b = go (b .full) refl
         (rw p (simp append-assoc)) (λ l. rw p at l) (λ l u. (rw p at l, u))
 
 -- Broken at its front.
-broken-here : (tracks rows : ℕ) (s : List ℕ) → ((0 < rows) × Neither tracks s) ⊎ ((0 ≡ rows) × (s ≡ [] → ⊥)) → BrokenAt rows tracks s 0
+broken-here : (tracks rows : ℕ) (s : List ℕ) → StreamFault rows tracks [] [] s → BrokenAt rows tracks s 0
 broken-here tracks rows s why = record {
   full = [];
   unfinished = [];
@@ -69,15 +73,22 @@ broken-here tracks rows s why = record {
   unfinishedSound = refl;
   splits = refl;
   there = refl;
-  why = elim why [ inl w ↦ inl (w .0, w .1 .0, w .1 .1) | inr w ↦ inr (w .0, refl, w .1) ];
+  why = why;
 }
+
+some-follow : (b : ℕ) (s : List ℕ) → b ∷ s ≡ [] → ⊥
+some-follow b s e = let z : _≡_ {A = ℕ} 0 1 = cc in omega arith
+
+neither-here : (tracks rows : ℕ) (s : List ℕ) → Neither tracks s → StreamFault (suc rows) tracks [] [] s
+neither-here tracks rows [] n = rowEndsLack (omega arith) refl
+neither-here tracks rows (b ∷ s) n = faultyEntry (omega arith) (some-follow b s) (n .0) (n .1)
 
 -- What a reading says is so.
 told : (tracks rows at : ℕ) (s : List ℕ) → Told tracks rows at s (reading tracks rows at s)
 told tracks =
     along tracks (Told tracks) (λ at. record { count = refl; sound = refl; bytes = refl })
-    (λ at b s. (0, omega arith, broken-here tracks 0 (b ∷ s) (inr (refl, λ e. let z : _≡_ {A = ℕ} 0 1 = cc in omega arith))))
-    (λ rows at s n. (0, omega arith, broken-here tracks (suc rows) s (inl (omega arith, n))))
+    (λ at b s. (0, omega arith, broken-here tracks 0 (b ∷ s) (leftOver refl refl (some-follow b s))))
+    (λ rows at s n. (0, omega arith, broken-here tracks (suc rows) s (neither-here tracks rows s n)))
     row-end-told entry-told
   where
     row-end-told : (rows at : ℕ) (rest : List ℕ) (r : Reading) → Told tracks rows (at + 1) rest r → Told tracks (suc rows) at (0 ∷ rest) (newRow r)
@@ -174,18 +185,30 @@ refused-from rows tracks at stream p = (forth, back)
 
     back : BrokenAt rows tracks stream p → reading tracks rows at stream ≡ brokenAt (at + p)
     back b =
-        let to : ℕ = at + length (streamOf (b .full)) in
-        let far : to + length (run (b .unfinished)) ≡ at + p = omega (arith, length-append (streamOf (b .full)) (run (b .unfinished)), b .there) in
         rw (b .splits ∙ append-assoc (streamOf (b .full)) (run (b .unfinished)) (b .after))
         (elim (b .why) [
-          | inl w ↦
-              let k : ℕ = rows - suc (length (b .full)) in
-              past-fault tracks (suc k) rows at (at + p) (b .full) (run (b .unfinished) ++ b .after) (b .fullSound) (omega (arith, w .0))
-              (past-entries tracks k to (at + p) (b .unfinished) (b .after) (b .unfinishedSound) far ∙ ap (addEntries (b .unfinished)) (reading-broken tracks k (at + p) (b .after) (w .1, w .2)) ∙ entries-broken (b .unfinished) (at + p))
-          | inr w ↦
-              past-fault tracks 0 rows at (at + p) (b .full) (run (b .unfinished) ++ b .after) (b .fullSound) (omega (arith, w .0))
-              (let here : to ≡ at + p = omega (arith, rw (w .1) at far) in rw (w .1, here) (reading-left tracks (at + p) (b .after) (w .2)))
+          | faultyEntry l some noRowEnd noEntry ↦ rowsLeft l (noRowEnd, noEntry)
+          | leftOver l u some ↦
+              past-fault tracks 0 rows at (at + p) (b .full) (run (b .unfinished) ++ b .after) (b .fullSound) (omega (arith, l))
+              (let here : to ≡ at + p = omega (arith, rw u at far) in rw (u, here) (reading-left tracks (at + p) (b .after) some))
+          | rowEndsLack l none ↦ rowsLeft l (rw none (nothing-neither tracks [] refl))
         ])
+      where
+        to : ℕ
+        to = at + length (streamOf (b .full))
+
+        far : to + length (run (b .unfinished)) ≡ at + p
+        far = omega (arith, length-append (streamOf (b .full)) (run (b .unfinished)), b .there)
+
+        -- Rows are left, and neither a row end nor a sound entry follows.
+        rowsLeft : length (b .full) < rows → Neither tracks (b .after)
+            → reading tracks rows at (streamOf (b .full) ++ (run (b .unfinished) ++ b .after)) ≡ brokenAt (at + p)
+        rowsLeft l n =
+            let k : ℕ = rows - suc (length (b .full)) in
+            past-fault tracks (suc k) rows at (at + p) (b .full) (run (b .unfinished) ++ b .after) (b .fullSound) (omega (arith, l))
+            (past-entries tracks k to (at + p) (b .unfinished) (b .after) (b .unfinishedSound) far
+            ∙ ap (addEntries (b .unfinished)) (reading-broken tracks k (at + p) (b .after) n)
+            ∙ entries-broken (b .unfinished) (at + p))
 
 pub refused-exactly : (rows tracks : ℕ) (stream : List ℕ) (p : ℕ) → (readStream rows tracks stream ≡ brokenAt p) ↔ BrokenAt rows tracks stream p
 refused-exactly rows tracks stream p = rw zero-add at (refused-from rows tracks 0 stream p)

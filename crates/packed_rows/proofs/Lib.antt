@@ -18,6 +18,7 @@ pub mod Shortest
 pub mod Storing
 pub mod StreamLength
 pub mod Unpacks
+pub mod PackedUnpacked
 pub mod Sizes
 pub mod SkippingRows
 pub mod Verdicts

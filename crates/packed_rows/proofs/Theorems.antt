@@ -14,9 +14,12 @@
 --     are sound, and the stream is their bytes, each row with its row end. A stream is so in one way at most. The check accepts
 --     exactly these streams.
 --  7. A stream is refused with 15 at a place exactly when up to the place it is whole rows and entries of an unfinished row, all
---     sound, and there either rows are left and neither a row end nor a sound entry follows, or the rows are full, no row is
---     unfinished, and bytes follow. There is one such place. No proper beginning of an accepted stream is accepted with the
---     same rows and tracks.
+--     sound, and there it is broken in one of three ways: rows are left and bytes follow that begin with neither a row end nor a
+--     sound entry; or the rows are full, no row is unfinished, and bytes follow; or rows are left and nothing follows. There is one
+--     such place. No proper beginning of an accepted stream is accepted with the same rows and tracks.
+-- 25. Any pattern packed into enough room, and what was written unpacked into enough room, gives the pattern's bytes and leaves the
+--     rest of both outputs. This is for rows and tracks that fit, for cells of that many rows and tracks, and for every output that
+--     has at least the packed length, and every other one that has at least the length of the cells.
 --
 -- The reader is `readStream`, the packer `packedStream`, the length `packedLength`: those that the contracts cite.
 use Prim.Native.Nat.{ℕ, _+_, _-_, _*_, _<_, _≤_}
@@ -33,7 +36,7 @@ use Rattle.packed_rows.specs.Entries.{Entry}
 use Rattle.packed_rows.specs.Stream.{readStream, whole, brokenAt, AcceptedAs}
 use Rattle.packed_rows.specs.Packer.{packedStream, packedLength}
 use Rattle.packed_rows.specs.Answers.{checkAnswer, unpackAnswer, unpackOutput, packAnswer}
-use Rattle.packed_rows.specs.Theorems.{StreamOf, Reordered, LastStored, BrokenAt}
+use Rattle.packed_rows.specs.Theorems.{StreamOf, Reordered, LastStored, BrokenAt, PackedAndUnpacked}
 use Rattle.packed_rows.specs.declared.Unpacking.the-variants.{Unpacked}
 use Rattle.packed_rows.specs.declared.Packing.the-variants.{Packed, Refused as PackingRefused}
 use Rattle.packed_rows.proofs.Grammar as Grammar
@@ -42,6 +45,7 @@ use Rattle.packed_rows.proofs.StreamLength as StreamLength
 use Rattle.packed_rows.proofs.LastEntry as LastEntry
 use Rattle.packed_rows.proofs.Unpacks as Unpacks
 use Rattle.packed_rows.proofs.Verdicts as Verdicts
+use Rattle.packed_rows.proofs.PackedUnpacked as PackedUnpacked
 
 module _ (rows tracks : ℕ) where
   -- 1.
@@ -101,3 +105,8 @@ module _ (rows tracks : ℕ) where
 
   pub no-proper-beginning : (stream more : List ℕ) (entries entries′ : List (List Entry)) → readStream rows tracks stream ≡ whole entries → readStream rows tracks (stream ++ more) ≡ whole entries′ → more ≡ []
   no-proper-beginning = Grammar.no-proper-beginning rows tracks
+
+  -- 25.
+  pub packed-unpacked : (cells out back : List ℕ) → sizesFit rows tracks ≡ true → length cells ≡ cellBytes rows tracks
+      → packedLength (rowsOf rows tracks cells) ≤ length out → cellBytes rows tracks ≤ length back → PackedAndUnpacked rows tracks cells out back
+  packed-unpacked = PackedUnpacked.packed-unpacked rows tracks

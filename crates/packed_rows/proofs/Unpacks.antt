@@ -3,7 +3,7 @@ use Prim.Native.Nat.{ℕ, _≤_}
 use native.Mathlib.Omega.{arith}
 use mathlib.Core.Path.{_≡_, refl, sym, _∙_}
 use mathlib.Core.Logic.{_↔_}
-use mathlib.Core.List.{List}
+use mathlib.Core.List.{List, _++_}
 use mathlib.Core.Bool.{true}
 use borrow.Author.Tests.{le-ltb}
 use lib.ListN.{length, take, drop}
@@ -22,17 +22,28 @@ module _ (rows tracks : ℕ) (stream out : List ℕ) (fit : sizesFit rows tracks
   unpack-answer : (r : Reading) → readStream rows tracks stream ≡ r → unpackAnswer stream rows tracks (length out) ≡ unpackedIf (verdictOf r) (cellBytes rows tracks)
   unpack-answer r q = simp (fit, le-ltb (length out) (cellBytes rows tracks) room, q)
 
-  -- The cells stand at the front of the output.
-  unpacked-front : (cells : List ℕ) → AcceptedAs rows tracks stream cells → take (cellBytes rows tracks) (unpackOutput stream rows tracks out) ≡ cells
-  unpacked-front cells accepted =
-      rw (unpack-answer (whole (accepted .entries)) (accepted .read), accepted .read, accepted .gives)
-      (take-at cells (drop (cellBytes rows tracks) out) (cellBytes rows tracks) (accepted-length accepted))
+  module _ (cells : List ℕ) (accepted : AcceptedAs rows tracks stream cells) where
+    pub unpacks-whole : unpackAnswer stream rows tracks (length out) ≡ Unpacked (cellBytes rows tracks)
+    unpacks-whole = unpack-answer (whole (accepted .entries)) (accepted .read)
+
+    -- The output begins with the cells, and the rest of it stays.
+    pub unpacked-output : unpackOutput stream rows tracks out ≡ cells ++ drop (cellBytes rows tracks) out
+    unpacked-output = rw (unpacks-whole, accepted .read, accepted .gives)
+
+    unpacked-front : take (cellBytes rows tracks) (unpackOutput stream rows tracks out) ≡ cells
+    unpacked-front = rw unpacked-output (take-at cells (drop (cellBytes rows tracks) out) (cellBytes rows tracks) (accepted-length accepted))
 
 pub unpacks-exactly : (rows tracks : ℕ) (stream cells out : List ℕ) → sizesFit rows tracks ≡ true → cellBytes rows tracks ≤ length out
     → AcceptedAs rows tracks stream cells ↔ ((unpackAnswer stream rows tracks (length out) ≡ Unpacked (cellBytes rows tracks)) × (take (cellBytes rows tracks) (unpackOutput stream rows tracks out) ≡ cells))
 unpacks-exactly rows tracks stream cells out fit room =
-    (λ accepted. (unpack-answer rows tracks stream out fit room (whole (accepted .entries)) (accepted .read), unpacked-front rows tracks stream out fit room cells accepted), λ h. back (readStream rows tracks stream) refl (h .0) (h .1))
+    (there, λ h. back (readStream rows tracks stream) refl (h .0) (h .1))
   where
+    there : AcceptedAs rows tracks stream cells
+        → (unpackAnswer stream rows tracks (length out) ≡ Unpacked (cellBytes rows tracks))
+        × (take (cellBytes rows tracks) (unpackOutput stream rows tracks out) ≡ cells)
+    there accepted =
+        (unpacks-whole rows tracks stream out fit room cells accepted, unpacked-front rows tracks stream out fit room cells accepted)
+
     back : (r : Reading) → readStream rows tracks stream ≡ r → unpackAnswer stream rows tracks (length out) ≡ Unpacked (cellBytes rows tracks) → take (cellBytes rows tracks) (unpackOutput stream rows tracks out) ≡ cells
         → AcceptedAs rows tracks stream cells
     back (brokenAt p) q a t =

@@ -1,14 +1,17 @@
--- The terms that the theorems of proofs/Theorems.antt use beside those of the reader and the packer. None of them reads a stream.
+-- The terms that the theorems of proofs/Theorems.antt use beside those of the reader and the packer. None of them reads a stream, but for
+-- the last record, which is about the answers of two calls.
 use Prim.Native.Nat.{ℕ, _+_, _<_}
 use mathlib.Core.Path.{_≡_}
-use mathlib.Core.Logic.{_⊎_}
 use mathlib.Core.List.{List, [], _∷_, _++_, map, List·Permᴰ}
 use mathlib.Core.Bool.{Bool, true, false}
-use lib.ListN.{length, getD, take}
+use lib.ListN.{length, getD, take, drop}
 use lib.Dec.{eqb}
-use Rattle.cells.specs.Cells.{Row, both, joined}
+use Rattle.cells.specs.Cells.{Row, both, joined, cellBytes, rowsOf}
 use Rattle.packed_rows.specs.Entries.{Entry, named, count, entryBytes, soundEntry, rowStream, streamOf}
-use Rattle.packed_rows.specs.Packer.{packedEntries}
+use Rattle.packed_rows.specs.Packer.{packedEntries, packedStream, packedLength}
+use Rattle.packed_rows.specs.Answers.{packAnswer, packOutput, unpackAnswer, unpackOutput}
+use Rattle.packed_rows.specs.declared.Packing.the-variants.{Packed}
+use Rattle.packed_rows.specs.declared.Unpacking.the-variants.{Unpacked}
 
 -- The test holds of every one.
 abbrev pub every : {A : Type 0} → (A → Bool) → List A → Bool
@@ -47,9 +50,20 @@ pub data LastStored (track field : ℕ) (entries : List Entry) : ℕ → Type 0 
   never : noneNames track field entries → LastStored track field entries 0
   by : (before after : List Entry) (e : Entry) → entries ≡ before ++ (e ∷ after) → names track field e ≡ true → noneNames track field after → LastStored track field entries (storedIn e field)
 
--- F2 with no reader: up to the place the stream is sound: some whole rows and the entries of an unfinished one; and there it is
--- broken: rows are left and what follows begins with neither a row end nor a sound entry (it may be empty), or the rows are
--- full, nothing is unfinished, and bytes are left over.
+-- F2 with no reader: what is wrong after some full rows and the entries of an unfinished one, where these bytes follow. One case for each
+-- of document 01's three places of 15: the first byte of the faulty entry, the first byte left over after the last row end, and the
+-- stream's length if row ends lack.
+pub data StreamFault (rows tracks : ℕ) (full : List (List Entry)) (unfinished : List Entry) (after : List ℕ) : Type 0 where
+  -- Rows are left and bytes follow, which begin with neither a row end nor a sound entry.
+  faultyEntry : length full < rows → (after ≡ [] → ⊥) → ((s : List ℕ) → after ≡ 0 ∷ s → ⊥)
+      → ((e : Entry) (s : List ℕ) → soundEntry tracks e ≡ true → after ≡ entryBytes e ++ s → ⊥) → StreamFault rows tracks full unfinished after
+  -- The rows are full, no row is unfinished, and bytes follow.
+  leftOver : length full ≡ rows → unfinished ≡ [] → (after ≡ [] → ⊥) → StreamFault rows tracks full unfinished after
+  -- Rows are left and nothing follows.
+  rowEndsLack : length full < rows → after ≡ [] → StreamFault rows tracks full unfinished after
+
+-- F2 with no reader: up to the place the stream is some whole rows and the entries of an unfinished one, all sound; and there it is
+-- broken.
 pub record BrokenAt (rows tracks : ℕ) (stream : List ℕ) (place : ℕ) : Type 0 where
   pub full : List (List Entry)
   pub unfinished : List Entry
@@ -58,4 +72,18 @@ pub record BrokenAt (rows tracks : ℕ) (stream : List ℕ) (place : ℕ) : Type
   pub unfinishedSound : every (soundEntry tracks) unfinished ≡ true
   pub splits : stream ≡ (streamOf full ++ joined (map entryBytes unfinished)) ++ after
   pub there : length (streamOf full ++ joined (map entryBytes unfinished)) ≡ place
-  pub why : ((length full < rows) × ((s : List ℕ) → after ≡ 0 ∷ s → ⊥) × ((e : Entry) (s : List ℕ) → soundEntry tracks e ≡ true → after ≡ entryBytes e ++ s → ⊥)) ⊎ ((length full ≡ rows) × (unfinished ≡ []) × (after ≡ [] → ⊥))
+  pub why : StreamFault rows tracks full unfinished after
+
+-- What packing cells into an output wrote: as many of the output's first bytes as the packed length.
+abbrev pub writtenTo : List ℕ → ℕ → ℕ → List ℕ → List ℕ
+writtenTo cells rows tracks out = take (packedLength (rowsOf rows tracks cells)) (packOutput cells rows tracks out)
+
+-- Cells are packed into one output, and what was written there is unpacked into another. Packing answers the packed length; the packer's
+-- stream is written, and the rest of the output stays. Unpacking answers the length of the cells; the other output then begins with the
+-- cells, and the rest of it stays.
+pub record PackedAndUnpacked (rows tracks : ℕ) (cells out back : List ℕ) : Type 0 where
+  pub packs : packAnswer cells rows tracks (length out) ≡ Packed (packedLength (rowsOf rows tracks cells))
+  pub packed : packOutput cells rows tracks out ≡ packedStream (rowsOf rows tracks cells) ++ drop (packedLength (rowsOf rows tracks cells)) out
+  pub written : writtenTo cells rows tracks out ≡ packedStream (rowsOf rows tracks cells)
+  pub unpacks : unpackAnswer (writtenTo cells rows tracks out) rows tracks (length back) ≡ Unpacked (cellBytes rows tracks)
+  pub unpacked : unpackOutput (writtenTo cells rows tracks out) rows tracks back ≡ cells ++ drop (cellBytes rows tracks) back
