@@ -26,5 +26,6 @@ pub mod SampleFrames
 pub mod ShownBytes
 pub mod FoundPatterns
 pub mod EnvelopeValues
+pub mod SmallModules
 pub mod Samples
 pub mod Theorems

@@ -4,41 +4,30 @@
 -- packed bytes show the order of tracks.
 use Prim.Native.Nat.{ℕ, suc}
 use mathlib.Core.Path.{_≡_, refl}
-use mathlib.Core.List.{List, [], _∷_, _++_, map}
-use lib.ListN.{length, take, replicate}
+use mathlib.Core.List.{List, [], _∷_, map}
+use lib.ListN.{take, replicate}
 use lib.IntN.{ℤ, pos, negsuc}
-use Rattle.refusal.specs.Numbers.{verdictNumber, verdictPlace}
-use Rattle.refusal.specs.declared.Verdict.{Verdict}
 use Rattle.cells.specs.Cells.{joined, rowsOf}
 use Rattle.cells.specs.Shown.{shownNote, noteNumbers}
 use Rattle.packed_rows.specs.Stream.{readFrom, reading, cellsRead}
 use Rattle.packed_rows.specs.Packer.{packedStream}
-use Rattle.packed_rows.specs.Answers.{checkAnswer, cellOf, cellNumbers}
+use Rattle.packed_rows.specs.Answers.{cellOf, cellNumbers}
 use Rattle.numbers.specs.Numbers.{byteAt, number16, number32}
 use Rattle.layout.specs.Chunks.{chunksFrom, chunks}
 use Rattle.blocks.specs.Sizes.{sizeOf}
-use Rattle.module.specs.Verdicts.{moduleVerdict}
 use Rattle.envelopes.specs.Shown.{envelopeAnswer}
 use Rattle.envelopes.specs.declared.EnvelopeAnswer.{EnvelopeAnswer}
 use Rattle.envelopes.specs.declared.EnvelopeKind.the-variants.{Panning}
 use Rattle.samples.specs.Shown.{frameAnswer}
 use Rattle.samples.specs.declared.FrameAnswer.{FrameAnswer}
-use Rattle.grammar.specs.Rules.{infoLetters, songLetters, instLetters, pattLetters, smplLetters, penvLetters}
+use Rattle.grammar.specs.Rules.{penvLetters}
+use Rattle.grammar.proofs.SmallModules.{checked, moduleChecked, chunk, smallModule, instrument}
 
 -- A row of the table: the sample's number (0: none of the register), what the definitions give, and what the register says.
 pub record Sample : Type 0 where
   pub number : ℕ
   pub found : List ℕ
   pub registered : List ℕ
-
--- A verdict as number and place; 0 0 is accepted.
-verdictNumbers : Verdict → List ℕ
-verdictNumbers v = verdictNumber v ∷ verdictPlace v ∷ []
-
--- What the check of a stream says.
-checked : ℕ → ℕ → List ℕ → List ℕ
-unfolding verdictNumbers
-checked rows tracks stream = verdictNumbers (checkAnswer stream rows tracks)
 
 -- What the cells of a stream pack to.
 repacked : ℕ → ℕ → List ℕ → List ℕ
@@ -120,11 +109,6 @@ signNumbers : ℤ → List ℕ
 signNumbers (pos n) = 0 ∷ n ∷ []
 signNumbers (negsuc n) = 1 ∷ suc n ∷ []
 
--- What the check of a module says.
-moduleChecked : List ℕ → List ℕ
-unfolding verdictNumbers
-moduleChecked m = verdictNumbers (moduleVerdict m)
-
 -- The first so many values of an envelope as it is shown, behind number and place of its refusal; and a frame likewise.
 valueNumbers : ℕ → EnvelopeAnswer → List ℕ
 unfolding signNumbers
@@ -133,28 +117,6 @@ valueNumbers n a = a .number ∷ a .place ∷ joined (map signNumbers (take n (a
 frameNumbers : FrameAnswer → List ℕ
 unfolding signNumbers
 frameNumbers a = a .number ∷ a .place ∷ signNumbers (a .frame)
-
--- A chunk of less than 256 bytes of data.
-chunk : List ℕ → List ℕ → List ℕ
-chunk letters bytes = letters ++ (0 ∷ 0 ∷ 0 ∷ length bytes ∷ bytes)
-
--- A module of 4 tracks with no song and no pattern, by its version, its numbers of instruments and samples, and the data of INST and
--- SMPL; and chunks behind them.
-smallModule : ℕ → ℕ → ℕ → List ℕ → List ℕ → List ℕ → List ℕ
-unfolding chunk
-smallModule version instruments samples inst smpl after =
-    (0x44 ∷ 0x42 ∷ 0x4D ∷ 0x30 ∷ version ∷ 0 ∷ 0 ∷ 0 ∷ [])
-    ++ (chunk infoLetters (0 ∷ instruments ∷ 0 ∷ samples ∷ 0 ∷ 0 ∷ 0 ∷ 0 ∷ 0 ∷ 4 ∷ [])
-    ++ (chunk songLetters []
-    ++ (chunk instLetters inst
-    ++ (chunk pattLetters []
-    ++ (chunk smplLetters smpl
-    ++ after)))))
-
--- An instrument, by its sample, its loop's start and length (4 bytes each) and its flags: no name, volume, rate and panning 0.
-instrument : ℕ → List ℕ → List ℕ → ℕ → List ℕ
-instrument sample start size flags =
-    replicate 30 0 ++ (0 ∷ sample ∷ 0 ∷ 0 ∷ 0 ∷ 0 ∷ 0 ∷ 0 ∷ (start ++ (size ++ (0 ∷ 0 ∷ 0 ∷ flags ∷ []))))
 
 -- P10: a sample of 100 frames of 8 bits, and an instrument of it with a forward loop. Its block stands at 42.
 p10 : List ℕ → List ℕ → List ℕ
