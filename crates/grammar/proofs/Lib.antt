@@ -28,4 +28,5 @@ pub mod FoundPatterns
 pub mod EnvelopeValues
 pub mod SmallModules
 pub mod Samples
+pub mod WorkedRefusals
 pub mod Theorems

@@ -1,0 +1,399 @@
+-- Worked refusals (document 01, "Refusal numbers and their order"), as the rows of one table under one statement: for small inputs, what the
+-- definitions give is the number and the place that document 01 says. Each number from 2 to 18 is there, and for each two faults that
+-- follow one another in document 01's order an input that has both, with the refusal that comes first. Number 1 is not computed: it is a
+-- law of all lists that are too long, below.
+--
+-- The numbers and places are counted by document 01 and by the lengths in `SmallModules`; each part of the table says where its chunks
+-- begin. 0 0 is accepted.
+use Prim.Native.Nat.{ℕ, _<_}
+use mathlib.Core.Path.{_≡_, refl}
+use mathlib.Core.List.{List, [], _∷_, _++_, map}
+use mathlib.Core.Bool.{cond}
+use lib.ListN.{length, take, replicate}
+use lib.Dec.{leb}
+use borrow.Author.Tests.{lt-leb}
+use Rattle.refusal.specs.declared.Refusal.{Refusal}
+use Rattle.refusal.specs.declared.Verdict.the-variants.{Refused}
+use Rattle.cells.specs.Cells.{joined}
+use Rattle.packed_rows.specs.Stream.{readFrom, reading, cellsRead}
+use Rattle.packed_rows.specs.Answers.{unpackAnswer, packAnswer, repackAnswer, cellOf, cellNumbers}
+use Rattle.packed_rows.specs.declared.Unpacking.{Unpacking}
+use Rattle.packed_rows.specs.declared.Unpacking.the-variants.{Unpacked, Refused as UnpackingRefused}
+use Rattle.packed_rows.specs.declared.Packing.{Packing}
+use Rattle.packed_rows.specs.declared.Packing.the-variants.{Packed, Refused as PackingRefused}
+use Rattle.numbers.specs.Numbers.{byteAt, number16, number32}
+use Rattle.layout.specs.Chunks.{chunksFrom, chunks}
+use Rattle.blocks.specs.Sizes.{sizeOf}
+use Rattle.module.specs.Verdicts.{moduleVerdict}
+use Rattle.summary.specs.Shown.{versionAnswer, nameAnswer, infoAnswer}
+use Rattle.songs.specs.Shown.{songAnswer, entryAnswer, playlistAnswer}
+use Rattle.instruments.specs.Shown.{instrumentAnswer}
+use Rattle.envelopes.specs.Shown.{countAnswer, envelopeAnswer}
+use Rattle.envelopes.specs.declared.EnvelopeKind.{EnvelopeKind}
+use Rattle.envelopes.specs.declared.EnvelopeKind.the-variants.{Volume, Panning}
+use Rattle.patterns.specs.Shown.{rowsAnswer, cellAnswer, unpackAnswer as patternAnswer}
+use Rattle.samples.specs.Shown.{sampleAnswer, framesAnswer, frameAnswer, allFramesAnswer}
+use Rattle.grammar.specs.Rules.{nameLetters, infoLetters, songLetters, instLetters, pattLetters, smplLetters, venvLetters, penvLetters}
+use Rattle.grammar.proofs.SmallModules.{checked, moduleChecked, chunk, moduleOf, info, song, fullInstrument, instrument, pattern, sample, envelope, oneEnvelope, content}
+
+-- A row of the table: what the definitions give, and the number and the place that document 01 says.
+pub record Worked : Type 0 where
+  pub found : List ℕ
+  pub said : List ℕ
+
+gives : List ℕ → ℕ → ℕ → Worked
+gives found number place = record { found = found; said = number ∷ place ∷ [] }
+
+-- What the check of a module gives.
+refuses : List ℕ → ℕ → ℕ → Worked
+unfolding gives moduleChecked
+refuses m number place = gives (moduleChecked m) number place
+
+-- The header: 2, 3; and 3 before the faults of chunks. Before its last four bytes come DBM0, or DBM1.
+headers : List Worked
+unfolding refuses moduleOf
+headers =
+    refuses [] 2 0
+    ∷ refuses (0x44 ∷ 0x42 ∷ 0x4D ∷ 0x30 ∷ 3 ∷ 0 ∷ 0 ∷ []) 2 0
+    ∷ refuses (0x44 ∷ 0x42 ∷ 0x4D ∷ 0x31 ∷ 3 ∷ 0 ∷ 0 ∷ 0 ∷ []) 2 0
+    -- 2 before 3.
+    ∷ refuses (0x44 ∷ 0x42 ∷ 0x4D ∷ 0x31 ∷ 4 ∷ 0 ∷ 0 ∷ 0 ∷ []) 2 0
+    ∷ refuses (moduleOf 1 []) 3 4
+    ∷ refuses (moduleOf 4 []) 3 4
+    -- Revisions $0A and $A0.
+    ∷ refuses (0x44 ∷ 0x42 ∷ 0x4D ∷ 0x30 ∷ 3 ∷ 0x0A ∷ 0 ∷ 0 ∷ []) 3 4
+    ∷ refuses (0x44 ∷ 0x42 ∷ 0x4D ∷ 0x30 ∷ 3 ∷ 0xA0 ∷ 0 ∷ 0 ∷ []) 3 4
+    -- 3 before 4: a byte is left after the header.
+    ∷ refuses (moduleOf 4 ((0 ∷ []) ∷ [])) 3 4
+    ∷ []
+
+-- A chunk whose header says so many bytes (below 256), whatever follows it.
+saying : ℕ → List ℕ → List ℕ → List ℕ
+saying size letters bytes = letters ++ (0 ∷ 0 ∷ 0 ∷ size ∷ bytes)
+
+-- Identifiers that are not covered: XXXX, and two that are not four letters, @XXX and XXX[.
+other : List ℕ
+other = replicate 4 0x58
+
+below : List ℕ
+below = 0x40 ∷ replicate 3 0x58
+
+above : List ℕ
+above = 0x58 ∷ 0x58 ∷ 0x58 ∷ 0x5B ∷ []
+
+-- NAME with so many zeros: with 44 it has 52 bytes, so that after a NAME at 8 the next chunk begins at 60.
+name : ℕ → List ℕ
+unfolding chunk
+name size = chunk nameLetters (replicate size 0)
+
+-- INFO of a module that holds nothing; at 8, so that the next chunk begins at 26.
+noneThere : List ℕ
+unfolding info
+noneThere = info 0 0 0 0 4
+
+-- An empty chunk twice, at 26 and at 34; the end is at 42.
+twice : List ℕ → List ℕ
+unfolding moduleOf noneThere chunk
+twice letters = moduleOf 3 (noneThere ∷ chunk letters [] ∷ chunk letters [] ∷ [])
+
+-- An empty chunk at 8, before INFO.
+early : List ℕ → List ℕ
+unfolding moduleOf noneThere chunk
+early letters = moduleOf 3 (chunk letters [] ∷ noneThere ∷ [])
+
+-- Chunk by chunk: 4 (1 to 7 bytes left), 5, 4 (data past the end), 6, 7, 9. The first chunk begins at 8.
+chunkFaults : List Worked
+unfolding refuses moduleOf chunk saying other below above name noneThere twice early
+chunkFaults =
+    refuses (moduleOf 3 ((0x58 ∷ []) ∷ [])) 4 8
+    ∷ refuses (moduleOf 3 ((0x58 ∷ 0x58 ∷ 0x58 ∷ 0x58 ∷ 0 ∷ 0 ∷ 0 ∷ []) ∷ [])) 4 8
+    -- 4 (7 bytes left) before 5: no byte of them is a letter.
+    ∷ refuses (moduleOf 3 (replicate 7 0 ∷ [])) 4 8
+    ∷ refuses (moduleOf 3 (chunk below [] ∷ [])) 5 8
+    ∷ refuses (moduleOf 3 (noneThere ∷ chunk above [] ∷ [])) 5 26
+    -- 5 before 4 (data past the end).
+    ∷ refuses (moduleOf 3 (saying 1 above [] ∷ [])) 5 8
+    ∷ refuses (moduleOf 3 (saying 1 other [] ∷ [])) 4 8
+    ∷ refuses (moduleOf 3 (noneThere ∷ saying 2 other (0 ∷ []) ∷ [])) 4 26
+    -- 4 before 6, before 7 and before 9: INFO again, SONG before INFO, NAME of 43 bytes, each cut.
+    ∷ refuses (moduleOf 3 (noneThere ∷ saying 10 infoLetters (replicate 9 0) ∷ [])) 4 26
+    ∷ refuses (moduleOf 3 (saying 1 songLetters [] ∷ [])) 4 8
+    ∷ refuses (moduleOf 3 (saying 43 nameLetters [] ∷ [])) 4 8
+    -- 6, for each covered chunk. VENV and PENV without a count are 11, which comes later.
+    ∷ refuses (moduleOf 3 (name 44 ∷ name 44 ∷ [])) 6 60
+    ∷ refuses (moduleOf 3 (noneThere ∷ noneThere ∷ [])) 6 26
+    ∷ refuses (twice songLetters) 6 34
+    ∷ refuses (twice instLetters) 6 34
+    ∷ refuses (twice pattLetters) 6 34
+    ∷ refuses (twice smplLetters) 6 34
+    ∷ refuses (twice venvLetters) 6 34
+    ∷ refuses (twice penvLetters) 6 34
+    -- Other chunks may repeat: what is left is 8.
+    ∷ refuses (twice other) 8 42
+    -- 6 before 9 and before 10: NAME again, of 43 bytes; INFO again, with 5 tracks.
+    ∷ refuses (moduleOf 3 (name 44 ∷ name 43 ∷ [])) 6 60
+    ∷ refuses (moduleOf 3 (noneThere ∷ info 0 0 0 0 5 ∷ [])) 6 26
+    -- 7, for each of the four.
+    ∷ refuses (early songLetters) 7 8
+    ∷ refuses (early instLetters) 7 8
+    ∷ refuses (early pattLetters) 7 8
+    ∷ refuses (early smplLetters) 7 8
+    -- 6 and 7 of one chunk cannot be seen together: where one of the four comes twice before INFO, the first is 7.
+    ∷ refuses (moduleOf 3 (chunk songLetters [] ∷ chunk songLetters [] ∷ [])) 7 8
+    ∷ refuses (moduleOf 3 (name 44 ∷ name 44 ∷ chunk songLetters [] ∷ [])) 6 60
+    -- 7 and 9 are of different chunks: the chunk in front comes first, be it 7 or 9.
+    ∷ refuses (moduleOf 3 (chunk songLetters [] ∷ name 43 ∷ [])) 7 8
+    ∷ refuses (moduleOf 3 (name 43 ∷ chunk songLetters [] ∷ [])) 9 8
+    -- 9: NAME of 43 and 45 bytes; INFO of 9 bytes, of which the tracks are 4.
+    ∷ refuses (moduleOf 3 (name 43 ∷ [])) 9 8
+    ∷ refuses (moduleOf 3 (name 45 ∷ [])) 9 8
+    ∷ refuses (moduleOf 3 (name 44 ∷ chunk infoLetters (replicate 9 0) ∷ [])) 9 60
+    -- 9 before 10: INFO of 11 bytes, in which the tracks are 0.
+    ∷ refuses (moduleOf 3 (chunk infoLetters (replicate 11 0) ∷ [])) 9 8
+    ∷ []
+
+-- 10 at each field of INFO, the lowest offset first: in each row this field and all after it are out of range. All mandatory chunks but
+-- INFO are missing, so 10 comes before 8.
+infoFaults : List Worked
+unfolding refuses moduleOf info
+infoFaults =
+    refuses (moduleOf 3 (info 256 256 32768 1025 5 ∷ [])) 10 16
+    ∷ refuses (moduleOf 3 (info 255 256 32768 1025 5 ∷ [])) 10 18
+    ∷ refuses (moduleOf 3 (info 255 255 32768 1025 5 ∷ [])) 10 20
+    ∷ refuses (moduleOf 3 (info 255 255 32767 1025 5 ∷ [])) 10 22
+    ∷ refuses (moduleOf 3 (info 255 255 32767 1024 5 ∷ [])) 10 24
+    -- The fault of a chunk in front before that of a later one, though 10 is listed last: after INFO a byte is left (4), or INFO again (6).
+    ∷ refuses (moduleOf 3 (info 0 0 0 0 2 ∷ (0 ∷ []) ∷ [])) 10 24
+    ∷ refuses (moduleOf 3 (info 0 0 0 0 256 ∷ info 0 0 0 0 4 ∷ [])) 10 24
+    ∷ []
+
+-- The module of 58 bytes that holds nothing: INFO at 8, SONG at 26, INST at 34, PATT at 42, SMPL at 50.
+smallest : List ℕ
+unfolding content
+smallest = content [] [] [] [] []
+
+-- INFO and three empty chunks; the end is at 50.
+three : List ℕ → List ℕ → List ℕ → List ℕ
+unfolding moduleOf noneThere chunk
+three a b c = moduleOf 3 (noneThere ∷ chunk a [] ∷ chunk b [] ∷ chunk c [] ∷ [])
+
+-- 8, at the module's length.
+missing : List Worked
+unfolding refuses moduleOf chunk info name smallest three
+missing =
+    refuses smallest 0 0
+    -- Document 01's example: the 58 bytes cut after INST.
+    ∷ refuses (take 42 smallest) 8 42
+    ∷ refuses (moduleOf 3 []) 8 8
+    ∷ refuses (moduleOf 3 (name 44 ∷ [])) 8 60
+    -- Each of the four.
+    ∷ refuses (three instLetters pattLetters smplLetters) 8 50
+    ∷ refuses (three songLetters pattLetters smplLetters) 8 50
+    ∷ refuses (three songLetters instLetters smplLetters) 8 50
+    ∷ refuses (three songLetters instLetters pattLetters) 8 50
+    -- 8 before 11: SONG has no song, where INFO says 1.
+    ∷ refuses (moduleOf 3 (info 0 0 1 0 4 ∷ chunk songLetters [] ∷ chunk instLetters [] ∷ chunk pattLetters [] ∷ [])) 8 50
+    ∷ []
+
+-- The chunks in the order in which the checks from 11 on do not go: INFO at 8, PENV at 26, then VENV, SMPL, PATT, INST and SONG.
+reversed : List ℕ → List ℕ → List ℕ → List ℕ → List ℕ → List ℕ
+unfolding moduleOf chunk
+reversed numbers penv venv inst song =
+    moduleOf 3
+    (numbers
+    ∷ penv
+    ∷ venv
+    ∷ chunk smplLetters []
+    ∷ chunk pattLetters []
+    ∷ chunk instLetters inst
+    ∷ chunk songLetters song
+    ∷ [])
+
+-- PENV without data at 26, VENV at 34; and where VENV has no data either, SMPL at 42, PATT at 50, INST at 58 and SONG at 66, all empty.
+unfilled : ℕ → ℕ → ℕ → ℕ → List ℕ → List ℕ
+unfolding reversed info chunk
+unfilled instruments samples songs patterns venv =
+    reversed (info instruments samples songs patterns 4) (chunk penvLetters []) (chunk venvLetters venv) [] []
+
+-- An instrument by sample, volume, panning and flags, with no loop.
+plain : ℕ → ℕ → ℕ → ℕ → List ℕ
+unfolding fullInstrument
+plain sample volume panning flags = fullInstrument sample volume (replicate 4 0) (replicate 4 0) panning flags
+
+-- 11 for SONG, INST, PATT, SMPL, VENV, PENV, at the chunk's header.
+blockFaults : List Worked
+unfolding refuses unfilled content plain chunk song sample
+blockFaults =
+    -- In each row the chunk and all that are listed after it do not hold what INFO says, or have no count.
+    refuses (unfilled 1 1 1 1 []) 11 66
+    ∷ refuses (unfilled 1 1 0 1 []) 11 58
+    ∷ refuses (unfilled 0 1 0 1 []) 11 50
+    ∷ refuses (unfilled 0 1 0 0 []) 11 42
+    ∷ refuses (unfilled 0 0 0 0 []) 11 34
+    -- VENV with the count 0 is right.
+    ∷ refuses (unfilled 0 0 0 0 (0 ∷ 0 ∷ [])) 11 26
+    -- A byte too many in SONG at 26 and in INST at 34; in PATT at 42 a stream of one byte, which lacks its filler.
+    ∷ refuses (content ((song [] ++ (0 ∷ [])) ∷ []) [] [] [] []) 11 26
+    ∷ refuses (content [] ((plain 0 0 0 0 ++ (0 ∷ [])) ∷ []) [] [] []) 11 34
+    ∷ refuses (content [] [] ((0 ∷ 1 ∷ 0 ∷ 0 ∷ 0 ∷ 1 ∷ 0 ∷ []) ∷ []) [] []) 11 42
+    -- In SMPL at 50 a frame too few; flags 0 and 3; and flags 8 before VENV at 66, which has no count.
+    ∷ refuses (content [] [] [] (sample 1 2 (0 ∷ []) ∷ []) []) 11 50
+    ∷ refuses (content [] [] [] (sample 0 0 [] ∷ []) []) 11 50
+    ∷ refuses (content [] [] [] (sample 1 0 [] ∷ sample 3 0 [] ∷ []) []) 11 50
+    ∷ refuses (content [] [] [] (sample 8 0 [] ∷ []) (chunk venvLetters [] ∷ [])) 11 50
+    -- In VENV at 58 the count 1 and no envelope.
+    ∷ refuses (content [] [] [] [] (chunk venvLetters (0 ∷ 1 ∷ []) ∷ [])) 11 58
+    -- 11 before 12: PENV at 106 has no count; the song at 34 has an entry, at 80, and there is no pattern.
+    ∷ refuses (content (song (0 ∷ []) ∷ []) [] [] [] (chunk penvLetters [] ∷ [])) 11 106
+    ∷ []
+
+-- 12 and 13 of songs and instruments. Without songs the first instrument is at 42: sample at 72, volume at 74, panning at 88, flags at 90.
+fieldFaults : List Worked
+unfolding refuses content song plain pattern
+fieldFaults =
+    -- A song at 34, its entries at 80 and 82; with one pattern, pattern 0 is there and pattern 1 is not.
+    refuses (content (song (0 ∷ []) ∷ []) [] [] [] []) 12 80
+    ∷ refuses (content (song (0 ∷ 1 ∷ []) ∷ []) [] (pattern 0 [] ∷ []) [] []) 12 82
+    ∷ refuses (content (song (1 ∷ 1 ∷ []) ∷ []) [] (pattern 0 [] ∷ []) [] []) 12 80
+    -- A song without entries at 34, the next at 80: its entry is at 126.
+    ∷ refuses (content (song [] ∷ song (0 ∷ []) ∷ []) [] [] [] []) 12 126
+    -- Sample, volume, panning, flags: in each row this field and all after it are wrong.
+    ∷ refuses (content [] (plain 1 65 129 4 ∷ []) [] [] []) 12 72
+    ∷ refuses (content [] (plain 0 65 129 4 ∷ []) [] [] []) 13 74
+    ∷ refuses (content [] (plain 0 64 129 4 ∷ []) [] [] []) 13 88
+    ∷ refuses (content [] (plain 0 64 128 4 ∷ []) [] [] []) 13 90
+    -- Panning −129 and −128.
+    ∷ refuses (content [] (plain 0 64 0xFF7F 3 ∷ []) [] [] []) 13 88
+    ∷ refuses (content [] (plain 0 64 0xFF80 3 ∷ []) [] [] []) 0 0
+    -- The second instrument is at 92, its sample at 122: by field, and not 12 before 13.
+    ∷ refuses (content [] (plain 0 0 0 4 ∷ plain 1 0 0 0 ∷ []) [] [] []) 13 90
+    ∷ refuses (content [] (plain 0 0 0 0 ∷ plain 1 65 129 4 ∷ []) [] [] []) 12 122
+    ∷ []
+
+-- An envelope of this instrument with no flag and one point, of this value.
+still : ℕ → ℕ → List ℕ
+unfolding envelope
+still instrument value = envelope instrument 0 0 0 0 0 0 (value ∷ [])
+
+-- One instrument, one song, no pattern and no sample, reversed: PENV at 26, its envelope at 36 and its value at 46; VENV at 172, its envelope at
+-- 182 and its value at 192; SMPL at 318, PATT at 326; INST at 334, the instrument at 342, its sample at 372 and its flags at 390; SONG at 392,
+-- the song at 400, its entry at 446.
+fields : List ℕ → List ℕ → List ℕ → List ℕ → List ℕ
+unfolding reversed info oneEnvelope song
+fields entries instrument venv penv =
+    reversed (info 1 0 1 0 4) (oneEnvelope penvLetters penv) (oneEnvelope venvLetters venv) instrument (song entries)
+
+-- 12 and 13 in the order SONG, INST, VENV, PENV, wherever the chunks are.
+fieldOrder : List Worked
+unfolding refuses fields plain still
+fieldOrder =
+    refuses (fields (0 ∷ []) (plain 1 65 129 4) (still 0 65) (still 2 129)) 12 446
+    ∷ refuses (fields [] (plain 1 65 129 4) (still 0 65) (still 2 129)) 12 372
+    ∷ refuses (fields [] (plain 0 0 0 4) (still 0 65) (still 2 129)) 13 390
+    ∷ refuses (fields [] (plain 0 0 0 0) (still 0 65) (still 2 129)) 12 182
+    ∷ refuses (fields [] (plain 0 0 0 0) (still 1 65) (still 2 129)) 13 192
+    ∷ refuses (fields [] (plain 0 0 0 0) (still 1 64) (still 2 129)) 12 36
+    ∷ refuses (fields [] (plain 0 0 0 0) (still 1 64) (still 1 129)) 13 46
+    ∷ refuses (fields [] (plain 0 0 0 0) (still 1 64) (still 1 128)) 0 0
+    ∷ []
+
+-- A module with one instrument and a chunk of one envelope after INFO: the chunk is at 26, the envelope at 36: instrument at 36, flags at 38,
+-- sections at 39, S1 at 40, L1 at 41, L2 at 42, S2 at 43, the values of the first points at 46, 50, 54 and 58.
+enveloped : ℕ → List ℕ → List ℕ → List ℕ
+unfolding moduleOf info oneEnvelope chunk plain
+enveloped version letters bytes =
+    moduleOf version
+    (info 1 0 0 0 4
+    ∷ oneEnvelope letters bytes
+    ∷ chunk songLetters []
+    ∷ chunk instLetters (plain 0 0 0 0)
+    ∷ chunk pattLetters []
+    ∷ chunk smplLetters []
+    ∷ [])
+
+-- The check of a module with this envelope of volume: instrument, flags, sections, S1, L1, L2, S2, values.
+volumeRefuses : List ℕ → ℕ → ℕ → Worked
+unfolding refuses enveloped
+volumeRefuses bytes number place = refuses (enveloped 3 venvLetters bytes) number place
+
+-- Within an envelope: instrument, flags, sections, S1, L1, L2, S2, values.
+envelopeFaults : List Worked
+unfolding volumeRefuses envelope still
+envelopeFaults =
+    -- In each row this field and all after it are wrong. The flags 0x1E have bits 1 to 3 and one that must be zero.
+    volumeRefuses (envelope 0 0x1E 32 33 33 33 33 (65 ∷ [])) 12 36
+    ∷ volumeRefuses (envelope 2 0x1E 32 33 33 33 33 (65 ∷ [])) 12 36
+    ∷ volumeRefuses (envelope 1 0x1E 32 33 33 33 33 (65 ∷ [])) 13 38
+    ∷ volumeRefuses (envelope 1 0x0E 32 33 33 33 33 (65 ∷ [])) 13 39
+    ∷ volumeRefuses (envelope 1 0x0E 2 3 3 3 3 (65 ∷ [])) 13 40
+    ∷ volumeRefuses (envelope 1 0x0E 2 2 3 3 3 (65 ∷ [])) 13 41
+    ∷ volumeRefuses (envelope 1 0x0E 2 2 2 3 3 (65 ∷ [])) 13 42
+    -- L1 over L2: at L2.
+    ∷ volumeRefuses (envelope 1 0x0E 2 2 2 1 3 (65 ∷ [])) 13 42
+    ∷ volumeRefuses (envelope 1 0x0E 2 2 2 2 3 (65 ∷ [])) 13 43
+    ∷ volumeRefuses (envelope 1 0x0E 2 2 2 2 2 (65 ∷ 65 ∷ [])) 13 46
+    ∷ volumeRefuses (envelope 1 0x0E 2 2 2 2 2 (64 ∷ 65 ∷ 65 ∷ [])) 13 50
+    -- The points in use are sections + 1: the third is the last.
+    ∷ volumeRefuses (envelope 1 0x0E 2 2 2 2 2 (64 ∷ 64 ∷ 65 ∷ [])) 13 54
+    ∷ volumeRefuses (envelope 1 0x0E 2 2 2 2 2 (64 ∷ 64 ∷ 64 ∷ 65 ∷ [])) 0 0
+    -- Bits 0, 1, 2 and 3 alone: nothing, S1, L1 and L2, S2 is checked.
+    ∷ volumeRefuses (envelope 1 1 2 3 3 3 3 []) 0 0
+    ∷ volumeRefuses (envelope 1 2 2 3 3 3 3 []) 13 40
+    ∷ volumeRefuses (envelope 1 4 2 3 3 3 3 []) 13 41
+    ∷ volumeRefuses (envelope 1 8 2 3 3 3 3 []) 13 43
+    -- PENV: the instrument; the flags; values in version 3 and in version 2.
+    ∷ refuses (enveloped 3 penvLetters (envelope 2 0x1E 32 33 33 33 33 (129 ∷ []))) 12 36
+    ∷ refuses (enveloped 3 penvLetters (envelope 1 0x1E 32 33 33 33 33 (129 ∷ []))) 13 38
+    ∷ refuses (enveloped 3 penvLetters (still 1 0xFF7F)) 13 46
+    ∷ refuses (enveloped 3 penvLetters (still 1 65)) 0 0
+    ∷ refuses (enveloped 2 penvLetters (still 1 65)) 13 46
+    ∷ []
+
+-- A looped instrument without a sample, by its flags.
+loose : ℕ → List ℕ
+unfolding instrument
+loose flags = instrument 0 (replicate 4 0) (0 ∷ 0 ∷ 0 ∷ 1 ∷ []) flags
+
+-- 14 at the instrument's block, by instrument; then 15 at the pattern's block, by pattern. Without songs the first instrument is at 42, the
+-- second at 92; without instruments too the first pattern is at 50.
+loopAndStreamFaults : List Worked
+unfolding refuses content moduleOf info chunk loose plain instrument sample pattern still oneEnvelope
+loopAndStreamFaults =
+    refuses (content [] (loose 1 ∷ loose 1 ∷ []) [] [] []) 14 42
+    ∷ refuses (content [] (loose 0 ∷ loose 2 ∷ []) [] [] []) 14 92
+    -- Two frames: a loop of two from 1 on ends after the sample, from 0 on it does not.
+    ∷ refuses (content [] (instrument 1 (0 ∷ 0 ∷ 0 ∷ 1 ∷ []) (0 ∷ 0 ∷ 0 ∷ 2 ∷ []) 1 ∷ []) [] (sample 1 2 (0 ∷ 0 ∷ []) ∷ []) []) 14 42
+    ∷ refuses (content [] (instrument 1 (0 ∷ 0 ∷ 0 ∷ 0 ∷ []) (0 ∷ 0 ∷ 0 ∷ 2 ∷ []) 1 ∷ []) [] (sample 1 2 (0 ∷ 0 ∷ []) ∷ []) []) 0 0
+    -- 13 before 14: the flags of the second instrument, at 140; a value of PENV, which is at 108, its envelope at 118.
+    ∷ refuses (content [] (loose 1 ∷ plain 0 0 0 4 ∷ []) [] [] []) 13 140
+    ∷ refuses (content [] (loose 1 ∷ []) [] [] (oneEnvelope penvLetters (still 1 129) ∷ [])) 13 128
+    -- 14 before 15: PATT at 26 has a pattern that lacks its row end; INST at 40, the instrument at 48.
+    ∷ refuses
+      (moduleOf 3
+      (info 1 0 0 1 4
+      ∷ chunk pattLetters (pattern 1 [])
+      ∷ chunk instLetters (loose 1)
+      ∷ chunk songLetters []
+      ∷ chunk smplLetters []
+      ∷ []))
+      14 48
+    -- The first of two patterns; the second, at 56.
+    ∷ refuses (content [] [] (pattern 1 [] ∷ pattern 1 [] ∷ []) [] []) 15 50
+    ∷ refuses (content [] [] (pattern 0 [] ∷ pattern 1 [] ∷ []) [] []) 15 56
+    -- Whatever the fault's place in the stream; and a filler is no row end.
+    ∷ refuses (content [] [] (pattern 2 (0 ∷ 5 ∷ 1 ∷ 0 ∷ []) ∷ []) [] []) 15 50
+    ∷ refuses (content [] [] (pattern 2 (0 ∷ []) ∷ []) [] []) 15 50
+    ∷ []
+
+pub worked : List Worked
+unfolding headers chunkFaults infoFaults missing blockFaults fieldFaults fieldOrder envelopeFaults loopAndStreamFaults
+worked = joined (headers ∷ chunkFaults ∷ infoFaults ∷ missing ∷ blockFaults ∷ fieldFaults ∷ fieldOrder ∷ envelopeFaults ∷ loopAndStreamFaults ∷ [])
+
+-- The statement.
+pub refusals-agree : map (λ (w : Worked). w .found) worked ≡ map (λ (w : Worked). w .said) worked
+unfolding worked readFrom reading byteAt number16 number32 chunksFrom chunks sizeOf
+refusals-agree = refl
+
+-- Number 1.
+pub too-long : (m : List ℕ) → 16777216 < length m → moduleVerdict m ≡ Refused (record { number = 1; place = 0 })
+too-long m long = simp (lt-leb _ _ long)
