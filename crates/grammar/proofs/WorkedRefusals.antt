@@ -385,9 +385,205 @@ loopAndStreamFaults =
     ∷ refuses (content [] [] (pattern 2 (0 ∷ []) ∷ []) [] []) 15 50
     ∷ []
 
+-- Number and place of what each query answers.
+versionNumbers : List ℕ → List ℕ
+versionNumbers m = versionAnswer m .number ∷ versionAnswer m .place ∷ []
+
+nameNumbers : List ℕ → List ℕ
+nameNumbers m = nameAnswer m .number ∷ nameAnswer m .place ∷ []
+
+infoNumbers : List ℕ → List ℕ
+infoNumbers m = infoAnswer m .number ∷ infoAnswer m .place ∷ []
+
+songNumbers : List ℕ → ℕ → List ℕ
+songNumbers m k = songAnswer m k .number ∷ songAnswer m k .place ∷ []
+
+entryNumbers : List ℕ → ℕ → ℕ → List ℕ
+entryNumbers m k entry = entryAnswer m k entry .number ∷ entryAnswer m k entry .place ∷ []
+
+playlistNumbers : List ℕ → ℕ → ℕ → List ℕ
+playlistNumbers m k room = playlistAnswer m k room .number ∷ playlistAnswer m k room .place ∷ []
+
+instrumentNumbers : List ℕ → ℕ → List ℕ
+instrumentNumbers m k = instrumentAnswer m k .number ∷ instrumentAnswer m k .place ∷ []
+
+countNumbers : List ℕ → EnvelopeKind → List ℕ
+countNumbers m kind = countAnswer m kind .number ∷ countAnswer m kind .place ∷ []
+
+envelopeNumbers : List ℕ → EnvelopeKind → ℕ → List ℕ
+envelopeNumbers m kind k = envelopeAnswer m kind k .number ∷ envelopeAnswer m kind k .place ∷ []
+
+rowsNumbers : List ℕ → ℕ → List ℕ
+rowsNumbers m k = rowsAnswer m k .number ∷ rowsAnswer m k .place ∷ []
+
+patternNumbers : List ℕ → ℕ → ℕ → List ℕ
+patternNumbers m k room = patternAnswer m k room .number ∷ patternAnswer m k room .place ∷ []
+
+sampleNumbers : List ℕ → ℕ → List ℕ
+sampleNumbers m k = sampleAnswer m k .number ∷ sampleAnswer m k .place ∷ []
+
+framesNumbers : List ℕ → ℕ → List ℕ
+framesNumbers m k = framesAnswer m k .number ∷ framesAnswer m k .place ∷ []
+
+frameNumbers : List ℕ → ℕ → ℕ → List ℕ
+frameNumbers m k frame = frameAnswer m k frame .number ∷ frameAnswer m k frame .place ∷ []
+
+allFramesNumbers : List ℕ → ℕ → ℕ → List ℕ
+allFramesNumbers m k room = allFramesAnswer m k room .number ∷ allFramesAnswer m k room .place ∷ []
+
+-- The 42 bytes, whose own refusal is 8 at 42.
+cut : List ℕ
+unfolding smallest
+cut = take 42 smallest
+
+-- P1's stream: 2 rows of 4 tracks, with one entry.
+p1 : List ℕ
+p1 = 0x02 ∷ 0x03 ∷ 0x47 ∷ 0x01 ∷ 0x00 ∷ 0x00 ∷ []
+
+-- An accepted module with one of each: a song of one entry, an instrument, a pattern of 2 rows and 4 tracks, a sample of 2 frames, and an
+-- envelope of volume.
+one : List ℕ
+unfolding content song plain pattern p1 sample still oneEnvelope
+one =
+    content (song (0 ∷ []) ∷ []) (plain 1 0 0 0 ∷ []) (pattern 2 p1 ∷ []) (sample 1 2 (0 ∷ 0 ∷ []) ∷ []) (oneEnvelope venvLetters (still 1 0) ∷ [])
+
+-- The module's own refusal, before 18 and 17: `cut` has nothing of what is asked for, and there is no room.
+ownRefusals : List Worked
+unfolding gives cut versionNumbers nameNumbers infoNumbers songNumbers entryNumbers playlistNumbers instrumentNumbers countNumbers envelopeNumbers rowsNumbers patternNumbers sampleNumbers framesNumbers frameNumbers allFramesNumbers
+ownRefusals =
+    gives (versionNumbers cut) 8 42
+    ∷ gives (nameNumbers cut) 8 42
+    ∷ gives (infoNumbers cut) 8 42
+    ∷ gives (songNumbers cut 0) 8 42
+    ∷ gives (entryNumbers cut 0 0) 8 42
+    ∷ gives (playlistNumbers cut 0 0) 8 42
+    ∷ gives (instrumentNumbers cut 0) 8 42
+    ∷ gives (countNumbers cut Panning) 8 42
+    ∷ gives (envelopeNumbers cut Volume 0) 8 42
+    ∷ gives (rowsNumbers cut 0) 8 42
+    ∷ gives (cellNumbers (cellAnswer cut 0 0 0)) 8 42
+    ∷ gives (patternNumbers cut 0 0) 8 42
+    ∷ gives (sampleNumbers cut 0) 8 42
+    ∷ gives (framesNumbers cut 0) 8 42
+    ∷ gives (frameNumbers cut 0 0) 8 42
+    ∷ gives (allFramesNumbers cut 0 0) 8 42
+    ∷ []
+
+-- 18 at 0, then 17 at the needed length. Instruments, samples and tracks are counted from 1, all else from 0.
+queries : List Worked
+unfolding refuses gives one songNumbers entryNumbers playlistNumbers instrumentNumbers envelopeNumbers rowsNumbers patternNumbers sampleNumbers framesNumbers frameNumbers allFramesNumbers
+queries =
+    refuses one 0 0
+    ∷ gives (songNumbers one 1) 18 0
+    ∷ gives (entryNumbers one 0 1) 18 0
+    ∷ gives (entryNumbers one 1 0) 18 0
+    ∷ gives (instrumentNumbers one 0) 18 0
+    ∷ gives (instrumentNumbers one 2) 18 0
+    ∷ gives (envelopeNumbers one Volume 1) 18 0
+    ∷ gives (envelopeNumbers one Panning 0) 18 0
+    ∷ gives (rowsNumbers one 1) 18 0
+    ∷ gives (sampleNumbers one 0) 18 0
+    ∷ gives (sampleNumbers one 2) 18 0
+    ∷ gives (framesNumbers one 2) 18 0
+    ∷ gives (frameNumbers one 1 2) 18 0
+    ∷ gives (frameNumbers one 2 0) 18 0
+    -- A cell: no such pattern, row, track.
+    ∷ gives (cellNumbers (cellAnswer one 1 0 1)) 18 0
+    ∷ gives (cellNumbers (cellAnswer one 0 2 1)) 18 0
+    ∷ gives (cellNumbers (cellAnswer one 0 0 0)) 18 0
+    ∷ gives (cellNumbers (cellAnswer one 0 0 5)) 18 0
+    -- 18 before 17: there is no room.
+    ∷ gives (playlistNumbers one 1 0) 18 0
+    ∷ gives (patternNumbers one 1 0) 18 0
+    ∷ gives (allFramesNumbers one 2 0) 18 0
+    -- 17: an entry of 2 bytes; 2 rows of 4 cells of 6 bytes; 2 frames of 2 bytes.
+    ∷ gives (playlistNumbers one 0 1) 17 2
+    ∷ gives (patternNumbers one 0 47) 17 48
+    ∷ gives (allFramesNumbers one 1 3) 17 4
+    -- With just that room there is no refusal.
+    ∷ gives (playlistNumbers one 0 2) 0 0
+    ∷ gives (patternNumbers one 0 48) 0 0
+    ∷ gives (allFramesNumbers one 1 4) 0 0
+    ∷ []
+
+-- Number and place of what unpacking and packing answer.
+unpackingNumbers : Unpacking → List ℕ
+unpackingNumbers (Unpacked n) = 0 ∷ 0 ∷ []
+unpackingNumbers (UnpackingRefused r) = r .number ∷ r .place ∷ []
+
+packingNumbers : Packing → List ℕ
+packingNumbers (Packed n) = 0 ∷ 0 ∷ []
+packingNumbers (PackingRefused r) = r .number ∷ r .place ∷ []
+
+unpacked : List ℕ → ℕ → ℕ → ℕ → List ℕ
+unfolding unpackingNumbers
+unpacked stream rows tracks room = unpackingNumbers (unpackAnswer stream rows tracks room)
+
+packed : List ℕ → ℕ → ℕ → ℕ → List ℕ
+unfolding packingNumbers
+packed cells rows tracks room = packingNumbers (packAnswer cells rows tracks room)
+
+repacked : List ℕ → ℕ → ℕ → ℕ → List ℕ
+unfolding packingNumbers
+repacked stream rows tracks room = packingNumbers (repackAnswer stream rows tracks room)
+
+-- A stream that is broken at its front: there is no track 255.
+broken : List ℕ
+broken = 255 ∷ []
+
+-- Streams: the check 16, 15; unpacking 16, 17, 15; packing 16, 17; repacking 16, 15, 17; a cell 16, 18, 15.
+streams : List Worked
+unfolding gives checked unpacked packed repacked broken p1
+streams =
+    -- 16 before 15: rows 65,536; tracks 2, 5 and 256.
+    gives (checked 65536 4 broken) 16 0
+    ∷ gives (checked 1 2 broken) 16 0
+    ∷ gives (checked 1 5 broken) 16 0
+    ∷ gives (checked 1 256 broken) 16 0
+    -- 15 at the faulty entry: of no such track, with bit 6 in its mask, cut within its fields, cut before its mask.
+    ∷ gives (checked 2 4 (0 ∷ 5 ∷ 0 ∷ 0 ∷ [])) 15 1
+    ∷ gives (checked 1 4 (1 ∷ 1 ∷ 0x47 ∷ 2 ∷ 0x41 ∷ 0x47 ∷ 0 ∷ [])) 15 3
+    ∷ gives (checked 1 4 (1 ∷ 0 ∷ 2 ∷ 3 ∷ 0x47 ∷ [])) 15 2
+    ∷ gives (checked 2 4 (0 ∷ 1 ∷ [])) 15 1
+    -- 15 at the first byte left over, and at the stream's length where row ends lack.
+    ∷ gives (checked 1 4 (1 ∷ 0 ∷ 0 ∷ 0 ∷ 5 ∷ [])) 15 3
+    ∷ gives (checked 1 4 (1 ∷ 0 ∷ [])) 15 2
+    -- Unpacking: 16 before 17 and before 15; 17 before 15; 15.
+    ∷ gives (unpacked broken 65536 4 0) 16 0
+    ∷ gives (unpacked broken 1 2 0) 16 0
+    ∷ gives (unpacked broken 1 2 12) 16 0
+    ∷ gives (unpacked broken 1 4 23) 17 24
+    ∷ gives (unpacked broken 1 4 24) 15 0
+    ∷ gives (unpacked p1 2 4 47) 17 48
+    ∷ gives (unpacked p1 2 4 48) 0 0
+    -- Packing: 16 for cells of a wrong length, for tracks 2, 5 and 256 and for rows 65,536; before 17, as there is no room.
+    ∷ gives (packed (replicate 23 1) 1 4 0) 16 0
+    ∷ gives (packed (replicate 25 1) 1 4 0) 16 0
+    ∷ gives (packed (replicate 12 1) 1 2 0) 16 0
+    ∷ gives (packed (replicate 30 1) 1 5 0) 16 0
+    ∷ gives (packed [] 0 256 0) 16 0
+    ∷ gives (packed [] 65536 4 0) 16 0
+    -- 17: 1 row of 4 tracks with no field zero is 33 bytes; P1's cells are 6.
+    ∷ gives (packed (replicate 24 1) 1 4 32) 17 33
+    ∷ gives (packed (replicate 24 1) 1 4 33) 0 0
+    ∷ gives (packed (cellsRead 2 4 p1) 2 4 5) 17 6
+    -- Repacking: 16 before 15, 15 before 17, 17.
+    ∷ gives (repacked broken 1 2 0) 16 0
+    ∷ gives (repacked broken 1 4 0) 15 0
+    ∷ gives (repacked p1 2 4 5) 17 6
+    ∷ gives (repacked p1 2 4 6) 0 0
+    -- A cell: 16 before 18; 18 before 15; 15.
+    ∷ gives (cellNumbers (cellOf broken 1 2 1 1)) 16 0
+    ∷ gives (cellNumbers (cellOf broken 1 4 1 1)) 18 0
+    ∷ gives (cellNumbers (cellOf broken 1 4 0 0)) 18 0
+    ∷ gives (cellNumbers (cellOf broken 1 4 0 5)) 18 0
+    ∷ gives (cellNumbers (cellOf broken 1 4 0 1)) 15 0
+    ∷ []
+
+-- The table.
 pub worked : List Worked
-unfolding headers chunkFaults infoFaults missing blockFaults fieldFaults fieldOrder envelopeFaults loopAndStreamFaults
-worked = joined (headers ∷ chunkFaults ∷ infoFaults ∷ missing ∷ blockFaults ∷ fieldFaults ∷ fieldOrder ∷ envelopeFaults ∷ loopAndStreamFaults ∷ [])
+unfolding headers chunkFaults infoFaults missing blockFaults fieldFaults fieldOrder envelopeFaults loopAndStreamFaults ownRefusals queries streams
+worked = joined (headers ∷ chunkFaults ∷ infoFaults ∷ missing ∷ blockFaults ∷ fieldFaults ∷ fieldOrder ∷ envelopeFaults ∷ loopAndStreamFaults ∷ ownRefusals ∷ queries ∷ streams ∷ [])
 
 -- The statement.
 pub refusals-agree : map (λ (w : Worked). w .found) worked ≡ map (λ (w : Worked). w .said) worked
