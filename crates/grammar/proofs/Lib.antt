@@ -26,6 +26,7 @@ pub mod SampleFrames
 pub mod ShownBytes
 pub mod FoundPatterns
 pub mod EnvelopeValues
+pub mod Tables
 pub mod SmallModules
 pub mod Samples
 pub mod WorkedRefusals

@@ -26,10 +26,13 @@
 --     the 30 of the name of an instrument that is found are bytes of the module, none of them past its end.
 -- 18. Every value that is shown of a volume envelope is 0 to 64, of a panning envelope −128 to 128, whatever the module and the point.
 --     In version 2 the value that is shown for a point in use of a panning envelope is 4v − 128, with v the stored one, at most 64.
+-- 24. Worked refusals: for some two hundred small inputs, written out, what the check of a module, the queries and the calls on streams give
+--     is the number and the place that document 01 says. Each number from 2 to 18 is there, and for each two faults that follow one another
+--     in document 01's order an input with both. And every list of more than 16,777,216 numbers gives 1 at 0, whatever else is wrong.
 --
 -- The check is `moduleVerdict`, which the contract cites; a query finds by `found`; and what a query shows are the answers that the
 -- contracts of the queries cite.
-use Prim.Native.Nat.{ℕ, _+_, _*_, _≤_}
+use Prim.Native.Nat.{ℕ, _+_, _*_, _≤_, _<_}
 use mathlib.Core.Path.{_≡_}
 use mathlib.Core.Logic.{_↔_}
 use mathlib.Core.List.{List, [], map}
@@ -74,6 +77,7 @@ use Rattle.grammar.proofs.SampleFrames as SampleFrames
 use Rattle.grammar.proofs.FoundPatterns as FoundPatterns
 use Rattle.grammar.proofs.ShownBytes as ShownBytes
 use Rattle.grammar.proofs.EnvelopeValues as EnvelopeValues
+use Rattle.grammar.proofs.WorkedRefusals as WorkedRefusals
 
 -- 8.
 pub accepted-exactly : (m : List ℕ) → Bytes m → (moduleVerdict m ≡ Accepted) ↔ Rules m
@@ -147,3 +151,10 @@ panning-values = EnvelopeValues.panning-values
 
 pub panning-scaled : (m : List ℕ) (envelope : ℕ) (b : Block) → found m PanningEnvelope envelope ≡ At b → b .version ≡ 2 → (point : ℕ) → point ≤ byteAt m (b .at + 3) → (number16 m (b .at + 10 + 4 * point) ≤ 64) × (valueAt m Panning envelope point ≡ pos (4 * number16 m (b .at + 10 + 4 * point)) -ℤ pos 128)
 panning-scaled = EnvelopeValues.panning-scaled
+
+-- 24.
+pub refusals-agree : map (λ (w : WorkedRefusals.Worked). w .found) WorkedRefusals.worked ≡ map (λ (w : WorkedRefusals.Worked). w .said) WorkedRefusals.worked
+refusals-agree = WorkedRefusals.refusals-agree
+
+pub too-long : (m : List ℕ) → 16777216 < length m → moduleVerdict m ≡ Refused (record { number = 1; place = 0 })
+too-long = WorkedRefusals.too-long
