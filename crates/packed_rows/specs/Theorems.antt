@@ -59,7 +59,7 @@ pub data StreamFault (rows tracks : ℕ) (full : List (List Entry)) (unfinished 
       → ((e : Entry) (s : List ℕ) → soundEntry tracks e ≡ true → after ≡ entryBytes e ++ s → ⊥) → StreamFault rows tracks full unfinished after
   -- The rows are full, no row is unfinished, and bytes follow.
   leftOver : length full ≡ rows → unfinished ≡ [] → (after ≡ [] → ⊥) → StreamFault rows tracks full unfinished after
-  -- Rows are left and nothing follows.
+  -- Rows are left and nothing follows: the place is the stream's length.
   rowEndsLack : length full < rows → after ≡ [] → StreamFault rows tracks full unfinished after
 
 -- F2 with no reader: up to the place the stream is some whole rows and the entries of an unfinished one, all sound; and there it is
