@@ -18,7 +18,7 @@ use Rattle.blocks.specs.Sizes.{widthOf, sizeOf}
 use Rattle.blocks.specs.Filling.{flagsRules}
 use Rattle.blocks.specs.declared.Kind.the-variants.{Song, Instrument, Sample, Envelope}
 use Rattle.fields.specs.Fields.{panningFits, bit0, bit1, entryRules, songRules, instrumentRules, envelopeHeadRules, envelopePointRules, valueFits, valueRules, valuesRules, envelopeRules}
-use Rattle.module.specs.Loops.{noLoop, forward, pingPong, isLoop, loopKind, framesOf, instrumentLoopRules}
+use Rattle.module.specs.Loops.{noLoop, forward, pingPong, isLoop, loopKind, looped, framesOf, instrumentLoopRules}
 use Rattle.grammar.specs.Rules.{none, SongRules, PanningFits, Looped, InstrumentRules, SampleRules, EnvelopeRules}
 use Rattle.grammar.proofs.Locating.{PartAt, byteAt-at, number16-at, number32-at, number16-start, number32-start}
 use Rattle.grammar.proofs.Holding.{false-never, and-says, every-one, every-split, AllHold, each-hold, every-step, plain}
@@ -40,14 +40,14 @@ song-says : (m : List ℕ) (patterns at : ℕ) → AllHold (songRules m patterns
 song-says m patterns at = simp (plain, each-hold (entryRules m patterns), every-step) Iff·rfl
 
 module _ {m block : List ℕ} {at : ℕ} (p : PartAt m at block) (s : Sized Song block) where
-  song-size : length block ≡ 46 + 2 * number16 block 44
+  pub song-size : length block ≡ 46 + 2 * number16 block 44
   unfolding sizeOf
   song-size = s
 
-  entry-count : number16 m (at + 44) ≡ number16 block 44
+  pub entry-count : number16 m (at + 44) ≡ number16 block 44
   entry-count = number16-at p 44 (omega (arith, song-size))
 
-  entry-same : (i : ℕ) → i < number16 block 44 → number16 m (at + 46 + 2 * i) ≡ number16 block (46 + 2 * i)
+  pub entry-same : (i : ℕ) → i < number16 block 44 → number16 m (at + 46 + 2 * i) ≡ number16 block (46 + 2 * i)
   entry-same i h = rw add-assoc (number16-at p (46 + 2 * i) (omega (arith, song-size)))
 
   pub song-holds : (patterns : ℕ) → AllHold (songRules m patterns at) ↔ SongRules patterns block
@@ -71,12 +71,15 @@ loop-says flags length = go (eqb length 0) (bit0 flags) (bit1 flags) refl refl r
     go false false false a b c = (λ e. false-never e, λ h. elim (h .1) [ inl x ↦ absurd (eqb-false (flags % 2) 1 b x) | inr x ↦ absurd (eqb-false (flags / 2 % 2) 1 c x) ])
 
 module _ {m block : List ℕ} {at : ℕ} (p : PartAt m at block) (s : Sized Instrument block) where
-  instrument-size : length block ≡ 50
+  pub instrument-size : length block ≡ 50
   unfolding sizeOf
   instrument-size = s
 
   instrument-says : (samples : ℕ) → AllHold (instrumentRules m samples at) ↔ ((number16 block 30 ≤ samples) × ((number16 block 32 ≤ 64) × (PanningFits (number16 block 46) × (number16 block 48 < 4))))
   instrument-says samples = simp (plain, leZ-says, number16-at p 30 (omega (arith, instrument-size)), number16-at p 32 (omega (arith, instrument-size)), number16-at p 46 (omega (arith, instrument-size)), number16-at p 48 (omega (arith, instrument-size))) Iff·rfl
+
+  pub looped-says : (looped m at ≡ true) ↔ Looped block
+  looped-says = simp (loop-says, number32-at p 42 (omega (arith, instrument-size)), number16-at p 48 (omega (arith, instrument-size))) Iff·rfl
 
   loop-fits-says : (chunk : Place) → AllHold (instrumentLoopRules m chunk at) ↔ (Looped block → (1 ≤ number16 block 30) × (number32 block 38 + number32 block 42 ≤ framesOf m chunk (number16 block 30)))
   loop-fits-says chunk = simp (plain, loop-says, number16-at p 30 (omega (arith, instrument-size)), number32-at p 38 (omega (arith, instrument-size)), number32-at p 42 (omega (arith, instrument-size)), number16-at p 48 (omega (arith, instrument-size))) Iff·rfl
@@ -138,14 +141,14 @@ sample-holds {m} {block} {at} p s chunk = (
 
 -- Envelopes.
 module _ {m block : List ℕ} {at : ℕ} (p : PartAt m at block) (s : Sized Envelope block) where
-  envelope-size : length block ≡ 136
+  pub envelope-size : length block ≡ 136
   unfolding sizeOf
   envelope-size = s
 
-  byte-same : (k : ℕ) → k < 8 → byteAt m (at + k) ≡ byteAt block k
+  pub byte-same : (k : ℕ) → k < 8 → byteAt m (at + k) ≡ byteAt block k
   byte-same k h = byteAt-at p k (omega (arith, envelope-size))
 
-  value-same : (i : ℕ) → i ≤ 31 → number16 m (at + 8 + 4 * i + 2) ≡ number16 block (10 + 4 * i)
+  pub value-same : (i : ℕ) → i ≤ 31 → number16 m (at + 8 + 4 * i + 2) ≡ number16 block (10 + 4 * i)
   value-same i h = let same : at + 8 + 4 * i + 2 ≡ at + (10 + 4 * i) = omega arith in rw same (number16-at p (10 + 4 * i) (omega (arith, envelope-size)))
 
   head-says : (instruments : ℕ) → AllHold (envelopeHeadRules m instruments at) ↔ (((1 ≤ number16 block 0) × (number16 block 0 ≤ instruments)) × ((byteAt block 2 < 16) × (byteAt block 3 ≤ 31)))

@@ -1,200 +1,226 @@
--- The chunk half of theorem 10: the places of refusals 1 to 10; and, for the others, that the places of a found layout are those of
--- whole chunks of the module.
-use Prim.Native.Nat.{ℕ, _+_, _≤_, _<_}
-use mathlib.Core.Path.{_≡_, refl, sym, subst, _∙_}
-use mathlib.Core.List.{List, [], _∷_, _++_, append-nil}
-use mathlib.Core.Bool.{Bool, true, false, cond, not, _&&_, _||_, or-assoc, or-false}
+-- The chunk half of theorem 10: refusals 1 to 10, where they are and what is wrong there.
+use Prim.Native.Nat.{ℕ, _+_, _/_, _%_, _≤_, _<_}
+use mathlib.Core.Path.{_≡_, refl, sym, ap, subst, _∙_}
+use mathlib.Core.Logic.{_↔_, _⊎_, inl, inr}
+use mathlib.Core.List.{List, [], _++_, append-nil}
+use mathlib.Core.Bool.{true, false, not, _&&_, _||_}
 use native.Mathlib.Omega.{arith}
-use lib.ListN.{length, take}
-use lib.Dec.{eqb, lit<}
+use lib.ListN.{length, take, length-append}
+use lib.Dec.{eqb, leb, lit<}
+use borrow.Author.Tests.{leb-true, leb-false, eqb-true, eqb-false}
 use Rattle.cells.specs.Cells.{joined}
 use Rattle.refusal.specs.Numbers.{refusal}
-use Rattle.refusal.specs.declared.Cause.the-variants.{InfoRange}
+use Rattle.refusal.specs.declared.Cause.the-variants.{Repeated, BeforeInfo, Missing, FixedLength, InfoRange}
 use Rattle.refusal.specs.declared.Refusal.{Refusal}
-use Rattle.numbers.specs.Numbers.{number32}
-use Rattle.layout.specs.Header.{headerFits, headerRules}
-use Rattle.layout.specs.Chunks.{NAME, INFO, SONG, INST, PATT, SMPL, VENV, PENV, Chunk, occurs, chunkAt, needsInfo, covered, lengthFits, infoRules, chunkRules}
-use Rattle.layout.specs.Outlines.{standing, placeOf, placesOf, layoutWith, mandatoryThere, outline}
-use Rattle.layout.specs.declared.Place.{Place}
-use Rattle.layout.specs.declared.Layout.{Layout}
+use Rattle.numbers.specs.Numbers.{byteAt, number16, number32}
+use Rattle.layout.specs.Header.{headerFits, versionFits, headerRules}
+use Rattle.layout.specs.Chunks.{NAME, INFO, SONG, INST, PATT, SMPL, Chunk, occurs, chunkAt, fourLetters, needsInfo, covered, lengthFits, tracksFit, infoRules, chunkRules}
+use Rattle.layout.specs.Outlines.{mandatoryThere, outline}
 use Rattle.layout.specs.declared.Outline.{Outline}
 use Rattle.layout.specs.declared.Outline.the-variants.{Found, Refused}
-use Rattle.blocks.specs.Filling.{dataEnd}
-use Rattle.grammar.specs.Rules.{Covered}
-use Rattle.grammar.specs.Places.{oneOf, HeaderAt, HeaderOf, InData, PlaceOf, tooLong, notAModule, version, chunkCut, identifier, repeated, beforeInfo, missing, fixedLength, infoRange}
-use Rattle.grammar.proofs.Locating.{PartAt, part-inside}
-use Rattle.grammar.proofs.Holding.{leb-says, eqb-says, and-says, unless-says, false-never, plain}
-use Rattle.grammar.proofs.FirstBroken.{WhereBroken, no-rule, this-or, first-broken, broken-if}
-use Rattle.grammar.proofs.Identifiers.{chunk-named}
-use Rattle.grammar.proofs.Recorded.{recorded, recordsFrom, present-occurs}
-use Rattle.grammar.proofs.Fitting.{identifier-is, data-length-is}
-use Rattle.grammar.proofs.Chunking.{InTurn, done, next, turn-bytes, joined-next, Reached, reached-next}
+use Rattle.grammar.specs.Rules.{Every, ChunkBytes, infoLetters, Covered, NeedsInfo}
+use Rattle.grammar.specs.Faults.{HeaderFault, VersionFault, CutFault, IdentifierFault, LengthFault, InfoFault}
+use Rattle.grammar.specs.Places.{ChunkAt, PlaceOf, tooLong, notAModule, version, chunkCut, identifier, repeated, beforeInfo, missing, fixedLength, infoRange}
+use Rattle.grammar.proofs.Locating.{PartAt, byteAt-at, number16-at, number32-at, part-inside}
+use Rattle.grammar.proofs.Holding.{leb-says, eqb-says, and-says, unless-says, plain}
+use Rattle.grammar.proofs.FirstBroken.{WhereBroken, no-rule, this-or, first-broken, broken-if, never, not-broken, both-broken, neither-broken, unless-broken}
+use Rattle.grammar.proofs.Identifiers.{identifierOf, chunk-named, needing, needing-letters, covered-letters}
+use Rattle.grammar.proofs.Recorded.{recordsFrom, occurs-says}
+use Rattle.grammar.proofs.Fitting.{letters-say, identifier-is, data-length-is, chunk-letters-say, info-number}
+use Rattle.grammar.proofs.Chunking.{turn-bytes, Reached, front-same, whole-part}
+use Rattle.grammar.proofs.Heading.{begins-number}
 use Rattle.grammar.proofs.Outlining.{AllRead, along-outline}
+use Rattle.grammar.proofs.WholeChunks.{header-at}
 
--- The place is as F17 says, and not past the module's end.
+-- The place and what is wrong there are as F17 says, and the place is not past the module's end.
 abbrev pub Placed : List ℕ → Refusal → Type 0
 Placed m r = PlaceOf m r × (r .place ≤ length m)
 
 -- 1, 2, 3.
-header-placed : (m : List ℕ) → WhereBroken (Placed m) (headerRules m)
-header-placed m =
-    let first : 0 ≤ length m = omega arith in
-    let fourth : headerFits m ≡ true → 4 ≤ length m = λ fits. omega (arith, (simp plain at fits) .0) in
-    this-or (λ b. (tooLong, first)) λ h.
-    this-or (λ b. (notAModule, first)) λ fits.
-    this-or (λ b. (version, fourth fits)) λ h.
-    no-rule
+module _ (m : List ℕ) where
+  header-fault : headerFits m ≡ false → HeaderFault m
+  header-fault =
+      both-broken (leb 8 (length m)) (eqb (number32 m 0) 0x44424D30)
+      (λ e. HeaderFault.short (leb-false 8 (length m) e))
+      (λ _ e. HeaderFault.begins (λ begins. eqb-false (number32 m 0) 0x44424D30 e (begins-number m begins)))
 
--- A chunk's header begins where the walk stands, unless the module ends there.
-header-at : {m header : List ℕ} {before : List (List ℕ)} {at : ℕ} → Reached m header before at → at < length m → HeaderAt m at
-header-at {m} {header} {before} r less = record {
-  header = header;
-  before = before;
-  after = r .rest;
-  bytes = r .bytes;
-  headerSize = r .headerSize;
-  whole = turn-bytes (r .turn);
-  there = r .there;
-  follows = less;
-}
+  version-fault : (first second : ℕ) → byteAt m 4 ≡ first → byteAt m 5 ≡ second → versionFits first second ≡ false → VersionFault m
+  version-fault first second a b =
+      both-broken (eqb first 2 || eqb first 3) (leb (second / 16) 9 && leb (second % 16) 9)
+      (λ e. let (two, three) = neither-broken (eqb first 2) (eqb first 3) e in VersionFault.version (λ h. eqb-false first 2 two (sym a ∙ h)) (λ h. eqb-false first 3 three (sym a ∙ h)))
+      (λ _. both-broken (leb (second / 16) 9) (leb (second % 16) 9)
+      (λ e. VersionFault.firstDigit (rw b (leb-false (second / 16) 9 e)))
+      (λ _ e. VersionFault.secondDigit (rw b (leb-false (second % 16) 9 e))))
 
--- What a broken test says.
-both-broken : (a b : Bool) → not (a && b) ≡ false → a ≡ true
-both-broken true b e = refl
-both-broken false b e = false-never (sym e)
+  header-placed : WhereBroken (Placed m) (headerRules m)
+  header-placed =
+      let first : 0 ≤ length m = omega arith in
+      let long : headerFits m ≡ true → 8 ≤ length m = λ fits. (simp plain at fits) .0 in
+      let fourth : headerFits m ≡ true → 4 ≤ length m = λ fits. omega (arith, long fits) in
+      this-or (λ b. (tooLong (leb-false (length m) 16777216 b), first)) λ _.
+      this-or (λ b. (notAModule (header-fault b), first)) λ fits.
+      this-or (λ b. (version (long fits) (version-fault (byteAt m 4) (byteAt m 5) refl refl b), fourth fits)) λ _.
+      no-rule
 
-pub unless-broken : (a b : Bool) → not a || b ≡ false → a ≡ true
-unless-broken true b e = refl
-unless-broken false b e = false-never (sym e)
+tracks-say : (tracks : ℕ) → (tracksFit tracks ≡ true) ↔ ((4 ≤ tracks) × (tracks ≤ 254) × (tracks % 2 ≡ 0))
+tracks-say tracks = simp plain (λ h. (h .0, h .1 .0, h .1 .1), λ h. (h .0, (h .1, h .2)))
 
-either-broken : (a b c d : Bool) → (not a || b) && (not c || d) ≡ false → a || (c || false) ≡ true
-either-broken true b c d e = refl
-either-broken false b true d e = refl
-either-broken false b false d e = false-never (sym e)
-
--- The chunks that 6, 7 and 9 are given for.
-repeated-one : (n : ℕ) (b : Bool) → not (covered n && b) ≡ false → oneOf n (NAME ∷ INFO ∷ SONG ∷ INST ∷ PATT ∷ SMPL ∷ VENV ∷ PENV ∷ []) ≡ true
-repeated-one n b e = simp or-false (simp or-assoc at (both-broken (covered n) b e))
-
-before-one : (n : ℕ) (b : Bool) → not (needsInfo n) || b ≡ false → oneOf n (SONG ∷ INST ∷ PATT ∷ SMPL ∷ []) ≡ true
-before-one n b e = simp or-false (unless-broken (needsInfo n) b e)
-
-fixed-one : (c : Chunk) → lengthFits c ≡ false → oneOf (c .identifier) (NAME ∷ INFO ∷ []) ≡ true
-fixed-one c = either-broken (eqb (c .identifier) NAME) (eqb (c .length) 44) (eqb (c .identifier) INFO) (eqb (c .length) 10)
-
--- 4, 5, 6, 7, 9, 10.
+-- 4, 5, 6, 7, 9, 10: where the walk is, behind whole chunks.
 module _ {m header : List ℕ} {before : List (List ℕ)} {at : ℕ} (r : Reached m header before at) (less : at < length m) where
-  module _ (info : number32 m at ≡ INFO) (ten : number32 m (at + 4) ≡ 10) (whole : at + 8 + number32 m (at + 4) ≤ length m) where
-    field-placed : (place : ℕ) → at + 8 ≤ place → place < at + 18 → Placed m (refusal InfoRange place)
-    field-placed place behind inside =
-        let chunk : HeaderOf m (INFO ∷ []) at = record { header = header-at r less; named = rw info } in
-        (infoRange (record { at = at; within = record { chunk = chunk; behind = behind; inside = omega arith; whole = whole } }), omega arith)
+  inside : at ≤ length m
+  inside = omega arith
 
-    info-placed : WhereBroken (Placed m) (infoRules m (at + 8))
-    info-placed =
-        let field : (k : ℕ) → k < 10 → Placed m (refusal InfoRange (at + 8 + k)) = λ k l. field-placed (at + 8 + k) (omega arith) (omega arith) in
-        let first : Placed m (refusal InfoRange (at + 8)) = field-placed (at + 8) (omega arith) (omega arith) in
-        this-or (λ b. first) λ h.
-        this-or (λ b. field 2 (lit< tt)) λ h.
-        this-or (λ b. field 4 (lit< tt)) λ h.
-        this-or (λ b. field 6 (lit< tt)) λ h.
-        this-or (λ b. field 8 (lit< tt)) λ h.
-        no-rule
+  rest-long : length m ≡ at + length (r .rest)
+  rest-long = omega (arith, ap length (r .bytes), length-append (header ++ joined before) (r .rest), r .there)
 
-  info-length : lengthFits (chunkAt m at) ≡ true → number32 m at ≡ INFO → number32 m (at + 4) ≡ 10
-  info-length lengths = (simp (and-says, unless-says, eqb-says) at lengths) .1
+  rest-part : PartAt m at (r .rest)
+  rest-part = record {
+    before = header ++ joined before;
+    after = [];
+    bytes = r .bytes ∙ ap (λ (rest : List ℕ). (header ++ joined before) ++ rest) (sym (append-nil (r .rest)));
+    starts = r .there;
+  }
+
+  -- 4 and 5.
+  head-fault : leb (at + 8) (length m) ≡ false → CutFault (r .rest)
+  head-fault e = CutFault.header (omega (arith, leb-false (at + 8) (length m) e, rest-long))
+
+  module _ (headed : leb (at + 8) (length m) ≡ true) where
+    rest-eight : 8 ≤ length (r .rest)
+    rest-eight = omega (arith, leb-true (at + 8) (length m) headed, rest-long)
+
+    letters-fault : fourLetters m at ≡ false → IdentifierFault (r .rest)
+    letters-fault e = record { size = rest-eight; letters = λ h. never (letters-say m at) e (λ i l. rw (byteAt-at rest-part i (omega (arith, rest-eight))) (h i l)) }
+
+    data-fault : leb (at + 8 + number32 m (at + 4)) (length m) ≡ false → CutFault (r .rest)
+    data-fault e =
+        let same = number32-at rest-part 4 (omega (arith, rest-eight)) in
+        CutFault.contents (omega (arith, leb-false (at + 8 + number32 m (at + 4)) (length m) e, rest-long))
+
+  -- The others are of a whole chunk.
+  module _ {chunk : List ℕ} (part : PartAt m at chunk) (c : ChunkBytes chunk) where
+    abbrev chunk-at : {letters : List ℕ} → take 4 chunk ≡ letters → ChunkAt m letters chunk at
+    chunk-at named = record {
+      begins = record {
+        header = header;
+        before = before;
+        after = chunk ++ part .after;
+        bytes = part .bytes ∙ ap (λ (front : List ℕ). front ++ (chunk ++ part .after)) (front-same r part);
+        headerSize = r .headerSize;
+        whole = turn-bytes (r .turn);
+        there = r .there;
+        follows = less;
+      };
+      rest = part .after;
+      bytes = refl;
+      whole = c;
+      named = named;
+    }
+
+    abbrev named-at : {letters : List ℕ} (covers : Covered letters) → number32 m at ≡ identifierOf covers → ChunkAt m letters chunk at
+    named-at covers e = chunk-at (chunk-named c covers .0 (sym (identifier-is part (c .size)) ∙ e))
+
+    repeated-placed : not (covered (number32 m at) && occurs (number32 m at) (recordsFrom 8 before)) ≡ false → Placed m (refusal Repeated at)
+    repeated-placed e =
+        let both = and-says (covered (number32 m at)) (occurs (number32 m at) (recordsFrom 8 before)) .0 (not-broken _ e) in
+        let (letters, covers, same) = covered-letters (number32 m at) (both .0) in
+        let other = occurs-says covers 8 (turn-bytes (r .turn)) .0 (rw same at (both .1)) in
+        (repeated (named-at covers same) covers (other .1), inside)
+
+    before-placed : not (needsInfo (number32 m at)) || occurs INFO (recordsFrom 8 before) ≡ false → Placed m (refusal BeforeInfo at)
+    before-placed e =
+        let (need, lacks) = unless-broken (needsInfo (number32 m at)) (occurs INFO (recordsFrom 8 before)) e in
+        let (letters, needs, same) = needing-letters (number32 m at) need in
+        (beforeInfo (named-at (needing needs) same) needs (λ info a. never (occurs-says Covered.info 8 (turn-bytes (r .turn))) lacks (info, a)), inside)
+
+    length-placed : lengthFits (chunkAt m at) ≡ false → Placed m (refusal FixedLength at)
+    length-placed =
+        let size = c .size in
+        let same = data-length-is part size in
+        both-broken (not (eqb (number32 m at) NAME) || eqb (number32 m (at + 4)) 44) (not (eqb (number32 m at) INFO) || eqb (number32 m (at + 4)) 10)
+        (λ e. let (is, other) = unless-broken (eqb (number32 m at) NAME) (eqb (number32 m (at + 4)) 44) e in (fixedLength (named-at Covered.name (eqb-true (number32 m at) NAME is)) (LengthFault.name (λ long. eqb-false (number32 m (at + 4)) 44 other (omega arith))), inside))
+        (λ _ e. let (is, other) = unless-broken (eqb (number32 m at) INFO) (eqb (number32 m (at + 4)) 10) e in (fixedLength (named-at Covered.info (eqb-true (number32 m at) INFO is)) (LengthFault.info (λ long. eqb-false (number32 m (at + 4)) 10 other (omega arith))), inside))
+
+    module _ (info : ChunkAt m infoLetters chunk at) (long : length chunk ≡ 18) where
+      range-placed : {offset : ℕ} (place : ℕ) → place ≡ at + offset → offset < 18 → InfoFault chunk offset → Placed m (refusal InfoRange place)
+      range-placed {offset} place same low fault =
+          let ends = part-inside part in
+          subst (λ (k : ℕ). Placed m (refusal InfoRange k)) (sym same) (infoRange info long fault, omega arith)
+
+      first-placed : leb (number16 m (at + 8)) 255 ≡ false → Placed m (refusal InfoRange (at + 8))
+      first-placed e = range-placed (at + 8) refl (lit< tt) (InfoFault.instruments (leb-false (number16 chunk 8) 255 (rw (number16-at part 8 (omega arith)) at e)))
+
+      over-placed : (k limit : ℕ) → k < 9 → (limit < number16 chunk (8 + k) → InfoFault chunk (8 + k)) → leb (number16 m (at + 8 + k)) limit ≡ false → Placed m (refusal InfoRange (at + 8 + k))
+      over-placed k limit low fault e = range-placed (at + 8 + k) (omega arith) (omega arith) (fault (leb-false (number16 chunk (8 + k)) limit (rw (info-number part long k low) at e)))
+
+      tracks-placed : tracksFit (number16 m (at + 8 + 8)) ≡ false → Placed m (refusal InfoRange (at + 8 + 8))
+      tracks-placed e = range-placed (at + 8 + 8) (omega arith) (lit< tt) (InfoFault.tracks (never (tracks-say (number16 chunk 16)) (rw (info-number part long 8 (lit< tt)) at e)))
+
+      info-placed : WhereBroken (Placed m) (infoRules m (at + 8))
+      info-placed =
+          this-or first-placed λ _.
+          this-or (over-placed 2 255 (lit< tt) InfoFault.samples) λ _.
+          this-or (over-placed 4 32767 (lit< tt) InfoFault.songs) λ _.
+          this-or (over-placed 6 1024 (lit< tt) InfoFault.patterns) λ _.
+          this-or tracks-placed λ _.
+          no-rule
+
+    chunk-rules-placed : lengthFits (chunkAt m at) ≡ true → eqb (number32 m at) INFO ≡ true → WhereBroken (Placed m) (infoRules m (at + 8))
+    chunk-rules-placed lengths test =
+        let is = eqb-true (number32 m at) INFO test in
+        let ten : number32 m (at + 4) ≡ 10 = (simp (and-says, unless-says, eqb-says) at lengths) .1 is in
+        info-placed (named-at Covered.info is) (omega (arith, c .size, data-length-is part (c .size)))
 
   chunk-placed : WhereBroken (Placed m) (chunkRules m (recordsFrom 8 before) at)
   chunk-placed =
       let here = header-at r less in
-      let inside : at ≤ length m = omega arith in
-      this-or (λ b. (chunkCut here, inside)) λ h.
-      this-or (λ b. (identifier here, inside)) λ h.
-      this-or (λ b. (chunkCut here, inside)) λ whole.
-      this-or (λ b. (repeated (record { header = here; named = repeated-one (number32 m at) _ b }), inside)) λ h.
-      this-or (λ b. (beforeInfo (record { header = here; named = before-one (number32 m at) _ b }), inside)) λ h.
-      this-or (λ b. (fixedLength (record { header = here; named = fixed-one (chunkAt m at) b }), inside)) λ lengths.
-      broken-if (eqb (number32 m at) INFO)
-      (λ test. let info = eqb-says (number32 m at) INFO .0 test in info-placed info (info-length lengths info) (leb-says _ _ .0 whole))
+      this-or (λ b. (chunkCut here (head-fault b), inside)) λ headed.
+      this-or (λ b. (identifier here (letters-fault headed b), inside)) λ lettered.
+      this-or (λ b. (chunkCut here (data-fault headed b), inside)) λ whole.
+      let (chunk, part, size) = whole-part m at (leb-true (at + 8 + number32 m (at + 4)) (length m) whole) in
+      let c : ChunkBytes chunk = record { size = size; letters = chunk-letters-say part size .0 lettered } in
+      this-or (repeated-placed part c) λ _.
+      this-or (before-placed part c) λ _.
+      this-or (length-placed part c) λ lengths.
+      broken-if (eqb (number32 m at) INFO) (chunk-rules-placed part c lengths)
 
--- A place of a layout is that of a whole chunk with this identifier: the chunk is there, its header begins there, and its data are as
--- long as its length says, in NAME 44.
-pub record WholeAt (m : List ℕ) (identifier : ℕ) (place : Place) : Type 0 where
-  pub present : place .present ≡ true
-  pub header : HeaderAt m (place .at)
-  pub named : number32 m (place .at) ≡ identifier
-  pub size : number32 m (place .at + 4) ≡ place .length
-  pub nameSize : identifier ≡ NAME → place .length ≡ 44
-  pub inside : dataEnd place ≤ length m
-
--- Such a chunk, as one of some identifiers, and a place in its data.
-module _ {m identifiers : List ℕ} {identifier : ℕ} {chunk : Place} (w : WholeAt m identifier chunk) (one : oneOf identifier identifiers ≡ true) where
-  pub header-of : HeaderOf m identifiers (chunk .at)
-  header-of = record { header = w .header; named = rw (w .named) one }
-
-  pub in-data : (place : ℕ) → chunk .at + 8 ≤ place → place < dataEnd chunk → InData m identifiers (chunk .at) place
-  in-data place behind before =
-      let size = w .size in
-      let inside = w .inside in
-      record { chunk = header-of; behind = behind; inside = omega arith; whole = omega arith }
-
--- A place that the check finds among chunks in turn.
-place-whole : (n : ℕ) {m header : List ℕ} {before rest : List (List ℕ)} {at : ℕ} → Reached m header before at → m ≡ (header ++ joined before) ++ joined rest → InTurn before rest → placeOf n (recordsFrom at rest) .present ≡ true → WholeAt m n (placeOf n (recordsFrom at rest))
-place-whole n r bytes done there = let z : _≡_ {A = ℕ} 0 1 = cc in absurd (omega arith)
-place-whole n {m} {header} {before} {at = at} r bytes (next {chunk = chunk} {rest = rest} fits turn) there =
-    go (eqb (number32 chunk 0) n) refl (place-whole n (reached-next r part fits) (bytes ∙ joined-next header before chunk rest) turn) there
+-- 8.
+missing-placed : (m : List ℕ) (all : List (List ℕ)) → AllRead m all → mandatoryThere (recordsFrom 8 all) ≡ false → Placed m (refusal Missing (length m))
+missing-placed m all read =
+    both-broken (occurs INFO records) _ (lacks Covered.info (inl refl)) λ _.
+    both-broken (occurs SONG records) _ (lacks Covered.song (inr NeedsInfo.song)) λ _.
+    both-broken (occurs INST records) _ (lacks Covered.inst (inr NeedsInfo.inst)) λ _.
+    both-broken (occurs PATT records) (occurs SMPL records) (lacks Covered.patt (inr NeedsInfo.patt)) λ _.
+    lacks Covered.smpl (inr NeedsInfo.smpl)
   where
-    part : PartAt m at chunk
-    part = record { before = header ++ joined before; after = joined rest; bytes = bytes; starts = r .there }
+    records : List Chunk
+    records = recordsFrom 8 all
 
-    go : (b : Bool) → eqb (number32 chunk 0) n ≡ b → (placeOf n (recordsFrom (at + length chunk) rest) .present ≡ true → WholeAt m n (placeOf n (recordsFrom (at + length chunk) rest))) → cond b (standing (recorded at chunk)) (placeOf n (recordsFrom (at + length chunk) rest)) .present ≡ true → WholeAt m n (cond b (standing (recorded at chunk)) (placeOf n (recordsFrom (at + length chunk) rest)))
-    go true e ih h =
-        let size = fits .bytes .size in
-        let inside = part-inside part in
-        record { present = refl; header = header-at r (omega arith); named = identifier-is part size ∙ eqb-says _ _ .0 e; size = data-length-is part size; nameSize = λ same. omega (arith, fits .name (chunk-named (fits .bytes) Covered.name .0 (eqb-says _ _ .0 e ∙ same))); inside = omega arith }
-    go false e ih h = ih h
+    whole : Every ChunkBytes all
+    whole = turn-bytes (read .turn)
 
--- The places of a found layout.
-pub record PlacesWhole (m : List ℕ) (l : Layout) : Type 0 where
-  pub name : l .places .name .present ≡ true → WholeAt m NAME (l .places .name)
-  pub info : WholeAt m INFO (l .places .info)
-  pub song : WholeAt m SONG (l .places .song)
-  pub inst : WholeAt m INST (l .places .inst)
-  pub patt : WholeAt m PATT (l .places .patt)
-  pub smpl : WholeAt m SMPL (l .places .smpl)
-  pub venv : l .places .venv .present ≡ true → WholeAt m VENV (l .places .venv)
-  pub penv : l .places .penv .present ≡ true → WholeAt m PENV (l .places .penv)
-
-places-of : {m : List ℕ} (all : List (List ℕ)) → AllRead m all → mandatoryThere (recordsFrom 8 all) ≡ true → PlacesWhole m (layoutWith m (placesOf (recordsFrom 8 all)))
-places-of {m} all read mandatory = record {
-  name = of NAME;
-  info = of INFO (rw (present-occurs INFO (recordsFrom 8 all)) (says .0));
-  song = of SONG (rw (present-occurs SONG (recordsFrom 8 all)) (says .1 .0));
-  inst = of INST (rw (present-occurs INST (recordsFrom 8 all)) (says .1 .1 .0));
-  patt = of PATT (rw (present-occurs PATT (recordsFrom 8 all)) (says .1 .1 .1 .0));
-  smpl = of SMPL (rw (present-occurs SMPL (recordsFrom 8 all)) (says .1 .1 .1 .1));
-  venv = of VENV;
-  penv = of PENV;
-}
-  where
-    of : (n : ℕ) → placeOf n (recordsFrom 8 all) .present ≡ true → WholeAt m n (placeOf n (recordsFrom 8 all))
-    of n = place-whole n (read .front) (rw (append-nil (take 8 m)) (read .bytes)) (read .turn)
-
-    says : (occurs INFO (recordsFrom 8 all) ≡ true) × ((occurs SONG (recordsFrom 8 all) ≡ true) × ((occurs INST (recordsFrom 8 all) ≡ true) × ((occurs PATT (recordsFrom 8 all) ≡ true) × (occurs SMPL (recordsFrom 8 all) ≡ true))))
-    says = simp and-says at mandatory
+    lacks : {letters : List ℕ} (covers : Covered letters) → (letters ≡ infoLetters) ⊎ NeedsInfo letters → occurs (identifierOf covers) (recordsFrom 8 all) ≡ false → Placed m (refusal Missing (length m))
+    lacks {letters} covers mandatory e = (
+      missing (record {
+        header = take 8 m;
+        chunks = all;
+        bytes = read .bytes;
+        headerSize = read .front .headerSize;
+        whole = whole;
+        letters = letters;
+        mandatory = mandatory;
+        lacks = λ chunk a. never (occurs-says covers 8 whole) e (chunk, a);
+      }),
+      omega arith,
+    )
 
 -- What an outline says of places.
 abbrev Told : List ℕ → Outline → Type 0
-Told m (Found l) = PlacesWhole m l
+Told m (Found l) = Unit {0}
 Told m (Refused r) = Placed m r
 
 told : (m : List ℕ) → Told m (outline m)
-told m = along-outline m (Told m) (first-broken (header-placed m)) (λ before at reached less. first-broken (chunk-placed reached less)) (missing, omega arith) places-of
+told m = along-outline m (Told m) (first-broken (header-placed m)) (λ before at reached less. first-broken (chunk-placed reached less)) (missing-placed m) (λ all read mandatory. tt)
 
--- 1 to 10.
-pub outline-place : (m : List ℕ) (r : Refusal) → outline m ≡ Refused r → PlaceOf m r × (r .place ≤ length m)
+pub outline-place : (m : List ℕ) (r : Refusal) → outline m ≡ Refused r → Placed m r
 outline-place m r e = subst (Told m) e (told m)
-
--- For 11 to 15.
-pub outline-places : (m : List ℕ) (l : Layout) → outline m ≡ Found l → PlacesWhole m l
-outline-places m l e = subst (Told m) e (told m)

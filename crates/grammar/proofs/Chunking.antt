@@ -36,7 +36,7 @@ turn-last : {before rest : List (List ℕ)} (chunk : List ℕ) → InTurn before
 turn-last {before} chunk done fits = next (rw append-nil at fits) done
 turn-last {before} chunk (next {chunk = first} {rest = rest} f turn) fits = next f (turn-last chunk turn (rw append-assoc fits))
 
-joined-last : (chunks : List (List ℕ)) (chunk : List ℕ) → joined (chunks ++ (chunk ∷ [])) ≡ joined chunks ++ chunk
+pub joined-last : (chunks : List (List ℕ)) (chunk : List ℕ) → joined (chunks ++ (chunk ∷ [])) ≡ joined chunks ++ chunk
 joined-last chunks chunk = rw (joined-append chunks (chunk ∷ []), append-nil chunk)
 
 pub joined-next : (header : List ℕ) (before : List (List ℕ)) (chunk : List ℕ) (rest : List (List ℕ)) → (header ++ joined before) ++ joined (chunk ∷ rest) ≡ (header ++ joined (before ++ (chunk ∷ []))) ++ joined rest
@@ -70,17 +70,17 @@ module _ {m header : List ℕ} {before : List (List ℕ)} {at : ℕ} (r : Reache
       go [] e = r .bytes ∙ rw e (append-nil (header ++ joined before))
       go (b ∷ rest) e = absurd (omega (arith, ap length (r .bytes), length-append (header ++ joined before) (r .rest), r .there, ap length e))
 
-  module _ {chunk : List ℕ} (part : PartAt m at chunk) (fits : ChunkFits before chunk) where
-    front-same : part .before ≡ header ++ joined before
-    front-same =
-        sym (take-at (part .before) (chunk ++ part .after) at (part .starts))
-        ∙ ap (take at) (sym (part .bytes) ∙ r .bytes)
-        ∙ take-at (header ++ joined before) (r .rest) at (r .there)
+  pub front-same : {chunk : List ℕ} (part : PartAt m at chunk) → part .before ≡ header ++ joined before
+  front-same {chunk} part =
+      sym (take-at (part .before) (chunk ++ part .after) at (part .starts))
+      ∙ ap (take at) (sym (part .bytes) ∙ r .bytes)
+      ∙ take-at (header ++ joined before) (r .rest) at (r .there)
 
+  module _ {chunk : List ℕ} (part : PartAt m at chunk) (fits : ChunkFits before chunk) where
     pub reached-next : Reached m header (before ++ (chunk ∷ [])) (at + length chunk)
     reached-next = record {
       rest = part .after;
-      bytes = part .bytes ∙ rw (front-same, joined-last before chunk) (simp append-assoc);
+      bytes = part .bytes ∙ rw (front-same part, joined-last before chunk) (simp append-assoc);
       headerSize = r .headerSize;
       there = rw (joined-last before chunk, ← append-assoc header (joined before) chunk) (length-append (header ++ joined before) chunk ∙ ap (λ (n : ℕ). n + length chunk) (r .there));
       turn = turn-last chunk (r .turn) fits;
@@ -98,15 +98,20 @@ module _ {m header : List ℕ} {before : List (List ℕ)} {at : ℕ} (r : Reache
     walk-next : (steps : ℕ) → chunksFrom steps m (recordsFrom 8 before ++ (chunkAt m at ∷ [])) (chunkEnd (chunkAt m at)) ≡ chunksFrom steps m (recordsFrom 8 (before ++ (chunk ∷ []))) (at + length chunk)
     walk-next steps = rw (records-next, end-next)
 
--- An accepted chunk: its bytes stand at the place, and it fits behind those before it.
-accepted-fits : {m header : List ℕ} {before : List (List ℕ)} {at : ℕ} → Reached m header before at → AllHold (chunkRules m (recordsFrom 8 before) at) → (chunk : List ℕ) × PartAt m at chunk × ChunkFits before chunk
-accepted-fits {m} {header} {before} {at} r hold =
+-- A chunk whose data do not run past the end: its bytes are at the place, and it is as long as it says.
+pub whole-part : (m : List ℕ) (at : ℕ) → at + 8 + number32 m (at + 4) ≤ length m → (chunk : List ℕ) × PartAt m at chunk × (length chunk ≡ 8 + number32 chunk 4)
+whole-part m at h =
     let n : ℕ = 8 + number32 m (at + 4) in
-    let inside : at + n ≤ length m = omega (arith, leb-true (at + 8 + number32 m (at + 4)) (length m) (every-first (every-rest (every-rest hold)))) in
+    let inside : at + n ≤ length m = omega arith in
     let part = part-there m at n inside in
     let long = part-length m at n inside in
-    let size : length (partOf m at n) ≡ 8 + number32 (partOf m at n) 4 = long ∙ ap (λ (k : ℕ). 8 + k) (number32-at part 4 (omega arith)) in
-    (partOf m at n, part, rules-fit 8 (turn-bytes (r .turn)) part size hold)
+    (partOf m at n, part, long ∙ ap (λ (k : ℕ). 8 + k) (number32-at part 4 (omega arith)))
+
+-- An accepted chunk: its bytes are at the place, and it fits behind those before it.
+accepted-fits : {m header : List ℕ} {before : List (List ℕ)} {at : ℕ} → Reached m header before at → AllHold (chunkRules m (recordsFrom 8 before) at) → (chunk : List ℕ) × PartAt m at chunk × ChunkFits before chunk
+accepted-fits {m} {header} {before} {at} r hold =
+    let (chunk, part, size) = whole-part m at (leb-true (at + 8 + number32 m (at + 4)) (length m) (every-first (every-rest (every-rest hold)))) in
+    (chunk, part, rules-fit 8 (turn-bytes (r .turn)) part size hold)
 
 -- Induction along the walk: what holds where all chunks are read, and where one is refused, holds of every walk.
 module _ {m header : List ℕ} (P : Walk → Type 0) (ends : (all : List (List ℕ)) → m ≡ header ++ joined all → InTurn [] all → P (whole (recordsFrom 8 all))) (stops : (before : List (List ℕ)) (at : ℕ) → Reached m header before at → at < length m → (r : Refusal) → firstBroken (chunkRules m (recordsFrom 8 before) at) ≡ Refused r → P (stopped r)) where

@@ -35,6 +35,13 @@ use Rattle.grammar.proofs.ContentRules.{ContentHolds, content-hold}
 pub counted : {front count other : ℕ} {chunk : List ℕ} {blocks : List (List ℕ)} → count ≡ other → Filled front chunk count blocks → Filled front chunk other blocks
 counted same f = record { fronts = f .fronts; bytes = f .bytes; number = f .number ∙ same }
 
+-- The frames of a sample, by its number, are those of its block.
+pub frames-same : (place : Place) {m smpl : List ℕ} {count : ℕ} {samples : List (List ℕ)} → BlocksIn Sample m (place .at + 8) 8 smpl count samples → (sample : ℕ) → 1 ≤ sample → sample ≤ length samples → framesOf m place sample ≡ number32 (getD samples (sample - 1) []) 4
+frames-same place {samples = samples} b sample h k =
+    let inside : sample - 1 < length samples = omega arith in
+    number32-at (block-there Sample samples (sample - 1) inside (b .there) (b .sized)) 4
+    (omega (arith, sized-least Sample (getD samples (sample - 1) []) (every-at (sample - 1) [] inside (b .sized))))
+
 -- The blocks of the four chunks that every module has.
 record AllBlocks (m : List ℕ) (l : Layout) (song inst patt smpl : List ℕ) (songs instruments patterns samples : List (List ℕ)) : Type 0 where
   inSong : BlocksIn Song m (l .places .song .at + 8) 8 song (l .songs) songs
@@ -52,14 +59,8 @@ module _ {m : List ℕ} {l : Layout} {song inst patt smpl : List ℕ} {songs ins
   patterns-hold : TracksFit (l .tracks) → Bytes m → Every (λ at. AllHold (patternStreamRules m (l .tracks) at)) (patternBlocks m l) ↔ Every (PatternRules (l .tracks)) patterns
   patterns-hold t bytes = blocks-every (b .inPatt) (λ at block p s. (pattern-holds p s (l .tracks), λ r. pattern-rules-hold (l .tracks) block r p bytes t))
 
-  frames-same : (sample : ℕ) → 1 ≤ sample → sample ≤ length samples → framesOf m (l .places .smpl) sample ≡ number32 (getD samples (sample - 1) []) 4
-  frames-same sample h k =
-      let inside : sample - 1 < length samples = omega arith in
-      number32-at (block-there Sample samples (sample - 1) inside (b .inSmpl .there) (b .inSmpl .sized)) 4
-      (omega (arith, sized-least Sample (getD samples (sample - 1) []) (every-at (sample - 1) [] inside (b .inSmpl .sized))))
-
   instruments-hold : Every (λ at. AllHold (instrumentRules m (l .samples) at) × AllHold (instrumentLoopRules m (l .places .smpl) at)) (instrumentBlocks m l) ↔ Every (InstrumentRules samples) instruments
-  instruments-hold = blocks-every (b .inInst) (λ at block p s. rw (← b .inSmpl .filled .number) (instrument-holds p s (l .places .smpl) samples frames-same))
+  instruments-hold = blocks-every (b .inInst) (λ at block p s. rw (← b .inSmpl .filled .number) (instrument-holds p s (l .places .smpl) samples (frames-same (l .places .smpl) (b .inSmpl))))
 
 -- How many envelopes a chunk has, by its bytes.
 pub count-same : {m chunk : List ℕ} {place : Place} → Stands m place chunk → 10 ≤ length chunk → envelopeCount m place ≡ number16 chunk 8
@@ -93,7 +94,7 @@ module _ {m : List ℕ} {chunks : List (List ℕ)} {letters : List ℕ} {place :
         go false there = rw there none
 
 -- The values of panning envelopes, by the version.
-panning-values : (version : ℕ) → (version ≡ 2) ⊎ (version ≡ 3) → (v : ℕ) → (valueFits (eqb version 3) v ≡ true) ↔ PanningValueFits version v
+pub panning-values : (version : ℕ) → (version ≡ 2) ⊎ (version ≡ 3) → (v : ℕ) → (valueFits (eqb version 3) v ≡ true) ↔ PanningValueFits version v
 panning-values version (inl e) v = rw e (λ h. (λ three. absurd (omega arith), λ two. leb-true v 64 h), λ h. le-leb v 64 (h .1 refl))
 panning-values version (inr e) v = rw e (λ h. (λ three. panning-says v .0 h, λ two. absurd (omega arith)), λ h. panning-says v .1 (h .0 refl))
 

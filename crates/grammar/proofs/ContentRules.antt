@@ -14,6 +14,9 @@ use Rattle.fields.specs.Fields.{songRules, instrumentRules, envelopeRules, fiel
 use Rattle.module.specs.Loops.{instrumentLoopRules, loopRules}
 use Rattle.module.specs.Streams.{patternStreamRules, streamRules}
 use Rattle.module.specs.Verdicts.{contentRules}
+use Rattle.queries.specs.Finding.{kindOf, chunkOf, countOf}
+use Rattle.queries.specs.declared.Thing.{Thing}
+use Rattle.queries.specs.declared.Thing.the-variants.{Song as SongThing, Instrument as InstrumentThing, Pattern as PatternThing, Sample as SampleThing, VolumeEnvelope, PanningEnvelope}
 use Rattle.grammar.specs.Rules.{Every}
 use Rattle.grammar.proofs.Holding.{every-append, every-split, AllHold, each-hold, plain}
 
@@ -50,6 +53,15 @@ module _ (m : List ℕ) (l : Layout) where
     λ e. (let h = blocks-say .0 e in record { songs = h .0; instruments = h .1 .0; patterns = h .1 .1 .0; samples = h .1 .1 .1 .0; flags = h .1 .1 .1 .1 .0; volumeEnvelopes = h .1 .1 .1 .1 .1 .0; panningEnvelopes = h .1 .1 .1 .1 .1 .1 }),
     λ h. blocks-say .1 (h .songs, (h .instruments, (h .patterns, (h .samples, (h .flags, (h .volumeEnvelopes, h .panningEnvelopes)))))),
   )
+
+  -- The blocks of a thing fill its chunk, where that is there.
+  pub thing-fills : BlocksHold m l → (thing : Thing) → chunkOf l thing .present ≡ true → blockAt m (kindOf thing) (chunkOf l thing) (countOf m l thing) ≡ dataEnd (chunkOf l thing)
+  thing-fills f SongThing there = f .songs
+  thing-fills f InstrumentThing there = f .instruments
+  thing-fills f PatternThing there = f .patterns
+  thing-fills f SampleThing there = f .samples
+  thing-fills f VolumeEnvelope there = f .volumeEnvelopes there
+  thing-fills f PanningEnvelope there = f .panningEnvelopes there
 
   fields-say : AllHold (fieldRules m l) ↔ (Every (λ at. AllHold (songRules m (l .patterns) at)) (songBlocks m l) × (Every (λ at. AllHold (instrumentRules m (l .samples) at)) (instrumentBlocks m l) × (Every (λ at. AllHold (envelopeRules m (l .instruments) false at)) (envelopeBlocks m (l .places .venv)) × Every (λ at. AllHold (envelopeRules m (l .instruments) (eqb (l .version) 3) at)) (envelopeBlocks m (l .places .penv)))))
   fields-say = simp (every-append, each-hold) Iff·rfl

@@ -1,9 +1,9 @@
 -- Chunks filled by blocks: where the blocks that the check counts end exactly with the chunk's data, the chunk is its front and so
 -- many blocks, and back.
 use Prim.Native.Nat.{ℕ, _+_, _≤_}
-use mathlib.Core.Path.{_≡_, sym, ap, _∙_}
+use mathlib.Core.Path.{_≡_, refl, sym, ap, _∙_}
 use mathlib.Core.Logic.{_↔_}
-use mathlib.Core.List.{List, _++_}
+use mathlib.Core.List.{List, [], _∷_, _++_, append-assoc}
 use native.Mathlib.Omega.{arith}
 use lib.ListN.{length, take, drop, length-append, length-drop, take-append-drop}
 use lib.Seq.{length-take-le}
@@ -12,11 +12,12 @@ use Rattle.layout.specs.declared.Place.{Place}
 use Rattle.blocks.specs.Sizes.{sizeOf, placesFrom, placeAfter}
 use Rattle.blocks.specs.Filling.{dataEnd}
 use Rattle.blocks.specs.declared.Kind.{Kind}
-use Rattle.grammar.specs.Rules.{Every, Filled}
+use Rattle.grammar.specs.Rules.{Every, none, also, Filled}
 use Rattle.grammar.proofs.Standing.{Stands}
 use Rattle.grammar.proofs.Locating.{PartAt}
+use Rattle.grammar.proofs.Chunking.{joined-last}
 use Rattle.grammar.proofs.ChunkHalf.{stands-part}
-use Rattle.grammar.proofs.Cutting.{Sized, after-least, part-rest, Cut, cut, blocks-end, places-blocks, blocks-places}
+use Rattle.grammar.proofs.Cutting.{Sized, after-least, part-first, part-rest, part-size, Cut, cut, blocks-end, places-blocks, blocks-places}
 
 -- So many blocks fill a chunk behind its front, and stand in the module from this place on.
 pub record BlocksIn (kind : Kind) (m : List ℕ) (start front : ℕ) (chunk : List ℕ) (count : ℕ) (blocks : List (List ℕ)) : Type 0 where
@@ -67,3 +68,19 @@ blocks-every {kind} {blocks = blocks} b h = rw (← b .filled .number) (
   places-blocks kind (λ at block p s. h at block p s .0) blocks (b .there) (b .sized),
   blocks-places kind (λ at block p s. h at block p s .1) blocks (b .there) (b .sized),
 )
+
+-- What holds of each block, with the blocks before it and after it, holds at its place.
+module _ (kind : Kind) (m : List ℕ) (P : ℕ → Type 0) (start : ℕ) where
+  abbrev Each : List (List ℕ) → Type 0
+  Each blocks = (before after : List (List ℕ)) (block : List ℕ) (at : ℕ) → blocks ≡ before ++ (block ∷ after) → PartAt m at block → Sized kind block → start + length (joined before) ≡ at → P at
+
+  each-from : (first blocks : List (List ℕ)) (at : ℕ) → start + length (joined first) ≡ at → PartAt m at (joined blocks) → Every (Sized kind) blocks → Each (first ++ blocks) → Every P (placesFrom (sizeOf kind m) (length blocks) at)
+  each-from first [] at there p none h = none
+  each-from first (block ∷ blocks) at there p (also s e) h =
+      let here = part-first block (joined blocks) p in
+      let long : length (joined (first ++ (block ∷ []))) ≡ length (joined first) + length block = ap length (joined-last first block) ∙ length-append (joined first) block in
+      let more = each-from (first ++ (block ∷ [])) blocks (at + length block) (omega arith) (part-rest block (joined blocks) p) e (rw append-assoc h) in
+      also (h first blocks block at refl here s there) (rw (sym (part-size kind here s)) at more)
+
+pub each-block : {kind : Kind} {m : List ℕ} {start front : ℕ} {chunk : List ℕ} {count : ℕ} {blocks : List (List ℕ)} {P : ℕ → Type 0} → BlocksIn kind m start front chunk count blocks → ((before after : List (List ℕ)) (block : List ℕ) (at : ℕ) → blocks ≡ before ++ (block ∷ after) → PartAt m at block → Sized kind block → start + length (joined before) ≡ at → P at) → Every P (placesFrom (sizeOf kind m) count start)
+each-block {kind} {m} {start} {blocks = blocks} {P = P} b h = rw (← b .filled .number) (each-from kind m P start [] blocks start (omega arith) (b .there) (b .sized) h)

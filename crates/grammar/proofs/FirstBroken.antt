@@ -1,16 +1,17 @@
 -- What holds of the refusal of the first rule that does not hold: it is enough to show it rule by rule, where the rules before hold
 -- and this one does not.
 use Prim.Native.Nat.{ℕ}
-use mathlib.Core.Path.{_≡_, refl, subst}
+use mathlib.Core.Path.{_≡_, refl, sym, subst, _∙_}
+use mathlib.Core.Logic.{_↔_}
 use mathlib.Core.List.{List, [], _∷_, _++_}
-use mathlib.Core.Bool.{Bool, true, false, cond}
+use mathlib.Core.Bool.{Bool, true, false, cond, not, _&&_, _||_}
 use native.Mathlib.Omega.{arith}
 use Rattle.refusal.specs.Numbers.{refusal}
 use Rattle.refusal.specs.Rules.{Rule, firstBroken, rulesOfEach}
 use Rattle.refusal.specs.declared.Refusal.{Refusal}
 use Rattle.refusal.specs.declared.Verdict.the-variants.{Refused}
 use Rattle.grammar.specs.Rules.{Every, none, also}
-use Rattle.grammar.proofs.Holding.{AllHold}
+use Rattle.grammar.proofs.Holding.{false-never, AllHold}
 
 -- Rule by rule: of this one's refusal, where it does not hold, and of those behind it, where it does.
 pub data WhereBroken (P : Refusal → Type 0) : List Rule → Type 0 where
@@ -38,3 +39,23 @@ module _ {P : Refusal → Type 0} where
   pub broken-each : (rulesAt : ℕ → List Rule) {places : List ℕ} → Every (λ at. WhereBroken P (rulesAt at)) places → WhereBroken P (rulesOfEach rulesAt places)
   broken-each rulesAt none = no-rule
   broken-each rulesAt (also each more) = broken-append each (λ hold. broken-each rulesAt more)
+
+-- What a broken test says: what it would take to hold is not so; and which of two tests is broken.
+pub never : {test : Bool} {P : Type 0} → (test ≡ true) ↔ P → test ≡ false → P → ⊥
+never says broken p = false-never (sym broken ∙ says .1 p)
+
+pub not-broken : (a : Bool) → not a ≡ false → a ≡ true
+not-broken true e = refl
+not-broken false e = sym e
+
+pub both-broken : {A : Type 0} (a b : Bool) → (a ≡ false → A) → (a ≡ true → b ≡ false → A) → a && b ≡ false → A
+both-broken true b f g e = g refl e
+both-broken false b f g e = f refl
+
+pub neither-broken : (a b : Bool) → a || b ≡ false → (a ≡ false) × (b ≡ false)
+neither-broken true b e = false-never (sym e)
+neither-broken false b e = (refl, e)
+
+pub unless-broken : (a b : Bool) → not a || b ≡ false → (a ≡ true) × (b ≡ false)
+unless-broken true b e = (refl, e)
+unless-broken false b e = false-never (sym e)

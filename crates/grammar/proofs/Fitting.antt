@@ -57,28 +57,20 @@ module _ {m : List ℕ} {at : ℕ} {chunk : List ℕ} (part : PartAt m at chunk)
     λ h. letters-say m at .1 (λ i l. rw (byteAt-at part i (omega arith)) (h i l)),
   )
 
-  -- M9: the numbers of INFO.
-  pub info-say : length chunk ≡ 18 → AllHold (infoRules m (at + 8)) ↔ InfoRules chunk
-  info-say long = (forth, back)
+-- M9: the numbers of INFO.
+module _ {m : List ℕ} {at : ℕ} {chunk : List ℕ} (part : PartAt m at chunk) (long : length chunk ≡ 18) where
+  pub info-number : (k : ℕ) → k < 9 → number16 m (at + 8 + k) ≡ number16 chunk (8 + k)
+  info-number k h = rw add-assoc (number16-at part (8 + k) (omega arith))
+
+  pub info-say : AllHold (infoRules m (at + 8)) ↔ InfoRules chunk
+  info-say = (forth, back)
     where
       at8 : number16 m (at + 8) ≡ number16 chunk 8
       at8 = number16-at part 8 (omega arith)
 
-      at10 : number16 m (at + 8 + 2) ≡ number16 chunk 10
-      at10 = simp add-assoc (number16-at part 10 (omega arith))
-
-      at12 : number16 m (at + 8 + 4) ≡ number16 chunk 12
-      at12 = simp add-assoc (number16-at part 12 (omega arith))
-
-      at14 : number16 m (at + 8 + 6) ≡ number16 chunk 14
-      at14 = simp add-assoc (number16-at part 14 (omega arith))
-
-      at16 : number16 m (at + 8 + 8) ≡ number16 chunk 16
-      at16 = simp add-assoc (number16-at part 16 (omega arith))
-
       forth : AllHold (infoRules m (at + 8)) → InfoRules chunk
       forth h =
-          let says = simp (at8, at10, at12, at14, at16, plain) at h in
+          let says = simp (at8, info-number 2 (omega arith), info-number 4 (omega arith), info-number 6 (omega arith), info-number 8 (omega arith), plain) at h in
           record {
             size = long;
             instruments = says .0;
@@ -90,7 +82,7 @@ module _ {m : List ℕ} {at : ℕ} {chunk : List ℕ} (part : PartAt m at chunk)
 
       back : InfoRules chunk → AllHold (infoRules m (at + 8))
       back r =
-          simp (at8, at10, at12, at14, at16, plain)
+          simp (at8, info-number 2 (omega arith), info-number 4 (omega arith), info-number 6 (omega arith), info-number 8 (omega arith), plain)
           (r .instruments, (r .samples, (r .songs, (r .patterns, (r .tracks .0, (r .tracks .1, r .tracks .2))))))
 
 -- M6, M7: what the tests on the chunks before say.
@@ -135,7 +127,7 @@ module _ (start : ℕ) {before : List (List ℕ)} (every : Every ChunkBytes befo
         once = once-says start every c .0 (rw (identifier-is part size) at (says .1 .1 .1 .0));
         behindInfo = behind-says start every c .0 (rw (identifier-is part size) at (says .1 .1 .1 .1 .0));
         name = lengths .0;
-        info = λ e. info-say part size (lengths .1 e) .0 (info-if-named part c .0 (says .1 .1 .1 .1 .1 .1) e);
+        info = λ e. info-say part (lengths .1 e) .0 (info-if-named part c .0 (says .1 .1 .1 .1 .1 .1) e);
       }
 
   pub fits-rules : ChunkFits before chunk → AllHold (chunkRules m (recordsFrom start before) at)
@@ -150,4 +142,4 @@ module _ (start : ℕ) {before : List (List ℕ)} (every : Every ChunkBytes befo
       (also (rw (← identifier-is part (c .size)) at (once-says start every c .1 (fits .once)))
       (also (rw (← identifier-is part (c .size)) at (behind-says start every c .1 (fits .behindInfo)))
       (also (lengths-say part c .1 (fits .name, λ e. fits .info e .size))
-      (info-if-named part c .1 (λ e. info-say part (c .size) (fits .info e .size) .1 (fits .info e))))))))
+      (info-if-named part c .1 (λ e. info-say part (fits .info e .size) .1 (fits .info e))))))))

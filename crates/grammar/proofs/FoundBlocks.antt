@@ -3,11 +3,11 @@
 -- ends where the data do.
 use Prim.Native.Nat.{ℕ, zero, suc, _+_, _-_, _≤_, _<_}
 use mathlib.Core.Path.{_≡_, refl, sym, ap, _∙_}
-use mathlib.Core.List.{List, [], _∷_}
+use mathlib.Core.List.{List}
 use mathlib.Core.Bool.{Bool, true, false, cond}
 use native.Mathlib.Omega.{arith}
 use lib.Dec.{ltb}
-use borrow.Author.Tests.{eq-eqb, le-leb, lt-ltb, ltb-true, ltb-false}
+use borrow.Author.Tests.{le-leb, lt-ltb, ltb-true, ltb-false}
 use Rattle.refusal.specs.Numbers.{refusal}
 use Rattle.refusal.specs.Rules.{firstBroken}
 use Rattle.refusal.specs.declared.Cause.the-variants.{NotThere}
@@ -15,23 +15,25 @@ use Rattle.refusal.specs.declared.Refusal.{Refusal}
 use Rattle.refusal.specs.declared.Verdict.{Verdict}
 use Rattle.refusal.specs.declared.Verdict.the-variants.{Accepted, Refused as VerdictRefused}
 use Rattle.layout.specs.Outlines.{outlineIf, outline}
+use Rattle.layout.specs.declared.Place.{Place}
 use Rattle.layout.specs.declared.Layout.{Layout}
 use Rattle.layout.specs.declared.Outline.{Outline}
 use Rattle.layout.specs.declared.Outline.the-variants.{Found as Opened, Refused as OpeningRefused}
-use Rattle.blocks.specs.Sizes.{sizeOf, placeAfter, firstBlock, blockAt}
+use Rattle.blocks.specs.Sizes.{sizeOf, placeAfter, firstBlock, blockAt, envelopeCount}
 use Rattle.blocks.specs.Filling.{dataEnd}
+use Rattle.blocks.specs.declared.Kind.{Kind}
+use Rattle.blocks.specs.declared.Kind.the-variants.{Song as SongKind, Instrument as InstrumentKind, Pattern as PatternKind, Sample as SampleKind, Envelope as EnvelopeKind}
 use Rattle.module.specs.Verdicts.{contentRules, contentIf, opened, verdictOf, moduleVerdict}
 use Rattle.queries.specs.Finding.{kindOf, chunkOf, countOf, firstOf, there, blockOf, foundIn, foundIf, found}
 use Rattle.queries.specs.declared.Thing.{Thing}
 use Rattle.queries.specs.declared.Thing.the-variants.{Song, Instrument, Pattern, Sample, VolumeEnvelope, PanningEnvelope}
 use Rattle.queries.specs.declared.Block.{Block}
 use Rattle.queries.specs.declared.Found.the-variants.{At, Refused}
-use Rattle.grammar.specs.Places.{oneOf}
 use Rattle.grammar.specs.Queries.{identifierOf, InChunk}
 use Rattle.grammar.proofs.Holding.{and-says, leb-says, ltb-says, accepted-hold}
-use Rattle.grammar.proofs.ChunkPlaces.{WholeAt, header-of, PlacesWhole, outline-places}
-use Rattle.grammar.proofs.ContentPlaces.{BlockIn, block-in, count-there}
-use Rattle.grammar.proofs.ContentRules.{BlocksHold, ContentHolds, content-hold}
+use Rattle.grammar.proofs.Cutting.{after-least}
+use Rattle.grammar.proofs.ContentRules.{BlocksHold, thing-fills, ContentHolds, content-hold}
+use Rattle.grammar.proofs.WholeChunks.{WholeAt, PlacesWhole, outline-places}
 
 -- A module that is accepted opens, and one that is refused does not.
 pub accepted-opens : (m : List ℕ) → moduleVerdict m ≡ Accepted → (l : Layout) × (opened m ≡ Opened l)
@@ -99,7 +101,14 @@ pub counted-found : (m : List ℕ) (l : Layout) (thing : Thing) (number : ℕ) �
 counted-found m l thing number o first counted =
     ap (foundIf m thing number) o ∙ simp (le-leb (firstOf thing) number first, lt-ltb (number - firstOf thing) (countOf m l thing) counted)
 
--- The chunk of a thing.
+-- The chunk of a thing; of envelopes, where there is one.
+count-there : (m : List ℕ) (place : Place) (i : ℕ) → i < envelopeCount m place → place .present ≡ true
+count-there m place i h = go (place .present) refl
+  where
+    go : (there : Bool) → place .present ≡ there → place .present ≡ true
+    go true e = e
+    go false e = absurd (omega (arith, rw e at h))
+
 module _ {m : List ℕ} {l : Layout} where
   pub thing-whole : PlacesWhole m l → (thing : Thing) (i : ℕ) → i < countOf m l thing → WholeAt m (identifierOf thing) (chunkOf l thing)
   thing-whole c Song i h = c .song
@@ -109,13 +118,29 @@ module _ {m : List ℕ} {l : Layout} where
   thing-whole c VolumeEnvelope i h = c .venv (count-there m (l .places .venv) i h)
   thing-whole c PanningEnvelope i h = c .penv (count-there m (l .places .penv) i h)
 
-  pub thing-fills : BlocksHold m l → (thing : Thing) (i : ℕ) → i < countOf m l thing → blockAt m (kindOf thing) (chunkOf l thing) (countOf m l thing) ≡ dataEnd (chunkOf l thing)
-  thing-fills f Song i h = f .songs
-  thing-fills f Instrument i h = f .instruments
-  thing-fills f Pattern i h = f .patterns
-  thing-fills f Sample i h = f .samples
-  thing-fills f VolumeEnvelope i h = f .volumeEnvelopes (count-there m (l .places .venv) i h)
-  thing-fills f PanningEnvelope i h = f .panningEnvelopes (count-there m (l .places .penv) i h)
+-- The next block begins at most where the blocks end.
+after-next : (size : ℕ → ℕ) (n i start : ℕ) → i < n → placeAfter size i start + size (placeAfter size i start) ≤ placeAfter size n start
+after-next size zero i start h = absurd (omega arith)
+after-next size (suc n) zero start h = after-least size n (start + size start)
+after-next size (suc n) (suc i) start h = after-next size n i (start + size start) (omega arith)
+
+first-behind : (kind : Kind) (place : Place) → place .at + 8 ≤ firstBlock kind place
+first-behind SongKind place = omega arith
+first-behind InstrumentKind place = omega arith
+first-behind PatternKind place = omega arith
+first-behind SampleKind place = omega arith
+first-behind EnvelopeKind place = omega arith
+
+-- A block of a kind lies at a place in a chunk's data.
+record BlockIn (m : List ℕ) (kind : Kind) (place : Place) (at : ℕ) : Type 0 where
+  behind : place .at + 8 ≤ at
+  inside : at + sizeOf kind m at ≤ dataEnd place
+
+block-in : (m : List ℕ) (kind : Kind) (place : Place) (n i : ℕ) → blockAt m kind place n ≡ dataEnd place → i < n → BlockIn m kind place (blockAt m kind place i)
+block-in m kind place n i e h = record {
+  behind = omega (arith, first-behind kind place, after-least (sizeOf kind m) i (firstBlock kind place));
+  inside = omega (arith, after-next (sizeOf kind m) n i (firstBlock kind place) h, e);
+}
 
 -- 13.
 pub block-in-chunk : (m : List ℕ) (thing : Thing) (number : ℕ) (b : Block) → found m thing number ≡ At b → InChunk m thing (b .at)
@@ -127,13 +152,13 @@ block-in-chunk m thing number b e = in-layout (found-opened m thing number b e .
         let opens = module-opens m l o in
         let i : ℕ = number - firstOf thing in
         let w = thing-whole (opens .places) thing i (s .counted) in
-        let inside : BlockIn m (kindOf thing) (chunkOf l thing) (blockAt m (kindOf thing) (chunkOf l thing) i) = block-in m (kindOf thing) (chunkOf l thing) (countOf m l thing) i (thing-fills (opens .content .blocks) thing i (s .counted)) (s .counted) in
-        let one : oneOf (identifierOf thing) (identifierOf thing ∷ []) ≡ true = rw (eq-eqb (identifierOf thing) (identifierOf thing) refl) in
+        let inside : BlockIn m (kindOf thing) (chunkOf l thing) (blockAt m (kindOf thing) (chunkOf l thing) i) = block-in m (kindOf thing) (chunkOf l thing) (countOf m l thing) i (thing-fills m l (opens .content .blocks) thing (w .present)) (s .counted) in
         rw (s .block) (record {
           layout = l;
           opens = o;
           present = w .present;
-          header = header-of w one;
+          header = w .header;
+          named = w .named;
           size = w .size;
           behind = inside .behind;
           inside = inside .inside;
@@ -171,6 +196,9 @@ module _ (m : List ℕ) (thing : Thing) (number : ℕ) (b : Block) (e : found m 
       s : Numbered m l thing number b
       s = found-numbered m thing number b l o e
 
+      opens : Opens m l
+      opens = module-opens m l o
+
       go : (t : Bool) → ltb (number + 1 - firstOf thing) (countOf m l thing) ≡ t → b .at + sizeOf (kindOf thing) m (b .at) ≡ dataEnd (chunkOf l thing)
       go true h =
           let more : found m thing (number + 1) ≡ At (blockOf m l thing (number + 1)) = counted-found m l thing (number + 1) o (omega (arith, s .first)) (ltb-true (number + 1 - firstOf thing) (countOf m l thing) h) in
@@ -178,4 +206,4 @@ module _ (m : List ℕ) (thing : Thing) (number : ℕ) (b : Block) (e : found m 
           absurd (omega arith)
       go false h =
           let all : number + 1 - firstOf thing ≡ countOf m l thing = omega (arith, s .first, s .counted, ltb-false (number + 1 - firstOf thing) (countOf m l thing) h) in
-          sym (next-in l o) ∙ ap (blockAt m (kindOf thing) (chunkOf l thing)) all ∙ thing-fills (module-opens m l o .content .blocks) thing (number - firstOf thing) (s .counted)
+          sym (next-in l o) ∙ ap (blockAt m (kindOf thing) (chunkOf l thing)) all ∙ thing-fills m l (opens .content .blocks) thing (thing-whole (opens .places) thing (number - firstOf thing) (s .counted) .present)

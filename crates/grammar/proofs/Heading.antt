@@ -37,6 +37,10 @@ either-equal n a b = (forth (eqb n a) refl, back)
     back (inl e) = rw (eq-eqb n a e)
     back (inr e) = rw (eq-eqb n b e) (or-true (eqb n a))
 
+pub begins-number : (m : List ℕ) → take 4 m ≡ begin → number32 m 0 ≡ 0x44424D30
+unfolding number32 number16 byteAt
+begins-number m e = letters-number m begin e
+
 module _ (m header rest : List ℕ) (bytes : m ≡ header ++ rest) (size : length header ≡ 8) where
   pub header-byte : (i : ℕ) → i < 8 → byteAt m i ≡ byteAt header i
   header-byte i h = rw bytes (byteAt-front header rest i (omega arith))
@@ -52,10 +56,6 @@ module _ (m header rest : List ℕ) (bytes : m ≡ header ++ rest) (size : lengt
   number-begins below e =
       number-letters header begin (omega arith) (λ i h. rw (header-byte i (omega arith)) at (below i)) (four-bytes begin refl) (sym header-number ∙ e)
 
-  begins-number : take 4 header ≡ begin → number32 m 0 ≡ 0x44424D30
-  unfolding number32 number16 byteAt
-  begins-number e = header-number ∙ letters-number header begin e
-
   pub rules-header : Bytes m → AllHold (headerRules m) → HeaderFits m header
   rules-header below hold =
       let says = simp (plain, either-equal, header-byte 4 (omega arith), header-byte 5 (omega arith)) at hold in
@@ -64,4 +64,4 @@ module _ (m header rest : List ℕ) (bytes : m ≡ header ++ rest) (size : lengt
   pub header-rules : HeaderFits m header → AllHold (headerRules m)
   header-rules fits =
       simp (plain, either-equal, header-byte 4 (omega arith), header-byte 5 (omega arith))
-      (fits .limit, ((module-long, begins-number (fits .begins)), (fits .version, fits .revision)))
+      (fits .limit, ((module-long, header-number ∙ begins-number header (fits .begins)), (fits .version, fits .revision)))

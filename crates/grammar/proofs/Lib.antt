@@ -16,6 +16,7 @@ pub mod Heading
 pub mod Turns
 pub mod ChunkHalf
 pub mod Outlining
+pub mod WholeChunks
 pub mod FirstBroken
 pub mod ChunkPlaces
 pub mod ContentPlaces

@@ -28,10 +28,10 @@ pub record AllRead (m : List ℕ) (all : List (List ℕ)) : Type 0 where
   pub bytes : m ≡ take 8 m ++ joined all
   pub turn : InTurn [] all
 
-module _ (m : List ℕ) (P : Outline → Type 0) (header-broken : (r : Refusal) → firstBroken (headerRules m) ≡ VerdictRefused r → P (Refused r)) (chunk-broken : (before : List (List ℕ)) (at : ℕ) → Reached m (take 8 m) before at → at < length m → (r : Refusal) → firstBroken (chunkRules m (recordsFrom 8 before) at) ≡ VerdictRefused r → P (Refused r)) (missing : P (Refused (refusal Missing (length m)))) (found : (all : List (List ℕ)) → AllRead m all → mandatoryThere (recordsFrom 8 all) ≡ true → P (Found (layoutWith m (placesOf (recordsFrom 8 all))))) where
+module _ (m : List ℕ) (P : Outline → Type 0) (header-broken : (r : Refusal) → firstBroken (headerRules m) ≡ VerdictRefused r → P (Refused r)) (chunk-broken : (before : List (List ℕ)) (at : ℕ) → Reached m (take 8 m) before at → at < length m → (r : Refusal) → firstBroken (chunkRules m (recordsFrom 8 before) at) ≡ VerdictRefused r → P (Refused r)) (missing : (all : List (List ℕ)) → AllRead m all → mandatoryThere (recordsFrom 8 all) ≡ false → P (Refused (refusal Missing (length m)))) (found : (all : List (List ℕ)) → AllRead m all → mandatoryThere (recordsFrom 8 all) ≡ true → P (Found (layoutWith m (placesOf (recordsFrom 8 all))))) where
   all-read : (all : List (List ℕ)) → AllRead m all → (b : Bool) → mandatoryThere (recordsFrom 8 all) ≡ b → P (cond b (Found (layoutWith m (placesOf (recordsFrom 8 all)))) (Refused (refusal Missing (length m))))
   all-read all read true h = found all read h
-  all-read all read false h = missing
+  all-read all read false h = missing all read h
 
   by-header : (v : Verdict) → firstBroken (headerRules m) ≡ v → P (outlineIf v (outlineOf m (chunks m)))
   by-header (VerdictRefused r) h = header-broken r h

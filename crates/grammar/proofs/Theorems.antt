@@ -84,7 +84,7 @@ pub accepted-exactly : (m : List ℕ) → Bytes m → (moduleVerdict m ≡ Accep
 accepted-exactly = Acceptance.accepted-exactly
 
 -- 10.
-pub refusal-place : (m : List ℕ) (r : Refusal) → moduleVerdict m ≡ Refused r → PlaceOf m r × (r .place ≤ length m)
+pub refusal-place : (m : List ℕ) → Bytes m → (r : Refusal) → moduleVerdict m ≡ Refused r → PlaceOf m r × (r .place ≤ length m)
 refusal-place = RefusalPlaces.refusal-place
 
 -- 12.

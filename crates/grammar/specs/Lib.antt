@@ -1,3 +1,4 @@
 pub mod Rules
+pub mod Faults
 pub mod Places
 pub mod Queries

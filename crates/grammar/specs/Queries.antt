@@ -4,7 +4,7 @@
 use Prim.Native.Nat.{ℕ, _+_, _-_, _*_, _≤_, _<_}
 use mathlib.Core.Path.{_≡_}
 use mathlib.Core.Logic.{_⊎_}
-use mathlib.Core.List.{List, [], _∷_}
+use mathlib.Core.List.{List, []}
 use mathlib.Core.Bool.{true}
 use lib.ListN.{length, getD}
 use lib.IntN.{ℤ, pos}
@@ -26,7 +26,7 @@ use Rattle.queries.specs.declared.Thing.the-variants.{Song, Instrument, Pattern
 use Rattle.envelopes.specs.Shown.{envelopeAnswer}
 use Rattle.envelopes.specs.declared.EnvelopeKind.{EnvelopeKind}
 use Rattle.samples.specs.Shown.{frameBytes, frameCount, framesPart}
-use Rattle.grammar.specs.Places.{HeaderOf}
+use Rattle.grammar.specs.Places.{HeaderAt}
 
 -- The identifier of the chunk that holds a thing.
 abbrev pub identifierOf : Thing → ℕ
@@ -43,7 +43,8 @@ pub record InChunk (m : List ℕ) (thing : Thing) (at : ℕ) : Type 0 where
   pub layout : Layout
   pub opens : opened m ≡ Opened layout
   pub present : chunkOf layout thing .present ≡ true
-  pub header : HeaderOf m (identifierOf thing ∷ []) (chunkOf layout thing .at)
+  pub header : HeaderAt m (chunkOf layout thing .at)
+  pub named : number32 m (chunkOf layout thing .at) ≡ identifierOf thing
   pub size : number32 m (chunkOf layout thing .at + 4) ≡ chunkOf layout thing .length
   pub behind : chunkOf layout thing .at + 8 ≤ at
   pub inside : at + sizeOf (kindOf thing) m at ≤ dataEnd (chunkOf layout thing)

@@ -1,0 +1,135 @@
+-- FORMAT.md, "Refusals" and F17: what is wrong where a module is refused, with no reader in it: each is the opposite of a rule of
+-- specs/Rules.antt. Chunks and blocks are lists of bytes, and a number in one is read at its offset there. Where a field is wrong, its
+-- offset is the last number of the statement. A thing is what the blocks of a chunk are: a song, an instrument, a pattern, a sample, an
+-- envelope of volume or of panning.
+use Prim.Native.Nat.{ℕ, _+_, _-_, _*_, _/_, _%_, _≤_, _<_}
+use mathlib.Core.Path.{_≡_}
+use mathlib.Core.Logic.{_⊎_}
+use mathlib.Core.List.{List, [], _∷_}
+use lib.ListN.{length, getD, take}
+use Rattle.packed_rows.specs.Entries.{Entry}
+use Rattle.packed_rows.specs.Theorems.{StreamOf}
+use Rattle.numbers.specs.Numbers.{byteAt, number16, number32, partOf}
+use Rattle.queries.specs.declared.Thing.{Thing}
+use Rattle.queries.specs.declared.Thing.the-variants.{Song, Instrument, Pattern, Sample, VolumeEnvelope, PanningEnvelope}
+use Rattle.grammar.specs.Rules.{Every, nameLetters, infoLetters, songLetters, instLetters, pattLetters, smplLetters, venvLetters, penvLetters, Filled, PanningFits, Looped, SampleRules, VolumeFits, PanningValueFits}
+
+-- B1: the letters of the chunk whose blocks are such things.
+abbrev pub lettersOf : Thing → List ℕ
+lettersOf Song = songLetters
+lettersOf Instrument = instLetters
+lettersOf Pattern = pattLetters
+lettersOf Sample = smplLetters
+lettersOf VolumeEnvelope = venvLetters
+lettersOf PanningEnvelope = penvLetters
+
+-- B1: the bytes before its first block: identifier and length, and in VENV and PENV the count.
+abbrev pub frontOf : Thing → ℕ
+frontOf Song = 8
+frontOf Instrument = 8
+frontOf Pattern = 8
+frontOf Sample = 8
+frontOf VolumeEnvelope = 10
+frontOf PanningEnvelope = 10
+
+-- B1: how many blocks it has, by INFO or by its own count.
+abbrev pub countIn : Thing → List ℕ → List ℕ → ℕ
+countIn Song info chunk = number16 info 12
+countIn Instrument info chunk = number16 info 8
+countIn Pattern info chunk = number16 info 14
+countIn Sample info chunk = number16 info 10
+countIn VolumeEnvelope info chunk = number16 chunk 8
+countIn PanningEnvelope info chunk = number16 chunk 8
+
+-- B2 to B6: a block is as long as its own bytes say. To the size of a sample belong its flags, which are 1, 2 or 4.
+abbrev pub SizeFits : Thing → List ℕ → Type 0
+SizeFits Song block = length block ≡ 46 + 2 * number16 block 44
+SizeFits Instrument block = length block ≡ 50
+SizeFits Pattern block = length block ≡ 6 + number32 block 2 + number32 block 2 % 2
+SizeFits Sample block = SampleRules block
+SizeFits VolumeEnvelope block = length block ≡ 136
+SizeFits PanningEnvelope block = length block ≡ 136
+
+-- B1: the chunk is its front and these blocks, as many as it has, each as long as its bytes say, and nothing else.
+pub record BlocksOf (thing : Thing) (info chunk : List ℕ) (blocks : List (List ℕ)) : Type 0 where
+  pub filled : Filled (frontOf thing) chunk (countIn thing info chunk) blocks
+  pub sizes : Every (SizeFits thing) blocks
+
+-- 2, M3: under 8 bytes, or they do not begin with D B M 0.
+pub data HeaderFault (m : List ℕ) : Type 0 where
+  short : length m < 8 → HeaderFault m
+  begins : (take 4 m ≡ 68 ∷ 66 ∷ 77 ∷ 48 ∷ [] → ⊥) → HeaderFault m
+
+-- 3, M4: the version is neither 2 nor 3, or a digit of the revision is over 9.
+pub data VersionFault (m : List ℕ) : Type 0 where
+  version : (byteAt m 4 ≡ 2 → ⊥) → (byteAt m 4 ≡ 3 → ⊥) → VersionFault m
+  firstDigit : 9 < byteAt m 5 / 16 → VersionFault m
+  secondDigit : 9 < byteAt m 5 % 16 → VersionFault m
+
+-- 4, M5: from a chunk's header on there are fewer bytes than a header has, or than header and data have.
+pub data CutFault (after : List ℕ) : Type 0 where
+  header : length after < 8 → CutFault after
+  contents : length after < 8 + number32 after 4 → CutFault after
+
+-- 5, M5: there is a header, and it does not begin with four letters A to Z.
+pub record IdentifierFault (after : List ℕ) : Type 0 where
+  pub size : 8 ≤ length after
+  pub letters : ((i : ℕ) → i < 4 → (65 ≤ byteAt after i) × (byteAt after i ≤ 90)) → ⊥
+
+-- 9, M8 and M9: NAME has not 44 bytes of data, or INFO not 10.
+pub data LengthFault (chunk : List ℕ) : List ℕ → Type 0 where
+  name : (length chunk ≡ 52 → ⊥) → LengthFault chunk nameLetters
+  info : (length chunk ≡ 18 → ⊥) → LengthFault chunk infoLetters
+
+-- 10, M9: the number of INFO that is out of range.
+pub data InfoFault (info : List ℕ) : ℕ → Type 0 where
+  instruments : 255 < number16 info 8 → InfoFault info 8
+  samples : 255 < number16 info 10 → InfoFault info 10
+  songs : 32767 < number16 info 12 → InfoFault info 12
+  patterns : 1024 < number16 info 14 → InfoFault info 14
+  tracks : ((4 ≤ number16 info 16) × (number16 info 16 ≤ 254) × (number16 info 16 % 2 ≡ 0) → ⊥) → InfoFault info 16
+
+-- 11: the chunk is not made of such blocks.
+pub record BlocksFault (thing : Thing) (info chunk : List ℕ) : Type 0 where
+  pub none : (blocks : List (List ℕ)) → BlocksOf thing info chunk blocks → ⊥
+
+-- 12, V1 to V3: what a block refers to does not exist: the pattern of an entry, which are counted from 0; the sample of an instrument,
+-- from 1, where 0 is none; the instrument of an envelope, from 1.
+pub data ReferenceFault (info block : List ℕ) : Thing → ℕ → Type 0 where
+  entry : (i : ℕ) → i < number16 block 44 → number16 info 14 ≤ number16 block (46 + 2 * i) → ReferenceFault info block Song (46 + 2 * i)
+  sample : number16 info 10 < number16 block 30 → ReferenceFault info block Instrument 30
+  ofVolume : (number16 block 0 ≡ 0) ⊎ (number16 info 8 < number16 block 0) → ReferenceFault info block VolumeEnvelope 0
+  ofPanning : (number16 block 0 ≡ 0) ⊎ (number16 info 8 < number16 block 0) → ReferenceFault info block PanningEnvelope 0
+
+-- 13, V2: the field of an instrument that is out of range.
+pub data InstrumentFault (block : List ℕ) : ℕ → Type 0 where
+  volume : 64 < number16 block 32 → InstrumentFault block 32
+  panning : (PanningFits (number16 block 46) → ⊥) → InstrumentFault block 46
+  flags : 4 ≤ number16 block 48 → InstrumentFault block 48
+
+-- 13, V3 to V5: the field of an envelope that is out of range: flags, sections, S1, L1, L2, S2, or the value of one of the points in use,
+-- of which there are at most 32.
+pub data EnvelopeFault (ValueFits : ℕ → Type 0) (block : List ℕ) : ℕ → Type 0 where
+  flags : 16 ≤ byteAt block 2 → EnvelopeFault ValueFits block 2
+  sections : 31 < byteAt block 3 → EnvelopeFault ValueFits block 3
+  firstSustain : byteAt block 2 / 2 % 2 ≡ 1 → byteAt block 3 < byteAt block 4 → EnvelopeFault ValueFits block 4
+  loopFirst : byteAt block 2 / 2 / 2 % 2 ≡ 1 → byteAt block 3 < byteAt block 5 → EnvelopeFault ValueFits block 5
+  loopLast : byteAt block 2 / 2 / 2 % 2 ≡ 1 → (byteAt block 3 < byteAt block 6) ⊎ (byteAt block 6 < byteAt block 5) → EnvelopeFault ValueFits block 6
+  secondSustain : byteAt block 2 / 2 / 2 / 2 % 2 ≡ 1 → byteAt block 3 < byteAt block 7 → EnvelopeFault ValueFits block 7
+  value : (i : ℕ) → i ≤ byteAt block 3 → i < 32 → (ValueFits (number16 block (10 + 4 * i)) → ⊥) → EnvelopeFault ValueFits block (10 + 4 * i)
+
+-- 13: the same of all blocks with such fields. The values of panning envelopes go by the version.
+pub data FieldFault (version : ℕ) (block : List ℕ) : Thing → ℕ → Type 0 where
+  instrument : {offset : ℕ} → InstrumentFault block offset → FieldFault version block Instrument offset
+  ofVolume : {offset : ℕ} → EnvelopeFault VolumeFits block offset → FieldFault version block VolumeEnvelope offset
+  ofPanning : {offset : ℕ} → EnvelopeFault (PanningValueFits version) block offset → FieldFault version block PanningEnvelope offset
+
+-- 14, V6: an instrument is looped, and it has no sample, or its loop ends past the frames of its sample, which is one of these.
+pub record LoopFault (samples : List (List ℕ)) (block : List ℕ) : Type 0 where
+  pub looped : Looped block
+  pub exists : number16 block 30 ≤ length samples
+  pub outside : (number16 block 30 ≡ 0) ⊎ (number32 (getD samples (number16 block 30 - 1) []) 4 < number32 block 38 + number32 block 42)
+
+-- 15, V7: the packed bytes of a pattern are no stream of its rows and these tracks.
+pub record StreamFault (tracks : ℕ) (block : List ℕ) : Type 0 where
+  pub none : (entries : List (List Entry)) → StreamOf (number16 block 0) tracks (partOf block 6 (number32 block 2)) entries → ⊥
