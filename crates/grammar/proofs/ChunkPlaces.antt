@@ -3,7 +3,7 @@ use Prim.Native.Nat.{ℕ, _+_, _/_, _%_, _≤_, _<_}
 use mathlib.Core.Path.{_≡_, refl, sym, ap, subst, _∙_}
 use mathlib.Core.Logic.{_↔_, _⊎_, inl, inr}
 use mathlib.Core.List.{List, [], _++_, append-nil}
-use mathlib.Core.Bool.{true, false, not, _&&_, _||_}
+use mathlib.Core.Bool.{Bool, true, false, not, _&&_, _||_}
 use native.Mathlib.Omega.{arith}
 use lib.ListN.{length, take, length-append}
 use lib.Dec.{eqb, leb, lit<}
@@ -19,10 +19,10 @@ use Rattle.layout.specs.Outlines.{mandatoryThere, outline}
 use Rattle.layout.specs.declared.Outline.{Outline}
 use Rattle.layout.specs.declared.Outline.the-variants.{Found, Refused}
 use Rattle.grammar.specs.Rules.{Every, ChunkBytes, infoLetters, Covered, NeedsInfo}
-use Rattle.grammar.specs.Faults.{HeaderFault, VersionFault, CutFault, IdentifierFault, LengthFault, InfoFault}
-use Rattle.grammar.specs.Places.{ChunkAt, PlaceOf, tooLong, notAModule, version, chunkCut, identifier, repeated, beforeInfo, missing, fixedLength, infoRange}
+use Rattle.grammar.specs.Faults.{HeaderFault, VersionFault, CutFault, IdentifierFault, LengthFault, RangeFault}
+use Rattle.grammar.specs.Places.{ChunkAt, ChunksOf, PlaceOf, tooLong, notAModule, version, chunkCut, identifier, repeated, beforeInfo, missing, fixedLength, infoRange}
 use Rattle.grammar.proofs.Locating.{PartAt, byteAt-at, number16-at, number32-at, part-inside}
-use Rattle.grammar.proofs.Holding.{leb-says, eqb-says, and-says, unless-says, plain}
+use Rattle.grammar.proofs.Holding.{eqb-says, and-says, unless-says, plain}
 use Rattle.grammar.proofs.FirstBroken.{WhereBroken, no-rule, this-or, first-broken, broken-if, never, not-broken, both-broken, neither-broken, unless-broken}
 use Rattle.grammar.proofs.Identifiers.{identifierOf, chunk-named, needing, needing-letters, covered-letters}
 use Rattle.grammar.proofs.Recorded.{recordsFrom, occurs-says}
@@ -47,7 +47,9 @@ module _ (m : List ℕ) where
   version-fault : (first second : ℕ) → byteAt m 4 ≡ first → byteAt m 5 ≡ second → versionFits first second ≡ false → VersionFault m
   version-fault first second a b =
       both-broken (eqb first 2 || eqb first 3) (leb (second / 16) 9 && leb (second % 16) 9)
-      (λ e. let (two, three) = neither-broken (eqb first 2) (eqb first 3) e in VersionFault.version (λ h. eqb-false first 2 two (sym a ∙ h)) (λ h. eqb-false first 3 three (sym a ∙ h)))
+      (λ e.
+      let (two, three) = neither-broken (eqb first 2) (eqb first 3) e in
+      VersionFault.version (λ h. eqb-false first 2 two (sym a ∙ h)) (λ h. eqb-false first 3 three (sym a ∙ h)))
       (λ _. both-broken (leb (second / 16) 9) (leb (second % 16) 9)
       (λ e. VersionFault.firstDigit (rw b (leb-false (second / 16) 9 e)))
       (λ _ e. VersionFault.secondDigit (rw b (leb-false (second % 16) 9 e))))
@@ -90,7 +92,10 @@ module _ {m header : List ℕ} {before : List (List ℕ)} {at : ℕ} (r : Reache
     rest-eight = omega (arith, leb-true (at + 8) (length m) headed, rest-long)
 
     letters-fault : fourLetters m at ≡ false → IdentifierFault (r .rest)
-    letters-fault e = record { size = rest-eight; letters = λ h. never (letters-say m at) e (λ i l. rw (byteAt-at rest-part i (omega (arith, rest-eight))) (h i l)) }
+    letters-fault e = record {
+      size = rest-eight;
+      letters = λ h. never (letters-say m at) e (λ i l. rw (byteAt-at rest-part i (omega (arith, rest-eight))) (h i l));
+    }
 
     data-fault : leb (at + 8 + number32 m (at + 4)) (length m) ≡ false → CutFault (r .rest)
     data-fault e =
@@ -99,8 +104,8 @@ module _ {m header : List ℕ} {before : List (List ℕ)} {at : ℕ} (r : Reache
 
   -- The others are of a whole chunk.
   module _ {chunk : List ℕ} (part : PartAt m at chunk) (c : ChunkBytes chunk) where
-    abbrev chunk-at : {letters : List ℕ} → take 4 chunk ≡ letters → ChunkAt m letters chunk at
-    chunk-at named = record {
+    abbrev chunk-at : ChunkAt m at
+    chunk-at = record {
       begins = record {
         header = header;
         before = before;
@@ -111,65 +116,73 @@ module _ {m header : List ℕ} {before : List (List ℕ)} {at : ℕ} (r : Reache
         there = r .there;
         follows = less;
       };
+      chunk = chunk;
       rest = part .after;
       bytes = refl;
       whole = c;
-      named = named;
     }
 
-    abbrev named-at : {letters : List ℕ} (covers : Covered letters) → number32 m at ≡ identifierOf covers → ChunkAt m letters chunk at
-    named-at covers e = chunk-at (chunk-named c covers .0 (sym (identifier-is part (c .size)) ∙ e))
+    named : {letters : List ℕ} (covers : Covered letters) → number32 m at ≡ identifierOf covers → take 4 chunk ≡ letters
+    named covers e = chunk-named c covers .0 (sym (identifier-is part (c .size)) ∙ e)
 
     repeated-placed : not (covered (number32 m at) && occurs (number32 m at) (recordsFrom 8 before)) ≡ false → Placed m (refusal Repeated at)
     repeated-placed e =
         let both = and-says (covered (number32 m at)) (occurs (number32 m at) (recordsFrom 8 before)) .0 (not-broken _ e) in
         let (letters, covers, same) = covered-letters (number32 m at) (both .0) in
-        let other = occurs-says covers 8 (turn-bytes (r .turn)) .0 (rw same at (both .1)) in
-        (repeated (named-at covers same) covers (other .1), inside)
+        let (other, among) = occurs-says covers 8 (turn-bytes (r .turn)) .0 (rw same at (both .1)) in
+        let letter = named covers same in
+        (repeated chunk-at (record { covered = rw letter covers; other = other; among = rw letter among }), inside)
 
     before-placed : not (needsInfo (number32 m at)) || occurs INFO (recordsFrom 8 before) ≡ false → Placed m (refusal BeforeInfo at)
     before-placed e =
         let (need, lacks) = unless-broken (needsInfo (number32 m at)) (occurs INFO (recordsFrom 8 before)) e in
         let (letters, needs, same) = needing-letters (number32 m at) need in
-        (beforeInfo (named-at (needing needs) same) needs (λ info a. never (occurs-says Covered.info 8 (turn-bytes (r .turn))) lacks (info, a)), inside)
+        let no = never (occurs-says Covered.info 8 (turn-bytes (r .turn))) lacks in
+        (beforeInfo chunk-at (record { needs = rw (named (needing needs) same) needs; lacks = λ info a. no (info, a) }), inside)
 
-    length-placed : lengthFits (chunkAt m at) ≡ false → Placed m (refusal FixedLength at)
-    length-placed =
-        let size = c .size in
-        let same = data-length-is part size in
+    -- A chunk that has this identifier, and whose data are not so long.
+    other-length : (n long : ℕ) → not (eqb (number32 m at) n) || eqb (number32 m (at + 4)) long ≡ false → (number32 m at ≡ n) × (length chunk ≡ 8 + long → ⊥)
+    other-length n long e =
+        let (is, other) = unless-broken (eqb (number32 m at) n) (eqb (number32 m (at + 4)) long) e in
+        let no = eqb-false (number32 m (at + 4)) long other in
+        (eqb-true (number32 m at) n is, λ h. no (omega (arith, c .size, data-length-is part (c .size))))
+
+    length-fault : lengthFits (chunkAt m at) ≡ false → LengthFault chunk
+    length-fault =
         both-broken (not (eqb (number32 m at) NAME) || eqb (number32 m (at + 4)) 44) (not (eqb (number32 m at) INFO) || eqb (number32 m (at + 4)) 10)
-        (λ e. let (is, other) = unless-broken (eqb (number32 m at) NAME) (eqb (number32 m (at + 4)) 44) e in (fixedLength (named-at Covered.name (eqb-true (number32 m at) NAME is)) (LengthFault.name (λ long. eqb-false (number32 m (at + 4)) 44 other (omega arith))), inside))
-        (λ _ e. let (is, other) = unless-broken (eqb (number32 m at) INFO) (eqb (number32 m (at + 4)) 10) e in (fixedLength (named-at Covered.info (eqb-true (number32 m at) INFO is)) (LengthFault.info (λ long. eqb-false (number32 m (at + 4)) 10 other (omega arith))), inside))
+        (λ e. let (is, other) = other-length NAME 44 e in LengthFault.name (named Covered.name is) other)
+        (λ _ e. let (is, other) = other-length INFO 10 e in LengthFault.info (named Covered.info is) other)
 
-    module _ (info : ChunkAt m infoLetters chunk at) (long : length chunk ≡ 18) where
-      range-placed : {offset : ℕ} (place : ℕ) → place ≡ at + offset → offset < 18 → InfoFault chunk offset → Placed m (refusal InfoRange place)
+    module _ (letters : take 4 chunk ≡ infoLetters) (long : length chunk ≡ 18) where
+      range-placed : {offset : ℕ} (place : ℕ) → place ≡ at + offset → offset < 18 → RangeFault chunk offset → Placed m (refusal InfoRange place)
       range-placed {offset} place same low fault =
           let ends = part-inside part in
-          subst (λ (k : ℕ). Placed m (refusal InfoRange k)) (sym same) (infoRange info long fault, omega arith)
+          let wrong = infoRange chunk-at (record { named = letters; size = long; range = fault }) in
+          subst (λ (k : ℕ). Placed m (refusal InfoRange k)) (sym same) (wrong, omega arith)
 
+      -- The first number, and one that is so much further.
       first-placed : leb (number16 m (at + 8)) 255 ≡ false → Placed m (refusal InfoRange (at + 8))
-      first-placed e = range-placed (at + 8) refl (lit< tt) (InfoFault.instruments (leb-false (number16 chunk 8) 255 (rw (number16-at part 8 (omega arith)) at e)))
+      first-placed e =
+          let over = leb-false (number16 chunk 8) 255 (rw (number16-at part 8 (omega arith)) at e) in
+          range-placed (at + 8) refl (lit< tt) (RangeFault.instruments over)
 
-      over-placed : (k limit : ℕ) → k < 9 → (limit < number16 chunk (8 + k) → InfoFault chunk (8 + k)) → leb (number16 m (at + 8 + k)) limit ≡ false → Placed m (refusal InfoRange (at + 8 + k))
-      over-placed k limit low fault e = range-placed (at + 8 + k) (omega arith) (omega arith) (fault (leb-false (number16 chunk (8 + k)) limit (rw (info-number part long k low) at e)))
-
-      tracks-placed : tracksFit (number16 m (at + 8 + 8)) ≡ false → Placed m (refusal InfoRange (at + 8 + 8))
-      tracks-placed e = range-placed (at + 8 + 8) (omega arith) (lit< tt) (InfoFault.tracks (never (tracks-say (number16 chunk 16)) (rw (info-number part long 8 (lit< tt)) at e)))
+      number-placed : (k : ℕ) → k < 9 → (test : ℕ → Bool) → (test (number16 chunk (8 + k)) ≡ false → RangeFault chunk (8 + k)) → test (number16 m (at + 8 + k)) ≡ false → Placed m (refusal InfoRange (at + 8 + k))
+      number-placed k low test fault e = range-placed (at + 8 + k) (omega arith) (omega arith) (fault (rw (info-number part long k low) at e))
 
       info-placed : WhereBroken (Placed m) (infoRules m (at + 8))
       info-placed =
           this-or first-placed λ _.
-          this-or (over-placed 2 255 (lit< tt) InfoFault.samples) λ _.
-          this-or (over-placed 4 32767 (lit< tt) InfoFault.songs) λ _.
-          this-or (over-placed 6 1024 (lit< tt) InfoFault.patterns) λ _.
-          this-or tracks-placed λ _.
+          this-or (number-placed 2 (lit< tt) (λ n. leb n 255) (λ e. RangeFault.samples (leb-false (number16 chunk 10) 255 e))) λ _.
+          this-or (number-placed 4 (lit< tt) (λ n. leb n 32767) (λ e. RangeFault.songs (leb-false (number16 chunk 12) 32767 e))) λ _.
+          this-or (number-placed 6 (lit< tt) (λ n. leb n 1024) (λ e. RangeFault.patterns (leb-false (number16 chunk 14) 1024 e))) λ _.
+          this-or (number-placed 8 (lit< tt) tracksFit (λ e. RangeFault.tracks (never (tracks-say (number16 chunk 16)) e))) λ _.
           no-rule
 
-    chunk-rules-placed : lengthFits (chunkAt m at) ≡ true → eqb (number32 m at) INFO ≡ true → WhereBroken (Placed m) (infoRules m (at + 8))
-    chunk-rules-placed lengths test =
+    info-if-placed : lengthFits (chunkAt m at) ≡ true → eqb (number32 m at) INFO ≡ true → WhereBroken (Placed m) (infoRules m (at + 8))
+    info-if-placed lengths test =
         let is = eqb-true (number32 m at) INFO test in
         let ten : number32 m (at + 4) ≡ 10 = (simp (and-says, unless-says, eqb-says) at lengths) .1 is in
-        info-placed (named-at Covered.info is) (omega (arith, c .size, data-length-is part (c .size)))
+        info-placed (named Covered.info is) (omega (arith, c .size, data-length-is part (c .size)))
 
   chunk-placed : WhereBroken (Placed m) (chunkRules m (recordsFrom 8 before) at)
   chunk-placed =
@@ -181,8 +194,8 @@ module _ {m header : List ℕ} {before : List (List ℕ)} {at : ℕ} (r : Reache
       let c : ChunkBytes chunk = record { size = size; letters = chunk-letters-say part size .0 lettered } in
       this-or (repeated-placed part c) λ _.
       this-or (before-placed part c) λ _.
-      this-or (length-placed part c) λ lengths.
-      broken-if (eqb (number32 m at) INFO) (chunk-rules-placed part c lengths)
+      this-or (λ b. (fixedLength (chunk-at part c) (length-fault part c b), inside)) λ lengths.
+      broken-if (eqb (number32 m at) INFO) (info-if-placed part c lengths)
 
 -- 8.
 missing-placed : (m : List ℕ) (all : List (List ℕ)) → AllRead m all → mandatoryThere (recordsFrom 8 all) ≡ false → Placed m (refusal Missing (length m))
@@ -199,20 +212,13 @@ missing-placed m all read =
     whole : Every ChunkBytes all
     whole = turn-bytes (read .turn)
 
-    lacks : {letters : List ℕ} (covers : Covered letters) → (letters ≡ infoLetters) ⊎ NeedsInfo letters → occurs (identifierOf covers) (recordsFrom 8 all) ≡ false → Placed m (refusal Missing (length m))
-    lacks {letters} covers mandatory e = (
-      missing (record {
-        header = take 8 m;
-        chunks = all;
-        bytes = read .bytes;
-        headerSize = read .front .headerSize;
-        whole = whole;
-        letters = letters;
-        mandatory = mandatory;
-        lacks = λ chunk a. never (occurs-says covers 8 whole) e (chunk, a);
-      }),
-      omega arith,
-    )
+    these : ChunksOf m all
+    these = record { header = take 8 m; bytes = read .bytes; headerSize = read .front .headerSize; whole = whole }
+
+    lacks : {letters : List ℕ} (covers : Covered letters) → (letters ≡ infoLetters) ⊎ NeedsInfo letters → occurs (identifierOf covers) records ≡ false → Placed m (refusal Missing (length m))
+    lacks {letters} covers mandatory e =
+        let no = never (occurs-says covers 8 whole) e in
+        (missing these (record { letters = letters; mandatory = mandatory; lacks = λ chunk a. no (chunk, a) }), omega arith)
 
 -- What an outline says of places.
 abbrev Told : List ℕ → Outline → Type 0
@@ -220,7 +226,9 @@ Told m (Found l) = Unit {0}
 Told m (Refused r) = Placed m r
 
 told : (m : List ℕ) → Told m (outline m)
-told m = along-outline m (Told m) (first-broken (header-placed m)) (λ before at reached less. first-broken (chunk-placed reached less)) (missing-placed m) (λ all read mandatory. tt)
+told m =
+    along-outline m (Told m) (first-broken (header-placed m)) (λ before at reached less. first-broken (chunk-placed reached less))
+    (missing-placed m) (λ all read mandatory. tt)
 
 pub outline-place : (m : List ℕ) (r : Refusal) → outline m ≡ Refused r → Placed m r
 outline-place m r e = subst (Told m) e (told m)

@@ -22,7 +22,7 @@ use Rattle.module.specs.Loops.{framesOf, instrumentLoopRules}
 use Rattle.module.specs.Streams.{patternStreamRules}
 use Rattle.module.specs.Verdicts.{contentRules}
 use Rattle.grammar.specs.Rules.{Bytes, Every, none, Among, infoLetters, songLetters, instLetters, pattLetters, smplLetters, venvLetters, penvLetters, Filled, SongRules, InstrumentRules, PatternRules, SampleRules, EnvelopeRules, EnvelopesRules, VolumeFits, PanningValueFits, Content}
-use Rattle.grammar.proofs.Standing.{Stands, Found, LayoutOf}
+use Rattle.grammar.proofs.Standing.{Stands, Found, CountsOf, LayoutOf}
 use Rattle.grammar.proofs.Locating.{number16-at, number32-at}
 use Rattle.grammar.proofs.Holding.{leb-says, every-of, every-both, every-at, AllHold, accepted-hold}
 use Rattle.grammar.proofs.ChunkHalf.{stands-part}
@@ -100,7 +100,7 @@ panning-values version (inr e) v = rw e (λ h. (λ three. panning-says v .0 h, �
 
 -- The layout of the chunks, with the five that every module has.
 module _ {m header : List ℕ} {chunks : List (List ℕ)} {l : Layout} (layout : LayoutOf m header chunks l) (version : (byteAt header 4 ≡ 2) ⊎ (byteAt header 4 ≡ 3)) {info song inst patt smpl : List ℕ} (infoThere : Among chunks infoLetters info) (songThere : Among chunks songLetters song) (instThere : Among chunks instLetters inst) (pattThere : Among chunks pattLetters patt) (smplThere : Among chunks smplLetters smpl) where
-  counts : (l .instruments ≡ number16 info 8) × (l .samples ≡ number16 info 10) × (l .songs ≡ number16 info 12) × (l .patterns ≡ number16 info 14) × (l .tracks ≡ number16 info 16)
+  counts : CountsOf l info
   counts = layout .counts info infoThere
 
   songStands : Stands m (l .places .song) song

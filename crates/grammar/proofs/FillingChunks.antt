@@ -69,18 +69,27 @@ blocks-every {kind} {blocks = blocks} b h = rw (← b .filled .number) (
   blocks-places kind (λ at block p s. h at block p s .1) blocks (b .there) (b .sized),
 )
 
--- What holds of each block, with the blocks before it and after it, holds at its place.
-module _ (kind : Kind) (m : List ℕ) (P : ℕ → Type 0) (start : ℕ) where
-  abbrev Each : List (List ℕ) → Type 0
-  Each blocks = (before after : List (List ℕ)) (block : List ℕ) (at : ℕ) → blocks ≡ before ++ (block ∷ after) → PartAt m at block → Sized kind block → start + length (joined before) ≡ at → P at
+-- One of some blocks, which begin one after the other at a start: the blocks before it and after it, and its place.
+pub record OneBlock (kind : Kind) (m : List ℕ) (start : ℕ) (blocks : List (List ℕ)) (at : ℕ) : Type 0 where
+  pub before : List (List ℕ)
+  pub block : List ℕ
+  pub after : List (List ℕ)
+  pub splits : blocks ≡ before ++ (block ∷ after)
+  pub part : PartAt m at block
+  pub sized : Sized kind block
+  pub there : start + length (joined before) ≡ at
 
-  each-from : (first blocks : List (List ℕ)) (at : ℕ) → start + length (joined first) ≡ at → PartAt m at (joined blocks) → Every (Sized kind) blocks → Each (first ++ blocks) → Every P (placesFrom (sizeOf kind m) (length blocks) at)
-  each-from first [] at there p none h = none
-  each-from first (block ∷ blocks) at there p (also s e) h =
-      let here = part-first block (joined blocks) p in
-      let long : length (joined (first ++ (block ∷ []))) ≡ length (joined first) + length block = ap length (joined-last first block) ∙ length-append (joined first) block in
-      let more = each-from (first ++ (block ∷ [])) blocks (at + length block) (omega arith) (part-rest block (joined blocks) p) e (rw append-assoc h) in
-      also (h first blocks block at refl here s there) (rw (sym (part-size kind here s)) at more)
+-- At each place there is one.
+module _ (kind : Kind) (m : List ℕ) (start : ℕ) where
+  each-from : (first blocks : List (List ℕ)) (at : ℕ) → start + length (joined first) ≡ at → PartAt m at (joined blocks) → Every (Sized kind) blocks → Every (OneBlock kind m start (first ++ blocks)) (placesFrom (sizeOf kind m) (length blocks) at)
+  each-from first [] at there p none = none
+  each-from first (block ∷ blocks) at there p (also s e) =
+      let part = part-first block (joined blocks) p in
+      let long : length (joined (first ++ (block ∷ []))) ≡ length (joined first) + length block = rw joined-last (length-append (joined first) block) in
+      let more = each-from (first ++ (block ∷ [])) blocks (at + length block) (omega arith) (part-rest block (joined blocks) p) e in
+      also (record { before = first; block = block; after = blocks; splits = refl; part = part; sized = s; there = there })
+      (rw (append-assoc, sym (part-size kind part s)) at more)
 
-pub each-block : {kind : Kind} {m : List ℕ} {start front : ℕ} {chunk : List ℕ} {count : ℕ} {blocks : List (List ℕ)} {P : ℕ → Type 0} → BlocksIn kind m start front chunk count blocks → ((before after : List (List ℕ)) (block : List ℕ) (at : ℕ) → blocks ≡ before ++ (block ∷ after) → PartAt m at block → Sized kind block → start + length (joined before) ≡ at → P at) → Every P (placesFrom (sizeOf kind m) count start)
-each-block {kind} {m} {start} {blocks = blocks} {P = P} b h = rw (← b .filled .number) (each-from kind m P start [] blocks start (omega arith) (b .there) (b .sized) h)
+pub each-block : {kind : Kind} {m : List ℕ} {start front : ℕ} {chunk : List ℕ} {count : ℕ} {blocks : List (List ℕ)} → BlocksIn kind m start front chunk count blocks → Every (OneBlock kind m start blocks) (placesFrom (sizeOf kind m) count start)
+each-block {kind} {m} {start} {blocks = blocks} b =
+    rw (← b .filled .number) (each-from kind m start [] blocks start (omega arith) (b .there) (b .sized))

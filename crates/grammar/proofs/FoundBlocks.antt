@@ -32,7 +32,7 @@ use Rattle.queries.specs.declared.Found.the-variants.{At, Refused}
 use Rattle.grammar.specs.Queries.{identifierOf, InChunk}
 use Rattle.grammar.proofs.Holding.{and-says, leb-says, ltb-says, accepted-hold}
 use Rattle.grammar.proofs.Cutting.{after-least}
-use Rattle.grammar.proofs.ContentRules.{BlocksHold, thing-fills, ContentHolds, content-hold}
+use Rattle.grammar.proofs.ContentRules.{thing-fills, ContentHolds, content-hold}
 use Rattle.grammar.proofs.WholeChunks.{WholeAt, PlacesWhole, outline-places}
 
 -- A module that is accepted opens, and one that is refused does not.

@@ -19,6 +19,8 @@ pub mod Outlining
 pub mod WholeChunks
 pub mod FirstBroken
 pub mod ChunkPlaces
+pub mod BlocksThere
+pub mod FieldPlaces
 pub mod ContentPlaces
 pub mod Acceptance
 pub mod RefusalPlaces

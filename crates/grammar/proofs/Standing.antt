@@ -26,11 +26,20 @@ pub record Found (m : List ℕ) (chunks : List (List ℕ)) (letters : List ℕ) 
   pub begins : (chunk : List ℕ) (a : Among chunks letters chunk) → place .at ≡ 8 + length (joined (a .before))
   pub chunk : place .present ≡ true → (chunk : List ℕ) × Among chunks letters chunk
 
+-- The layout has the five numbers of INFO.
+abbrev pub CountsOf : Layout → List ℕ → Type 0
+CountsOf l info =
+    (l .instruments ≡ number16 info 8)
+    × (l .samples ≡ number16 info 10)
+    × (l .songs ≡ number16 info 12)
+    × (l .patterns ≡ number16 info 14)
+    × (l .tracks ≡ number16 info 16)
+
 -- The layout is that of these chunks.
 pub record LayoutOf (m header : List ℕ) (chunks : List (List ℕ)) (l : Layout) : Type 0 where
   pub version : l .version ≡ byteAt header 4
   pub revision : l .revision ≡ byteAt header 5
-  pub counts : (info : List ℕ) → Among chunks infoLetters info → (l .instruments ≡ number16 info 8) × (l .samples ≡ number16 info 10) × (l .songs ≡ number16 info 12) × (l .patterns ≡ number16 info 14) × (l .tracks ≡ number16 info 16)
+  pub counts : (info : List ℕ) → Among chunks infoLetters info → CountsOf l info
   pub name : Found m chunks nameLetters (l .places .name)
   pub song : Found m chunks songLetters (l .places .song)
   pub inst : Found m chunks instLetters (l .places .inst)

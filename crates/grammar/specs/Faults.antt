@@ -1,7 +1,7 @@
--- FORMAT.md, "Refusals" and F17: what is wrong where a module is refused, with no reader in it: each is the opposite of a rule of
--- specs/Rules.antt. Chunks and blocks are lists of bytes, and a number in one is read at its offset there. Where a field is wrong, its
--- offset is the last number of the statement. A thing is what the blocks of a chunk are: a song, an instrument, a pattern, a sample, an
--- envelope of volume or of panning.
+-- FORMAT.md, "Refusals" and F17: what is wrong where a module is refused, with no reader in it. Each is the opposite of a rule of
+-- specs/Rules.antt; the number at the front of a comment is that of the refusal. Chunks and blocks are lists of bytes, and a number in one
+-- is read at its offset there. Where a field is wrong, its offset is the last number of the statement. A thing is what the blocks of a chunk
+-- are: songs, instruments, patterns, samples, envelopes of volume or of panning.
 use Prim.Native.Nat.{ℕ, _+_, _-_, _*_, _/_, _%_, _≤_, _<_}
 use mathlib.Core.Path.{_≡_}
 use mathlib.Core.Logic.{_⊎_}
@@ -12,7 +12,7 @@ use Rattle.packed_rows.specs.Theorems.{StreamOf}
 use Rattle.numbers.specs.Numbers.{byteAt, number16, number32, partOf}
 use Rattle.queries.specs.declared.Thing.{Thing}
 use Rattle.queries.specs.declared.Thing.the-variants.{Song, Instrument, Pattern, Sample, VolumeEnvelope, PanningEnvelope}
-use Rattle.grammar.specs.Rules.{Every, nameLetters, infoLetters, songLetters, instLetters, pattLetters, smplLetters, venvLetters, penvLetters, Filled, PanningFits, Looped, SampleRules, VolumeFits, PanningValueFits}
+use Rattle.grammar.specs.Rules.{Every, Among, Covered, NeedsInfo, nameLetters, infoLetters, songLetters, instLetters, pattLetters, smplLetters, venvLetters, penvLetters, Filled, PanningFits, Looped, SampleRules, VolumeFits, PanningValueFits}
 
 -- B1: the letters of the chunk whose blocks are such things.
 abbrev pub lettersOf : Thing → List ℕ
@@ -76,30 +76,55 @@ pub record IdentifierFault (after : List ℕ) : Type 0 where
   pub size : 8 ≤ length after
   pub letters : ((i : ℕ) → i < 4 → (65 ≤ byteAt after i) × (byteAt after i ≤ 90)) → ⊥
 
--- 9, M8 and M9: NAME has not 44 bytes of data, or INFO not 10.
-pub data LengthFault (chunk : List ℕ) : List ℕ → Type 0 where
-  name : (length chunk ≡ 52 → ⊥) → LengthFault chunk nameLetters
-  info : (length chunk ≡ 18 → ⊥) → LengthFault chunk infoLetters
+-- 6, M6: a covered chunk, and one with its letters is among the chunks before it.
+pub record RepeatedFault (before : List (List ℕ)) (chunk : List ℕ) : Type 0 where
+  pub covered : Covered (take 4 chunk)
+  pub other : List ℕ
+  pub among : Among before (take 4 chunk) other
 
--- 10, M9: the number of INFO that is out of range.
-pub data InfoFault (info : List ℕ) : ℕ → Type 0 where
-  instruments : 255 < number16 info 8 → InfoFault info 8
-  samples : 255 < number16 info 10 → InfoFault info 10
-  songs : 32767 < number16 info 12 → InfoFault info 12
-  patterns : 1024 < number16 info 14 → InfoFault info 14
-  tracks : ((4 ≤ number16 info 16) × (number16 info 16 ≤ 254) × (number16 info 16 % 2 ≡ 0) → ⊥) → InfoFault info 16
+-- 7, M7: SONG, INST, PATT or SMPL, and no INFO is among the chunks before it.
+pub record OrderFault (before : List (List ℕ)) (chunk : List ℕ) : Type 0 where
+  pub needs : NeedsInfo (take 4 chunk)
+  pub lacks : (other : List ℕ) → Among before infoLetters other → ⊥
+
+-- 8, M7: INFO, SONG, INST, PATT or SMPL is not among the chunks.
+pub record MissingFault (chunks : List (List ℕ)) : Type 0 where
+  pub letters : List ℕ
+  pub mandatory : (letters ≡ infoLetters) ⊎ NeedsInfo letters
+  pub lacks : (chunk : List ℕ) → Among chunks letters chunk → ⊥
+
+-- 9, M8 and M9: NAME, and its data are not 44 bytes; or INFO, and they are not 10.
+pub data LengthFault (chunk : List ℕ) : Type 0 where
+  name : take 4 chunk ≡ nameLetters → (length chunk ≡ 52 → ⊥) → LengthFault chunk
+  info : take 4 chunk ≡ infoLetters → (length chunk ≡ 18 → ⊥) → LengthFault chunk
+
+-- 10, M9: INFO, of 10 bytes of data, and one of its numbers is out of range.
+pub data RangeFault (info : List ℕ) : ℕ → Type 0 where
+  instruments : 255 < number16 info 8 → RangeFault info 8
+  samples : 255 < number16 info 10 → RangeFault info 10
+  songs : 32767 < number16 info 12 → RangeFault info 12
+  patterns : 1024 < number16 info 14 → RangeFault info 14
+  tracks : ((4 ≤ number16 info 16) × (number16 info 16 ≤ 254) × (number16 info 16 % 2 ≡ 0) → ⊥) → RangeFault info 16
+
+pub record InfoFault (chunk : List ℕ) (offset : ℕ) : Type 0 where
+  pub named : take 4 chunk ≡ infoLetters
+  pub size : length chunk ≡ 18
+  pub range : RangeFault chunk offset
 
 -- 11: the chunk is not made of such blocks.
 pub record BlocksFault (thing : Thing) (info chunk : List ℕ) : Type 0 where
   pub none : (blocks : List (List ℕ)) → BlocksOf thing info chunk blocks → ⊥
 
--- 12, V1 to V3: what a block refers to does not exist: the pattern of an entry, which are counted from 0; the sample of an instrument,
--- from 1, where 0 is none; the instrument of an envelope, from 1.
+-- 12, V1 to V3: what a block refers to does not exist: the pattern of an entry, patterns counted from 0; the sample of an instrument, from
+-- 1, where 0 is none; the instrument of an envelope, from 1.
+abbrev pub NoInstrument : List ℕ → List ℕ → Type 0
+NoInstrument counts block = (number16 block 0 ≡ 0) ⊎ (number16 counts 8 < number16 block 0)
+
 pub data ReferenceFault (info block : List ℕ) : Thing → ℕ → Type 0 where
   entry : (i : ℕ) → i < number16 block 44 → number16 info 14 ≤ number16 block (46 + 2 * i) → ReferenceFault info block Song (46 + 2 * i)
   sample : number16 info 10 < number16 block 30 → ReferenceFault info block Instrument 30
-  ofVolume : (number16 block 0 ≡ 0) ⊎ (number16 info 8 < number16 block 0) → ReferenceFault info block VolumeEnvelope 0
-  ofPanning : (number16 block 0 ≡ 0) ⊎ (number16 info 8 < number16 block 0) → ReferenceFault info block PanningEnvelope 0
+  ofVolume : NoInstrument info block → ReferenceFault info block VolumeEnvelope 0
+  ofPanning : NoInstrument info block → ReferenceFault info block PanningEnvelope 0
 
 -- 13, V2: the field of an instrument that is out of range.
 pub data InstrumentFault (block : List ℕ) : ℕ → Type 0 where
@@ -124,8 +149,12 @@ pub data FieldFault (version : ℕ) (block : List ℕ) : Thing → ℕ → Type 
   ofVolume : {offset : ℕ} → EnvelopeFault VolumeFits block offset → FieldFault version block VolumeEnvelope offset
   ofPanning : {offset : ℕ} → EnvelopeFault (PanningValueFits version) block offset → FieldFault version block PanningEnvelope offset
 
--- 14, V6: an instrument is looped, and it has no sample, or its loop ends past the frames of its sample, which is one of these.
-pub record LoopFault (samples : List (List ℕ)) (block : List ℕ) : Type 0 where
+-- 14, V6: an instrument is looped, and it has no sample, or its loop ends past the frames of its sample, which is one of SMPL's blocks.
+pub record LoopFault (chunks : List (List ℕ)) (info block : List ℕ) : Type 0 where
+  pub smpl : List ℕ
+  pub among : Among chunks smplLetters smpl
+  pub samples : List (List ℕ)
+  pub blocks : BlocksOf Sample info smpl samples
   pub looped : Looped block
   pub exists : number16 block 30 ≤ length samples
   pub outside : (number16 block 30 ≡ 0) ⊎ (number32 (getD samples (number16 block 30 - 1) []) 4 < number32 block 38 + number32 block 42)

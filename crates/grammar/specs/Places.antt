@@ -2,18 +2,17 @@
 -- what is wrong is in specs/Faults.antt; no reader is in either.
 use Prim.Native.Nat.{ℕ, _+_, _≤_, _<_}
 use mathlib.Core.Path.{_≡_}
-use mathlib.Core.Logic.{_⊎_}
 use mathlib.Core.List.{List, _∷_, _++_}
-use lib.ListN.{length, take}
+use lib.ListN.{length}
 use Rattle.refusal.specs.Numbers.{refusal}
 use Rattle.refusal.specs.declared.Cause.the-variants.{TooLong, NotAModule, Version, ChunkCut, Identifier, Repeated, BeforeInfo, Missing, FixedLength, InfoRange, Blocks, Reference, FieldRange, Loop, Stream}
 use Rattle.refusal.specs.declared.Refusal.{Refusal}
 use Rattle.cells.specs.Cells.{joined}
 use Rattle.numbers.specs.Numbers.{byteAt, number16}
 use Rattle.queries.specs.declared.Thing.{Thing}
-use Rattle.queries.specs.declared.Thing.the-variants.{Instrument, Pattern, Sample}
-use Rattle.grammar.specs.Rules.{Every, ChunkBytes, infoLetters, smplLetters, Among, Covered, NeedsInfo, ChunkRules}
-use Rattle.grammar.specs.Faults.{HeaderFault, VersionFault, CutFault, IdentifierFault, LengthFault, InfoFault, lettersOf, frontOf, BlocksOf, BlocksFault, ReferenceFault, FieldFault, LoopFault, StreamFault}
+use Rattle.queries.specs.declared.Thing.the-variants.{Instrument, Pattern}
+use Rattle.grammar.specs.Rules.{Every, ChunkBytes, infoLetters, Among, NeedsInfo, ChunkRules}
+use Rattle.grammar.specs.Faults.{lettersOf, frontOf, BlocksOf, HeaderFault, VersionFault, CutFault, IdentifierFault, RepeatedFault, OrderFault, MissingFault, LengthFault, InfoFault, BlocksFault, ReferenceFault, FieldFault, LoopFault, StreamFault}
 
 -- A chunk's header begins at this place: the module's header and whole chunks are before it, and at least a byte follows.
 pub record HeaderAt (m : List ℕ) (place : ℕ) : Type 0 where
@@ -26,24 +25,20 @@ pub record HeaderAt (m : List ℕ) (place : ℕ) : Type 0 where
   pub there : length (header ++ joined before) ≡ place
   pub follows : place < length m
 
--- This whole chunk begins at this place, and it has these letters.
-pub record ChunkAt (m letters chunk : List ℕ) (place : ℕ) : Type 0 where
+-- A whole chunk begins at this place.
+pub record ChunkAt (m : List ℕ) (place : ℕ) : Type 0 where
   pub begins : HeaderAt m place
+  pub chunk : List ℕ
   pub rest : List ℕ
   pub bytes : begins .after ≡ chunk ++ rest
   pub whole : ChunkBytes chunk
-  pub named : take 4 chunk ≡ letters
 
--- 8, M7: the module is a header and whole chunks, and none of them is INFO, or none is SONG, and so on.
-pub record MissingFault (m : List ℕ) : Type 0 where
+-- The module is a header and these chunks.
+pub record ChunksOf (m : List ℕ) (chunks : List (List ℕ)) : Type 0 where
   pub header : List ℕ
-  pub chunks : List (List ℕ)
   pub bytes : m ≡ header ++ joined chunks
   pub headerSize : length header ≡ 8
   pub whole : Every ChunkBytes chunks
-  pub letters : List ℕ
-  pub mandatory : (letters ≡ infoLetters) ⊎ NeedsInfo letters
-  pub lacks : (chunk : List ℕ) → Among chunks letters chunk → ⊥
 
 -- Nothing of 1 to 10 is wrong: these are the header and the chunks of the module, M2 to M9 hold of them, and the mandatory ones are there.
 pub record AllChunks (m : List ℕ) : Type 0 where
@@ -54,18 +49,21 @@ pub record AllChunks (m : List ℕ) : Type 0 where
   pub infoThere : Among chunks infoLetters info
   pub othersThere : (letters : List ℕ) → NeedsInfo letters → (chunk : List ℕ) × Among chunks letters chunk
 
--- One of these chunks begins at this place: behind the module's 8 bytes and the chunks before it.
-abbrev pub startOf : {chunks : List (List ℕ)} {letters chunk : List ℕ} → Among chunks letters chunk → ℕ
-startOf among = 8 + length (joined (among .before))
-
--- A thing's block begins at this place: it is one of the blocks of its chunk.
-pub record BlockAt {m : List ℕ} (all : AllChunks m) (thing : Thing) (block : List ℕ) (place : ℕ) : Type 0 where
+-- The chunk of a thing begins at this place, after the module's 8 bytes and the chunks before it.
+pub record BlocksAt {m : List ℕ} (all : AllChunks m) (thing : Thing) (place : ℕ) : Type 0 where
   pub chunk : List ℕ
   pub among : Among (all .chunks) (lettersOf thing) chunk
+  pub there : 8 + length (joined (among .before)) ≡ place
+
+-- A block of a thing begins at this place: it is one of the blocks that its chunk is made of.
+pub record BlockAt {m : List ℕ} (all : AllChunks m) (thing : Thing) (place : ℕ) : Type 0 where
+  pub start : ℕ
+  pub within : BlocksAt all thing start
   pub before : List (List ℕ)
+  pub block : List ℕ
   pub after : List (List ℕ)
-  pub blocks : BlocksOf thing (all .info) chunk (before ++ (block ∷ after))
-  pub there : startOf among + frontOf thing + length (joined before) ≡ place
+  pub blocks : BlocksOf thing (all .info) (within .chunk) (before ++ (block ∷ after))
+  pub there : start + frontOf thing + length (joined before) ≡ place
 
 -- F17: the place of each refusal of a module, from 1 to 15, and what is wrong there.
 pub data PlaceOf (m : List ℕ) : Refusal → Type 0 where
@@ -74,13 +72,13 @@ pub data PlaceOf (m : List ℕ) : Refusal → Type 0 where
   version : 8 ≤ length m → VersionFault m → PlaceOf m (refusal Version 4)
   chunkCut : {place : ℕ} (at : HeaderAt m place) → CutFault (at .after) → PlaceOf m (refusal ChunkCut place)
   identifier : {place : ℕ} (at : HeaderAt m place) → IdentifierFault (at .after) → PlaceOf m (refusal Identifier place)
-  repeated : {letters chunk other : List ℕ} {place : ℕ} (at : ChunkAt m letters chunk place) → Covered letters → Among (at .begins .before) letters other → PlaceOf m (refusal Repeated place)
-  beforeInfo : {letters chunk : List ℕ} {place : ℕ} (at : ChunkAt m letters chunk place) → NeedsInfo letters → ((info : List ℕ) → Among (at .begins .before) infoLetters info → ⊥) → PlaceOf m (refusal BeforeInfo place)
-  missing : MissingFault m → PlaceOf m (refusal Missing (length m))
-  fixedLength : {letters chunk : List ℕ} {place : ℕ} → ChunkAt m letters chunk place → LengthFault chunk letters → PlaceOf m (refusal FixedLength place)
-  infoRange : {info : List ℕ} {place offset : ℕ} → ChunkAt m infoLetters info place → length info ≡ 18 → InfoFault info offset → PlaceOf m (refusal InfoRange (place + offset))
-  blocks : (all : AllChunks m) (thing : Thing) {chunk : List ℕ} (among : Among (all .chunks) (lettersOf thing) chunk) → BlocksFault thing (all .info) chunk → PlaceOf m (refusal Blocks (startOf among))
-  reference : (all : AllChunks m) {thing : Thing} {block : List ℕ} {place offset : ℕ} → BlockAt all thing block place → ReferenceFault (all .info) block thing offset → PlaceOf m (refusal Reference (place + offset))
-  fieldRange : (all : AllChunks m) {thing : Thing} {block : List ℕ} {place offset : ℕ} → BlockAt all thing block place → FieldFault (byteAt (all .header) 4) block thing offset → PlaceOf m (refusal FieldRange (place + offset))
-  loop : (all : AllChunks m) {block smpl : List ℕ} {samples : List (List ℕ)} {place : ℕ} → BlockAt all Instrument block place → Among (all .chunks) smplLetters smpl → BlocksOf Sample (all .info) smpl samples → LoopFault samples block → PlaceOf m (refusal Loop place)
-  stream : (all : AllChunks m) {block : List ℕ} {place : ℕ} → BlockAt all Pattern block place → StreamFault (number16 (all .info) 16) block → PlaceOf m (refusal Stream place)
+  repeated : {place : ℕ} (at : ChunkAt m place) → RepeatedFault (at .begins .before) (at .chunk) → PlaceOf m (refusal Repeated place)
+  beforeInfo : {place : ℕ} (at : ChunkAt m place) → OrderFault (at .begins .before) (at .chunk) → PlaceOf m (refusal BeforeInfo place)
+  missing : {chunks : List (List ℕ)} → ChunksOf m chunks → MissingFault chunks → PlaceOf m (refusal Missing (length m))
+  fixedLength : {place : ℕ} (at : ChunkAt m place) → LengthFault (at .chunk) → PlaceOf m (refusal FixedLength place)
+  infoRange : {place offset : ℕ} (at : ChunkAt m place) → InfoFault (at .chunk) offset → PlaceOf m (refusal InfoRange (place + offset))
+  blocks : (all : AllChunks m) {thing : Thing} {place : ℕ} (at : BlocksAt all thing place) → BlocksFault thing (all .info) (at .chunk) → PlaceOf m (refusal Blocks place)
+  reference : (all : AllChunks m) {thing : Thing} {place offset : ℕ} (at : BlockAt all thing place) → ReferenceFault (all .info) (at .block) thing offset → PlaceOf m (refusal Reference (place + offset))
+  fieldRange : (all : AllChunks m) {thing : Thing} {place offset : ℕ} (at : BlockAt all thing place) → FieldFault (byteAt (all .header) 4) (at .block) thing offset → PlaceOf m (refusal FieldRange (place + offset))
+  loop : (all : AllChunks m) {place : ℕ} (at : BlockAt all Instrument place) → LoopFault (all .chunks) (all .info) (at .block) → PlaceOf m (refusal Loop place)
+  stream : (all : AllChunks m) {place : ℕ} (at : BlockAt all Pattern place) → StreamFault (number16 (all .info) 16) (at .block) → PlaceOf m (refusal Stream place)
