@@ -10,7 +10,7 @@ use lib.Dec.{eqb, leb, lit<}
 use borrow.Author.Tests.{leb-true, leb-false, eqb-true, eqb-false}
 use Rattle.cells.specs.Cells.{joined}
 use Rattle.refusal.specs.Numbers.{refusal}
-use Rattle.refusal.specs.declared.Cause.the-variants.{Repeated, BeforeInfo, Missing, FixedLength, InfoRange}
+use Rattle.refusal.specs.declared.Cause.the-variants.{Repeated, BeforeInfo, Missing, InfoRange}
 use Rattle.refusal.specs.declared.Refusal.{Refusal}
 use Rattle.numbers.specs.Numbers.{byteAt, number16, number32}
 use Rattle.layout.specs.Header.{headerFits, versionFits, headerRules}

@@ -7,7 +7,7 @@ use mathlib.Core.List.{List, []}
 use mathlib.Core.Bool.{true, false, not, _&&_, _||_}
 use native.Mathlib.Omega.{arith}
 use lib.ListN.{length, getD}
-use lib.Dec.{eqb, leb}
+use lib.Dec.{leb}
 use borrow.Author.Tests.{leb-true, leb-false, eqb-false}
 use Rattle.refusal.specs.Numbers.{refusal}
 use Rattle.refusal.specs.Rules.{firstBroken}
@@ -16,7 +16,7 @@ use Rattle.refusal.specs.declared.Refusal.{Refusal}
 use Rattle.refusal.specs.declared.Verdict.the-variants.{Refused}
 use Rattle.numbers.specs.Numbers.{number16, number32}
 use Rattle.layout.specs.declared.Layout.{Layout}
-use Rattle.blocks.specs.Sizes.{widthOf, sizeOf, blockAt}
+use Rattle.blocks.specs.Sizes.{sizeOf, blockAt}
 use Rattle.blocks.specs.Filling.{dataEnd, fills, flagsRules, blockRules}
 use Rattle.blocks.specs.declared.Kind.the-variants.{Sample as SampleKind}
 use Rattle.fields.specs.Fields.{instrumentRules}
