@@ -96,13 +96,15 @@ pattern-holds {m} {block} {at} p s tracks e = record {
         (stream-says p (omega arith) stream (part-there block 6 size (omega arith)) (sym long) tracks .0 e)
 
 -- A stream that is sound is accepted: that of the packed bytes.
-pub sound-accepted : {m block : List ℕ} {at : ℕ} → PartAt m at block → Sized Pattern block → Bytes m → (tracks : ℕ) → TracksFit tracks → (entries : List (List Entry)) → StreamOf (number16 block 0) tracks (partOf block 6 (number32 block 2)) entries → AllHold (patternStreamRules m tracks at)
-unfolding sizeOf
-sound-accepted {m} {block} {at} p s below tracks t entries sound =
-    let size : ℕ = number32 block 2 in
-    let stream : List ℕ = partOf block 6 size in
-    stream-says p (omega arith) stream (part-there block 6 size (omega arith)) (sym (part-length block 6 size (omega arith))) tracks .1
-    (stream-accepted stream (number16 block 0) tracks (rw (number16-start p (omega arith)) at (number16-bound m below at)) t entries sound)
+module _ {m block : List ℕ} {at : ℕ} (p : PartAt m at block) (s : Sized Pattern block) (below : Bytes m) (tracks : ℕ) (t : TracksFit tracks) where
+  pub sound-accepted : (e : List (List Entry)) → StreamOf (number16 block 0) tracks (partOf block 6 (number32 block 2)) e → AllHold (patternStreamRules m tracks at)
+  unfolding sizeOf
+  sound-accepted entries sound =
+      let size : ℕ = number32 block 2 in
+      let stream : List ℕ = partOf block 6 size in
+      let rows : number16 block 0 ≤ 65535 = rw (number16-start p (omega arith)) at (number16-bound m below at) in
+      stream-says p (omega arith) stream (part-there block 6 size (omega arith)) (sym (part-length block 6 size (omega arith))) tracks .1
+      (stream-accepted stream (number16 block 0) tracks rows t entries sound)
 
 module _ (tracks : ℕ) (block : List ℕ) (r : PatternRules tracks block) where
   pattern-length : length block ≡ 6 + length (r .stream) + length (r .stream) % 2

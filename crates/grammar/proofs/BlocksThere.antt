@@ -73,13 +73,14 @@ module _ {m : List ℕ} {l : Layout} (o : Outlined m l) where
   found-of VolumeEnvelope = o .layout .venv
   found-of PanningEnvelope = o .layout .penv
 
-  count-is : (thing : Thing) {chunk : List ℕ} → Stands m (chunkOf l thing) chunk → frontOf thing ≤ length chunk → countOf m l thing ≡ countIn thing (all-chunks .info) chunk
-  count-is Song s h = counts .2
-  count-is Instrument s h = counts .0
-  count-is Pattern s h = counts .3
-  count-is Sample s h = counts .1
-  count-is VolumeEnvelope s h = count-same s h
-  count-is PanningEnvelope s h = count-same s h
+  module _ {chunk : List ℕ} where
+    count-is : (thing : Thing) → Stands m (chunkOf l thing) chunk → frontOf thing ≤ length chunk → countOf m l thing ≡ countIn thing (all-chunks .info) chunk
+    count-is Song s h = counts .2
+    count-is Instrument s h = counts .0
+    count-is Pattern s h = counts .3
+    count-is Sample s h = counts .1
+    count-is VolumeEnvelope s h = count-same s h
+    count-is PanningEnvelope s h = count-same s h
 
   abbrev pub BlocksThere : Thing → List ℕ → List (List ℕ) → Type 0
   BlocksThere thing chunk list = BlocksIn (kindOf thing) m (chunkOf l thing .at + frontOf thing) (frontOf thing) chunk (countOf m l thing) list

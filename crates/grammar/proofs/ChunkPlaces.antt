@@ -166,8 +166,9 @@ module _ {m header : List ℕ} {before : List (List ℕ)} {at : ℕ} (r : Reache
           let over = leb-false (number16 chunk 8) 255 (rw (number16-at part 8 (omega arith)) at e) in
           range-placed (at + 8) refl (lit< tt) (RangeFault.instruments over)
 
-      number-placed : (k : ℕ) → k < 9 → (test : ℕ → Bool) → (test (number16 chunk (8 + k)) ≡ false → RangeFault chunk (8 + k)) → test (number16 m (at + 8 + k)) ≡ false → Placed m (refusal InfoRange (at + 8 + k))
-      number-placed k low test fault e = range-placed (at + 8 + k) (omega arith) (omega arith) (fault (rw (info-number part long k low) at e))
+      module _ (k : ℕ) (low : k < 9) (test : ℕ → Bool) (fault : test (number16 chunk (8 + k)) ≡ false → RangeFault chunk (8 + k)) where
+        number-placed : test (number16 m (at + 8 + k)) ≡ false → Placed m (refusal InfoRange (at + 8 + k))
+        number-placed e = range-placed (at + 8 + k) (omega arith) (omega arith) (fault (rw (info-number part long k low) at e))
 
       info-placed : WhereBroken (Placed m) (infoRules m (at + 8))
       info-placed =
@@ -198,6 +199,9 @@ module _ {m header : List ℕ} {before : List (List ℕ)} {at : ℕ} (r : Reache
       broken-if (eqb (number32 m at) INFO) (info-if-placed part c lengths)
 
 -- 8.
+abbrev Mandatory : List ℕ → Type 0
+Mandatory letters = (letters ≡ infoLetters) ⊎ NeedsInfo letters
+
 missing-placed : (m : List ℕ) (all : List (List ℕ)) → AllRead m all → mandatoryThere (recordsFrom 8 all) ≡ false → Placed m (refusal Missing (length m))
 missing-placed m all read =
     both-broken (occurs INFO records) _ (lacks Covered.info (inl refl)) λ _.
@@ -215,7 +219,7 @@ missing-placed m all read =
     these : ChunksOf m all
     these = record { header = take 8 m; bytes = read .bytes; headerSize = read .front .headerSize; whole = whole }
 
-    lacks : {letters : List ℕ} (covers : Covered letters) → (letters ≡ infoLetters) ⊎ NeedsInfo letters → occurs (identifierOf covers) records ≡ false → Placed m (refusal Missing (length m))
+    lacks : {letters : List ℕ} (covers : Covered letters) → Mandatory letters → occurs (identifierOf covers) records ≡ false → Placed m (refusal Missing (length m))
     lacks {letters} covers mandatory e =
         let no = never (occurs-says covers 8 whole) e in
         (missing these (record { letters = letters; mandatory = mandatory; lacks = λ chunk a. no (chunk, a) }), omega arith)

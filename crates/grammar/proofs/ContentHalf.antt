@@ -36,11 +36,12 @@ pub counted : {front count other : ℕ} {chunk : List ℕ} {blocks : List (List 
 counted same f = record { fronts = f .fronts; bytes = f .bytes; number = f .number ∙ same }
 
 -- The frames of a sample, by its number, are those of its block.
-pub frames-same : (place : Place) {m smpl : List ℕ} {count : ℕ} {samples : List (List ℕ)} → BlocksIn Sample m (place .at + 8) 8 smpl count samples → (sample : ℕ) → 1 ≤ sample → sample ≤ length samples → framesOf m place sample ≡ number32 (getD samples (sample - 1) []) 4
-frames-same place {samples = samples} b sample h k =
-    let inside : sample - 1 < length samples = omega arith in
-    number32-at (block-there Sample samples (sample - 1) inside (b .there) (b .sized)) 4
-    (omega (arith, sized-least Sample (getD samples (sample - 1) []) (every-at (sample - 1) [] inside (b .sized))))
+module _ (place : Place) {m smpl : List ℕ} {count : ℕ} {samples : List (List ℕ)} (b : BlocksIn Sample m (place .at + 8) 8 smpl count samples) where
+  pub frames-same : (sample : ℕ) → 1 ≤ sample → sample ≤ length samples → framesOf m place sample ≡ number32 (getD samples (sample - 1) []) 4
+  frames-same sample h k =
+      let inside : sample - 1 < length samples = omega arith in
+      number32-at (block-there Sample samples (sample - 1) inside (b .there) (b .sized)) 4
+      (omega (arith, sized-least Sample (getD samples (sample - 1) []) (every-at (sample - 1) [] inside (b .sized))))
 
 -- The blocks of the four chunks that every module has.
 record AllBlocks (m : List ℕ) (l : Layout) (song inst patt smpl : List ℕ) (songs instruments patterns samples : List (List ℕ)) : Type 0 where
@@ -60,7 +61,9 @@ module _ {m : List ℕ} {l : Layout} {song inst patt smpl : List ℕ} {songs ins
   patterns-hold t bytes = blocks-every (b .inPatt) (λ at block p s. (pattern-holds p s (l .tracks), λ r. pattern-rules-hold (l .tracks) block r p bytes t))
 
   instruments-hold : Every (λ at. AllHold (instrumentRules m (l .samples) at) × AllHold (instrumentLoopRules m (l .places .smpl) at)) (instrumentBlocks m l) ↔ Every (InstrumentRules samples) instruments
-  instruments-hold = blocks-every (b .inInst) (λ at block p s. rw (← b .inSmpl .filled .number) (instrument-holds p s (l .places .smpl) samples (frames-same (l .places .smpl) (b .inSmpl))))
+  instruments-hold =
+      let frames = frames-same (l .places .smpl) (b .inSmpl) in
+      blocks-every (b .inInst) (λ at block p s. rw (← b .inSmpl .filled .number) (instrument-holds p s (l .places .smpl) samples frames))
 
 -- How many envelopes a chunk has, by its bytes.
 pub count-same : {m chunk : List ℕ} {place : Place} → Stands m place chunk → 10 ≤ length chunk → envelopeCount m place ≡ number16 chunk 8

@@ -10,25 +10,25 @@ use lib.ListN.{length, getD}
 use lib.Dec.{leb}
 use borrow.Author.Tests.{leb-true, leb-false, eqb-false}
 use Rattle.refusal.specs.Numbers.{refusal}
-use Rattle.refusal.specs.Rules.{firstBroken}
+use Rattle.refusal.specs.Rules.{Rule, firstBroken, accepted}
 use Rattle.refusal.specs.declared.Cause.the-variants.{Blocks}
 use Rattle.refusal.specs.declared.Refusal.{Refusal}
 use Rattle.refusal.specs.declared.Verdict.the-variants.{Refused}
 use Rattle.numbers.specs.Numbers.{number16, number32}
 use Rattle.layout.specs.declared.Layout.{Layout}
 use Rattle.blocks.specs.Sizes.{sizeOf, blockAt}
-use Rattle.blocks.specs.Filling.{dataEnd, fills, flagsRules, blockRules}
+use Rattle.blocks.specs.Filling.{fills, flagsRules, blockRules}
 use Rattle.blocks.specs.declared.Kind.the-variants.{Sample as SampleKind}
 use Rattle.fields.specs.Fields.{instrumentRules}
 use Rattle.module.specs.Loops.{looped, framesOf, loopFits, instrumentLoopRules, loopRules}
-use Rattle.module.specs.Streams.{patternStreamRules, streamRules}
+use Rattle.module.specs.Streams.{streamVerdict, patternStreamRules, streamRules}
 use Rattle.module.specs.Verdicts.{contentRules}
 use Rattle.queries.specs.Finding.{kindOf, chunkOf, countOf}
 use Rattle.queries.specs.declared.Thing.{Thing}
 use Rattle.queries.specs.declared.Thing.the-variants.{Song, Instrument, Pattern, Sample, VolumeEnvelope, PanningEnvelope}
 use Rattle.grammar.specs.Rules.{Bytes}
-use Rattle.grammar.specs.Faults.{lettersOf, BlocksOf, BlocksFault, LoopFault}
-use Rattle.grammar.specs.Places.{blocks, loop, stream}
+use Rattle.grammar.specs.Faults.{lettersOf, BlocksOf, BlocksFault, LoopFault, StreamFault}
+use Rattle.grammar.specs.Places.{blocks, loop, stream, content}
 use Rattle.grammar.proofs.Locating.{number16-at, number32-at, part-inside}
 use Rattle.grammar.proofs.Holding.{false-never, every-first, every-of, every-both, AllHold, every-place}
 use Rattle.grammar.proofs.Recorded.{There}
@@ -36,20 +36,20 @@ use Rattle.grammar.proofs.ChunkHalf.{Outlined, stands-part}
 use Rattle.grammar.proofs.FillingChunks.{blocks-fill, blocks-every}
 use Rattle.grammar.proofs.BlockFields.{instrument-size, looped-says, sample-holds}
 use Rattle.grammar.proofs.BlockStreams.{TracksFit, sound-accepted}
-use Rattle.grammar.proofs.ContentRules.{BlocksHold, blocks-hold, FieldsHold, fields-hold}
+use Rattle.grammar.proofs.ContentRules.{BlocksHold, blocks-hold, ThingFills, FieldsHold, fields-hold}
 use Rattle.grammar.proofs.ContentHalf.{frames-same}
 use Rattle.grammar.proofs.FirstBroken.{WhereBroken, no-rule, this-or, first-broken, broken-append, broken-each, both-broken, unless-broken}
 use Rattle.grammar.proofs.ChunkPlaces.{Placed}
-use Rattle.grammar.proofs.BlocksThere.{first-is, all-chunks, counts, BlocksThere, stands-of, blocks-at, blocks-there, Begins, thing-blocks, blocks-of, each-begins}
+use Rattle.grammar.proofs.BlocksThere.{first-is, all-chunks, counts, found-of, BlocksThere, stands-of, blocks-at, blocks-there, Begins, thing-blocks, blocks-of, each-begins}
 use Rattle.grammar.proofs.FieldPlaces.{each-placed, field-rules-placed}
 
 module _ {m : List ℕ} {l : Layout} (o : Outlined m l) where
   -- 11: were the chunk made of such blocks, the last would end where its data do.
   module _ (thing : Thing) (there : There (o .chunks) (lettersOf thing)) where
     blocks-placed : BlocksFault thing (all-chunks o .info) (there .0) → Placed m (refusal Blocks (chunkOf l thing .at))
-    blocks-placed fault = (blocks (all-chunks o) (blocks-at o thing there) fault, omega (arith, part-inside (stands-part (stands-of o thing there))))
+    blocks-placed fault = (content (all-chunks o) (blocks (blocks-at o thing there) fault), omega (arith, part-inside (stands-part (stands-of o thing there))))
 
-    ends : (list : List (List ℕ)) → BlocksOf thing (all-chunks o .info) (there .0) list → blockAt m (kindOf thing) (chunkOf l thing) (countOf m l thing) ≡ dataEnd (chunkOf l thing)
+    ends : (list : List (List ℕ)) → BlocksOf thing (all-chunks o .info) (there .0) list → ThingFills m l thing
     ends list b =
         let s = stands-of o thing there in
         rw (first-is thing (chunkOf l thing)) (blocks-fill s _ _ (countOf m l thing) list (blocks-there o thing there list b))
@@ -59,19 +59,26 @@ module _ {m : List ℕ} {l : Layout} (o : Outlined m l) where
 
   -- 11: the flags of a sample.
   module _ (i : ℕ) (h : i < l .samples) where
-    flags-fit : (list : List (List ℕ)) → BlocksOf Sample (all-chunks o .info) (o .mandatory .smpl .0) list → AllHold (flagsRules m (l .places .smpl) (blockAt m SampleKind (l .places .smpl) i))
+    abbrev flagsOf : List Rule
+    flagsOf = flagsRules m (l .places .smpl) (blockAt m SampleKind (l .places .smpl) i)
+
+    flags-fit : (list : List (List ℕ)) → BlocksOf Sample (all-chunks o .info) (o .mandatory .smpl .0) list → AllHold flagsOf
     flags-fit list b =
-        let flags = blocks-every (blocks-there o Sample (o .mandatory .smpl) list b) (λ at block p s. sample-holds p s (l .places .smpl)) .1 (b .sizes) in
+        let here = blocks-there o Sample (o .mandatory .smpl) list b in
+        let flags = blocks-every here (λ at block p s. sample-holds p s (l .places .smpl)) .1 (b .sizes) in
         every-place _ (sizeOf SampleKind m) (l .samples) (l .places .smpl .at + 8) .0 flags i h
 
-    flags-placed : WhereBroken (Placed m) (flagsRules m (l .places .smpl) (blockAt m SampleKind (l .places .smpl) i))
+    flags-placed : WhereBroken (Placed m) flagsOf
     flags-placed =
         let wrong = blocks-placed Sample (o .mandatory .smpl) in
         this-or (λ e. wrong (record { none = λ list b. false-never (sym e ∙ every-first (flags-fit list b)) })) (λ _. no-rule)
 
   -- 11: envelopes, where their chunk is there.
-  if-filling-placed : (thing : Thing) → (chunkOf l thing .present ≡ true → There (o .chunks) (lettersOf thing)) → not (chunkOf l thing .present) || fills m (kindOf thing) (chunkOf l thing) (countOf m l thing) ≡ false → Placed m (refusal Blocks (chunkOf l thing .at))
-  if-filling-placed thing there e = let (present, over) = unless-broken (chunkOf l thing .present) _ e in filling-placed thing (there present) over
+  module _ (thing : Thing) where
+    if-filling-placed : not (chunkOf l thing .present) || fills m (kindOf thing) (chunkOf l thing) (countOf m l thing) ≡ false → Placed m (refusal Blocks (chunkOf l thing .at))
+    if-filling-placed e =
+        let (present, over) = unless-broken (chunkOf l thing .present) _ e in
+        filling-placed thing (found-of o thing .chunk present) over
 
   block-rules-placed : WhereBroken (Placed m) (blockRules m l)
   block-rules-placed =
@@ -81,8 +88,8 @@ module _ {m : List ℕ} {l : Layout} (o : Outlined m l) where
       this-or (filling-placed Pattern (o .mandatory .patt)) λ _.
       this-or (filling-placed Sample (o .mandatory .smpl)) λ _.
       broken-append (broken-each (flagsRules m (l .places .smpl)) flags) λ _.
-      this-or (if-filling-placed VolumeEnvelope (o .layout .venv .chunk)) λ _.
-      this-or (if-filling-placed PanningEnvelope (o .layout .penv .chunk)) λ _.
+      this-or (if-filling-placed VolumeEnvelope) λ _.
+      this-or (if-filling-placed PanningEnvelope) λ _.
       no-rule
 
   module _ (fill : BlocksHold m l) where
@@ -102,19 +109,23 @@ module _ {m : List ℕ} {l : Layout} (o : Outlined m l) where
           let same = number16-at (b .part) 30 (omega (arith, long)) in
           omega (arith, leb-true (number16 m (at + 30)) (l .samples) (every-first held), samples .1 .filled .number)
 
-      loop-outside : leb 1 (number16 block 30) && leb (number32 block 38 + number32 block 42) (framesOf m (l .places .smpl) (number16 block 30)) ≡ false → (number16 block 30 ≡ 0) ⊎ (number32 (getD (samples .0) (number16 block 30 - 1) []) 4 < number32 block 38 + number32 block 42)
-      loop-outside =
-          let sample : ℕ = number16 block 30 in
-          let end : ℕ = number32 block 38 + number32 block 42 in
-          let frames : 1 ≤ sample → framesOf m (l .places .smpl) sample ≡ number32 (getD (samples .0) (sample - 1) []) 4 = λ some. frames-same (l .places .smpl) (samples .1) sample some sample-exists in
-          both-broken (leb 1 sample) (leb end (framesOf m (l .places .smpl) sample))
-          (λ e. inl (omega (arith, leb-false 1 sample e)))
-          (λ some e. inr (rw (frames (leb-true 1 sample some)) at (leb-false end (framesOf m (l .places .smpl) sample) e)))
+      module _ (sample end : ℕ) (exists : sample ≤ length (samples .0)) where
+        frames : 1 ≤ sample → framesOf m (l .places .smpl) sample ≡ number32 (getD (samples .0) (sample - 1) []) 4
+        frames some = frames-same (l .places .smpl) (samples .1) sample some exists
+
+        past-frames : leb 1 sample && leb end (framesOf m (l .places .smpl) sample) ≡ false → (sample ≡ 0) ⊎ (number32 (getD (samples .0) (sample - 1) []) 4 < end)
+        past-frames =
+            both-broken (leb 1 sample) (leb end (framesOf m (l .places .smpl) sample))
+            (λ e. inl (omega (arith, leb-false 1 sample e)))
+            (λ some e. inr (rw (frames (leb-true 1 sample some)) at (leb-false end (framesOf m (l .places .smpl) sample) e)))
 
       loop-fault : loopFits m (l .places .smpl) at ≡ false → LoopFault (o .chunks) (all-chunks o .info) block
       loop-fault e =
           let p = b .part in
           let (turns, past) = unless-broken (looped m at) _ e in
+          let same30 = number16-at p 30 (omega (arith, long)) in
+          let same38 = number32-at p 38 (omega (arith, long)) in
+          let same42 = number32-at p 42 (omega (arith, long)) in
           record {
             smpl = o .mandatory .smpl .0;
             among = o .mandatory .smpl .1;
@@ -122,13 +133,13 @@ module _ {m : List ℕ} {l : Layout} (o : Outlined m l) where
             blocks = blocks-of o fill Sample (o .mandatory .smpl);
             looped = looped-says p (b .sized) .0 turns;
             exists = sample-exists;
-            outside = loop-outside (rw (number16-at p 30 (omega (arith, long)), number32-at p 38 (omega (arith, long)), number32-at p 42 (omega (arith, long))) at past);
+            outside = past-frames (number16 block 30) (number32 block 38 + number32 block 42) sample-exists (rw (same30, same38, same42) at past);
           }
 
       loop-placed : WhereBroken (Placed m) (instrumentLoopRules m (l .places .smpl) at)
       loop-placed =
           let inside : at ≤ length m = omega (arith, part-inside (b .part)) in
-          this-or (λ e. (loop (all-chunks o) (b .here) (loop-fault e), inside)) (λ _. no-rule)
+          this-or (λ e. (content (all-chunks o) (loop (b .here) (loop-fault e)), inside)) (λ _. no-rule)
 
     loop-rules-placed : FieldsHold m l → WhereBroken (Placed m) (loopRules m l)
     loop-rules-placed fields =
@@ -140,15 +151,19 @@ module _ {m : List ℕ} {l : Layout} (o : Outlined m l) where
       tracks-fit : TracksFit (l .tracks)
       tracks-fit = rw (counts o .4) (o .rules .info (all-chunks o .info) (all-chunks o .infoThere) .tracks)
 
-      stream-placed : (at : ℕ) → Begins o Pattern at → WhereBroken (Placed m) (patternStreamRules m (l .tracks) at)
-      stream-placed at b =
-          let inside : at ≤ length m = omega (arith, part-inside (b .part)) in
-          let holds = sound-accepted (b .part) (b .sized) below (l .tracks) tracks-fit in
-          this-or (λ e. (stream (all-chunks o) (b .here) (record { none = λ entries sound. false-never (sym e ∙ every-first (holds entries (rw (counts o .4) sound))) }), inside)) λ _.
-          no-rule
+      module _ (at : ℕ) (b : Begins o Pattern at) where
+        stream-fault : accepted (streamVerdict m (l .tracks) at) ≡ false → StreamFault (all-chunks o .info) (b .here .block)
+        stream-fault e =
+            let holds = sound-accepted (b .part) (b .sized) below (l .tracks) tracks-fit in
+            record { none = λ entries sound. false-never (sym e ∙ every-first (holds entries (rw (counts o .4) sound))) }
+
+        stream-placed : WhereBroken (Placed m) (patternStreamRules m (l .tracks) at)
+        stream-placed =
+            let inside : at ≤ length m = omega (arith, part-inside (b .part)) in
+            this-or (λ e. (content (all-chunks o) (stream (b .here) (stream-fault e)), inside)) (λ _. no-rule)
 
       stream-rules-placed : WhereBroken (Placed m) (streamRules m l)
-      stream-rules-placed = each-placed o fill Pattern (o .mandatory .patt) (patternStreamRules m (l .tracks)) stream-placed
+      stream-rules-placed = each-placed o fill Pattern (patternStreamRules m (l .tracks)) (o .mandatory .patt) stream-placed
 
 pub content-place : (m : List ℕ) (l : Layout) → Bytes m → Outlined m l → (r : Refusal) → firstBroken (contentRules m l) ≡ Refused r → Placed m r
 content-place m l below o = first-broken rules

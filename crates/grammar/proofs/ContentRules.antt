@@ -55,7 +55,10 @@ module _ (m : List ℕ) (l : Layout) where
   )
 
   -- The blocks of a thing fill its chunk, where that is there.
-  pub thing-fills : BlocksHold m l → (thing : Thing) → chunkOf l thing .present ≡ true → blockAt m (kindOf thing) (chunkOf l thing) (countOf m l thing) ≡ dataEnd (chunkOf l thing)
+  abbrev pub ThingFills : Thing → Type 0
+  ThingFills thing = blockAt m (kindOf thing) (chunkOf l thing) (countOf m l thing) ≡ dataEnd (chunkOf l thing)
+
+  pub thing-fills : BlocksHold m l → (thing : Thing) → chunkOf l thing .present ≡ true → ThingFills thing
   thing-fills f SongThing there = f .songs
   thing-fills f InstrumentThing there = f .instruments
   thing-fills f PatternThing there = f .patterns

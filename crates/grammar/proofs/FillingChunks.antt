@@ -81,7 +81,10 @@ pub record OneBlock (kind : Kind) (m : List ℕ) (start : ℕ) (blocks : List (L
 
 -- At each place there is one.
 module _ (kind : Kind) (m : List ℕ) (start : ℕ) where
-  each-from : (first blocks : List (List ℕ)) (at : ℕ) → start + length (joined first) ≡ at → PartAt m at (joined blocks) → Every (Sized kind) blocks → Every (OneBlock kind m start (first ++ blocks)) (placesFrom (sizeOf kind m) (length blocks) at)
+  abbrev EachFrom : List (List ℕ) → List (List ℕ) → ℕ → Type 0
+  EachFrom first blocks at = Every (OneBlock kind m start (first ++ blocks)) (placesFrom (sizeOf kind m) (length blocks) at)
+
+  each-from : (first blocks : List (List ℕ)) (at : ℕ) → start + length (joined first) ≡ at → PartAt m at (joined blocks) → Every (Sized kind) blocks → EachFrom first blocks at
   each-from first [] at there p none = none
   each-from first (block ∷ blocks) at there p (also s e) =
       let part = part-first block (joined blocks) p in
@@ -90,6 +93,6 @@ module _ (kind : Kind) (m : List ℕ) (start : ℕ) where
       also (record { before = first; block = block; after = blocks; splits = refl; part = part; sized = s; there = there })
       (rw (append-assoc, sym (part-size kind part s)) at more)
 
-pub each-block : {kind : Kind} {m : List ℕ} {start front : ℕ} {chunk : List ℕ} {count : ℕ} {blocks : List (List ℕ)} → BlocksIn kind m start front chunk count blocks → Every (OneBlock kind m start blocks) (placesFrom (sizeOf kind m) count start)
-each-block {kind} {m} {start} {blocks = blocks} b =
-    rw (← b .filled .number) (each-from kind m start [] blocks start (omega arith) (b .there) (b .sized))
+module _ {kind : Kind} {m : List ℕ} {start front : ℕ} {chunk : List ℕ} {count : ℕ} {blocks : List (List ℕ)} (b : BlocksIn kind m start front chunk count blocks) where
+  pub each-block : Every (OneBlock kind m start blocks) (placesFrom (sizeOf kind m) count start)
+  each-block = rw (← b .filled .number) (each-from kind m start [] blocks start (omega arith) (b .there) (b .sized))

@@ -68,9 +68,21 @@ module _ {m : List ℕ} {at : ℕ} {chunk : List ℕ} (part : PartAt m at chunk)
       at8 : number16 m (at + 8) ≡ number16 chunk 8
       at8 = number16-at part 8 (omega arith)
 
+      at10 : number16 m (at + 8 + 2) ≡ number16 chunk 10
+      at10 = info-number 2 (omega arith)
+
+      at12 : number16 m (at + 8 + 4) ≡ number16 chunk 12
+      at12 = info-number 4 (omega arith)
+
+      at14 : number16 m (at + 8 + 6) ≡ number16 chunk 14
+      at14 = info-number 6 (omega arith)
+
+      at16 : number16 m (at + 8 + 8) ≡ number16 chunk 16
+      at16 = info-number 8 (omega arith)
+
       forth : AllHold (infoRules m (at + 8)) → InfoRules chunk
       forth h =
-          let says = simp (at8, info-number 2 (omega arith), info-number 4 (omega arith), info-number 6 (omega arith), info-number 8 (omega arith), plain) at h in
+          let says = simp (at8, at10, at12, at14, at16, plain) at h in
           record {
             size = long;
             instruments = says .0;
@@ -82,7 +94,7 @@ module _ {m : List ℕ} {at : ℕ} {chunk : List ℕ} (part : PartAt m at chunk)
 
       back : InfoRules chunk → AllHold (infoRules m (at + 8))
       back r =
-          simp (at8, info-number 2 (omega arith), info-number 4 (omega arith), info-number 6 (omega arith), info-number 8 (omega arith), plain)
+          simp (at8, at10, at12, at14, at16, plain)
           (r .instruments, (r .samples, (r .songs, (r .patterns, (r .tracks .0, (r .tracks .1, r .tracks .2))))))
 
 -- M6, M7: what the tests on the chunks before say.

@@ -152,7 +152,8 @@ block-in-chunk m thing number b e = in-layout (found-opened m thing number b e .
         let opens = module-opens m l o in
         let i : ℕ = number - firstOf thing in
         let w = thing-whole (opens .places) thing i (s .counted) in
-        let inside : BlockIn m (kindOf thing) (chunkOf l thing) (blockAt m (kindOf thing) (chunkOf l thing) i) = block-in m (kindOf thing) (chunkOf l thing) (countOf m l thing) i (thing-fills m l (opens .content .blocks) thing (w .present)) (s .counted) in
+        let fills = thing-fills m l (opens .content .blocks) thing (w .present) in
+        let inside = block-in m (kindOf thing) (chunkOf l thing) (countOf m l thing) i fills (s .counted) in
         rw (s .block) (record {
           layout = l;
           opens = o;
@@ -206,4 +207,5 @@ module _ (m : List ℕ) (thing : Thing) (number : ℕ) (b : Block) (e : found m 
           absurd (omega arith)
       go false h =
           let all : number + 1 - firstOf thing ≡ countOf m l thing = omega (arith, s .first, s .counted, ltb-false (number + 1 - firstOf thing) (countOf m l thing) h) in
-          sym (next-in l o) ∙ ap (blockAt m (kindOf thing) (chunkOf l thing)) all ∙ thing-fills m l (opens .content .blocks) thing (thing-whole (opens .places) thing (number - firstOf thing) (s .counted) .present)
+          let w = thing-whole (opens .places) thing (number - firstOf thing) (s .counted) in
+          sym (next-in l o) ∙ ap (blockAt m (kindOf thing) (chunkOf l thing)) all ∙ thing-fills m l (opens .content .blocks) thing (w .present)

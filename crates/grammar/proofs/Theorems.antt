@@ -5,11 +5,15 @@
 --     says, one behind the other, and nothing else; VENV and PENV, where they are there, as many as their own count says. Of each block
 --     B2 to B6 and V1 to V7 hold; the stream of a pattern is rows of sound entries, as in theorem 6.
 --  9. The accepted modules are exactly the encodings of well-formed descriptions: crates/format/proofs/Theorems.antt.
--- 10. For every list of numbers: where the check refuses a module, the place of the refusal is as F17 says, and not past the module's
---     end. For 1 and 2 it is 0, for 3 it is 4, for 8 the end. For 4 and 5 a chunk's header begins there; for 6 that of a covered chunk,
---     for 7 that of SONG, INST, PATT or SMPL, for 9 that of NAME or INFO, for 11 that of SONG, INST, PATT, SMPL, VENV or PENV. For 10
---     it is in the data of INFO, for 12 in those of SONG, INST, VENV or PENV, for 13 in those of INST, VENV or PENV, and the chunk is
---     whole. For 14 the block of an instrument begins there, in the data of INST; for 15 that of a pattern, in the data of PATT.
+-- 10. For every list of bytes: where the check refuses a module, the place of the refusal is not past the module's end, and what is wrong
+--     there is what its number says, as `PlaceOf` states it with no reader (F17). 1: at 0, too many bytes. 2: at 0, fewer than 8 bytes, or
+--     they do not begin with DBM0. 3: at 4, version or revision. 4 to 7 and 9: a chunk's header begins there, after whole chunks, and of
+--     this chunk header or data are cut (4); the identifier is not four letters (5); it is covered, and one with its letters is before it
+--     (6); it is SONG, INST, PATT or SMPL, and no INFO is before it (7); it is NAME or INFO, of another length (9). 8: at the end, and one
+--     of the mandatory chunks is not among the chunks. 10: at the number of INFO that is out of range. For 11 to 15 nothing of 1 to 10 is
+--     wrong. 11: a chunk with blocks begins there, and is not made of so many blocks of their sizes. 12: at the entry, the sample or the
+--     instrument of a block that does not exist. 13: at the field of an instrument or of an envelope that is out of range. 14: the block of
+--     an instrument begins there, whose loop does not lie within its sample. 15: that of a pattern, whose packed bytes are no stream.
 -- 12. The register samples P1 to P12: what the definitions give, as numbers, is what the register says.
 -- 13. For every list of numbers: where a query finds the block of a song, an instrument, a pattern, a sample or an envelope, the module
 --     is accepted, the chunk that holds such blocks is there, with its own identifier and the length that its header says, the block

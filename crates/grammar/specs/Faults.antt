@@ -132,8 +132,8 @@ pub data InstrumentFault (block : List ℕ) : ℕ → Type 0 where
   panning : (PanningFits (number16 block 46) → ⊥) → InstrumentFault block 46
   flags : 4 ≤ number16 block 48 → InstrumentFault block 48
 
--- 13, V3 to V5: the field of an envelope that is out of range: flags, sections, S1, L1, L2, S2, or the value of one of the points in use,
--- of which there are at most 32.
+-- 13, V3 to V5: the field of an envelope that is out of range: flags; sections; where bit 1 of the flags is set S1, where bit 2 is L1, or L2,
+-- which is also wrong under L1, and where bit 3 is S2; or the value of one of the points in use, of which there are at most 32.
 pub data EnvelopeFault (ValueFits : ℕ → Type 0) (block : List ℕ) : ℕ → Type 0 where
   flags : 16 ≤ byteAt block 2 → EnvelopeFault ValueFits block 2
   sections : 31 < byteAt block 3 → EnvelopeFault ValueFits block 3
@@ -143,11 +143,11 @@ pub data EnvelopeFault (ValueFits : ℕ → Type 0) (block : List ℕ) : ℕ →
   secondSustain : byteAt block 2 / 2 / 2 / 2 % 2 ≡ 1 → byteAt block 3 < byteAt block 7 → EnvelopeFault ValueFits block 7
   value : (i : ℕ) → i ≤ byteAt block 3 → i < 32 → (ValueFits (number16 block (10 + 4 * i)) → ⊥) → EnvelopeFault ValueFits block (10 + 4 * i)
 
--- 13: the same of all blocks with such fields. The values of panning envelopes go by the version.
-pub data FieldFault (version : ℕ) (block : List ℕ) : Thing → ℕ → Type 0 where
-  instrument : {offset : ℕ} → InstrumentFault block offset → FieldFault version block Instrument offset
-  ofVolume : {offset : ℕ} → EnvelopeFault VolumeFits block offset → FieldFault version block VolumeEnvelope offset
-  ofPanning : {offset : ℕ} → EnvelopeFault (PanningValueFits version) block offset → FieldFault version block PanningEnvelope offset
+-- 13: the same of all blocks with such fields. The values of panning envelopes go by the version, which is in the module's header.
+pub data FieldFault (header block : List ℕ) : Thing → ℕ → Type 0 where
+  instrument : {offset : ℕ} → InstrumentFault block offset → FieldFault header block Instrument offset
+  ofVolume : {offset : ℕ} → EnvelopeFault VolumeFits block offset → FieldFault header block VolumeEnvelope offset
+  ofPanning : {offset : ℕ} → EnvelopeFault (PanningValueFits (byteAt header 4)) block offset → FieldFault header block PanningEnvelope offset
 
 -- 14, V6: an instrument is looped, and it has no sample, or its loop ends past the frames of its sample, which is one of SMPL's blocks.
 pub record LoopFault (chunks : List (List ℕ)) (info block : List ℕ) : Type 0 where
@@ -159,6 +159,6 @@ pub record LoopFault (chunks : List (List ℕ)) (info block : List ℕ) : Type 0
   pub exists : number16 block 30 ≤ length samples
   pub outside : (number16 block 30 ≡ 0) ⊎ (number32 (getD samples (number16 block 30 - 1) []) 4 < number32 block 38 + number32 block 42)
 
--- 15, V7: the packed bytes of a pattern are no stream of its rows and these tracks.
-pub record StreamFault (tracks : ℕ) (block : List ℕ) : Type 0 where
-  pub none : (entries : List (List Entry)) → StreamOf (number16 block 0) tracks (partOf block 6 (number32 block 2)) entries → ⊥
+-- 15, V7: the packed bytes of a pattern are no stream of its rows and INFO's tracks.
+pub record StreamFault (info block : List ℕ) : Type 0 where
+  pub none : (entries : List (List Entry)) → StreamOf (number16 block 0) (number16 info 16) (partOf block 6 (number32 block 2)) entries → ⊥

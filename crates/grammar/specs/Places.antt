@@ -8,7 +8,6 @@ use Rattle.refusal.specs.Numbers.{refusal}
 use Rattle.refusal.specs.declared.Cause.the-variants.{TooLong, NotAModule, Version, ChunkCut, Identifier, Repeated, BeforeInfo, Missing, FixedLength, InfoRange, Blocks, Reference, FieldRange, Loop, Stream}
 use Rattle.refusal.specs.declared.Refusal.{Refusal}
 use Rattle.cells.specs.Cells.{joined}
-use Rattle.numbers.specs.Numbers.{byteAt, number16}
 use Rattle.queries.specs.declared.Thing.{Thing}
 use Rattle.queries.specs.declared.Thing.the-variants.{Instrument, Pattern}
 use Rattle.grammar.specs.Rules.{Every, ChunkBytes, infoLetters, Among, NeedsInfo, ChunkRules}
@@ -65,6 +64,23 @@ pub record BlockAt {m : List ℕ} (all : AllChunks m) (thing : Thing) (place : �
   pub blocks : BlocksOf thing (all .info) (within .chunk) (before ++ (block ∷ after))
   pub there : start + frontOf thing + length (joined before) ≡ place
 
+-- A field of such a block begins at this place, and of the block, the thing and the field's offset this is so.
+pub record FieldAt {m : List ℕ} (all : AllChunks m) (Wrong : List ℕ → Thing → ℕ → Type 0) (place : ℕ) : Type 0 where
+  pub thing : Thing
+  pub start : ℕ
+  pub within : BlockAt all thing start
+  pub offset : ℕ
+  pub there : start + offset ≡ place
+  pub wrong : Wrong (within .block) thing offset
+
+-- F17: the place of each refusal from 11 to 15, and what is wrong there.
+pub data PlaceIn {m : List ℕ} (all : AllChunks m) : Refusal → Type 0 where
+  blocks : {thing : Thing} {place : ℕ} (at : BlocksAt all thing place) → BlocksFault thing (all .info) (at .chunk) → PlaceIn all (refusal Blocks place)
+  reference : {place : ℕ} → FieldAt all (ReferenceFault (all .info)) place → PlaceIn all (refusal Reference place)
+  fieldRange : {place : ℕ} → FieldAt all (FieldFault (all .header)) place → PlaceIn all (refusal FieldRange place)
+  loop : {place : ℕ} (at : BlockAt all Instrument place) → LoopFault (all .chunks) (all .info) (at .block) → PlaceIn all (refusal Loop place)
+  stream : {place : ℕ} (at : BlockAt all Pattern place) → StreamFault (all .info) (at .block) → PlaceIn all (refusal Stream place)
+
 -- F17: the place of each refusal of a module, from 1 to 15, and what is wrong there.
 pub data PlaceOf (m : List ℕ) : Refusal → Type 0 where
   tooLong : 16777216 < length m → PlaceOf m (refusal TooLong 0)
@@ -77,8 +93,4 @@ pub data PlaceOf (m : List ℕ) : Refusal → Type 0 where
   missing : {chunks : List (List ℕ)} → ChunksOf m chunks → MissingFault chunks → PlaceOf m (refusal Missing (length m))
   fixedLength : {place : ℕ} (at : ChunkAt m place) → LengthFault (at .chunk) → PlaceOf m (refusal FixedLength place)
   infoRange : {place offset : ℕ} (at : ChunkAt m place) → InfoFault (at .chunk) offset → PlaceOf m (refusal InfoRange (place + offset))
-  blocks : (all : AllChunks m) {thing : Thing} {place : ℕ} (at : BlocksAt all thing place) → BlocksFault thing (all .info) (at .chunk) → PlaceOf m (refusal Blocks place)
-  reference : (all : AllChunks m) {thing : Thing} {place offset : ℕ} (at : BlockAt all thing place) → ReferenceFault (all .info) (at .block) thing offset → PlaceOf m (refusal Reference (place + offset))
-  fieldRange : (all : AllChunks m) {thing : Thing} {place offset : ℕ} (at : BlockAt all thing place) → FieldFault (byteAt (all .header) 4) (at .block) thing offset → PlaceOf m (refusal FieldRange (place + offset))
-  loop : (all : AllChunks m) {place : ℕ} (at : BlockAt all Instrument place) → LoopFault (all .chunks) (all .info) (at .block) → PlaceOf m (refusal Loop place)
-  stream : (all : AllChunks m) {place : ℕ} (at : BlockAt all Pattern place) → StreamFault (number16 (all .info) 16) (at .block) → PlaceOf m (refusal Stream place)
+  content : (all : AllChunks m) {r : Refusal} → PlaceIn all r → PlaceOf m r
