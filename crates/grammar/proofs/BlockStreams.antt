@@ -97,7 +97,10 @@ pattern-holds {m} {block} {at} p s tracks e = record {
 
 -- A stream that is sound is accepted: that of the packed bytes.
 module _ {m block : List ℕ} {at : ℕ} (p : PartAt m at block) (s : Sized Pattern block) (below : Bytes m) (tracks : ℕ) (t : TracksFit tracks) where
-  pub sound-accepted : (e : List (List Entry)) → StreamOf (number16 block 0) tracks (partOf block 6 (number32 block 2)) e → AllHold (patternStreamRules m tracks at)
+  abbrev pub Sound : List (List Entry) → Type 0
+  Sound entries = StreamOf (number16 block 0) tracks (partOf block 6 (number32 block 2)) entries
+
+  pub sound-accepted : (entries : List (List Entry)) → Sound entries → AllHold (patternStreamRules m tracks at)
   unfolding sizeOf
   sound-accepted entries sound =
       let size : ℕ = number32 block 2 in

@@ -3,7 +3,6 @@
 use Prim.Native.Nat.{ℕ, _+_, _≤_}
 use mathlib.Core.Path.{_≡_, refl, sym, subst}
 use mathlib.Core.List.{List}
-use native.Mathlib.Omega.{arith}
 use lib.ListN.{length}
 use Rattle.layout.specs.declared.Place.{Place}
 use Rattle.layout.specs.declared.Layout.{Layout}

@@ -138,7 +138,7 @@ Told m (OutlineFound l) = Outlined m l
 Told m (Refused r) = Unit {0}
 
 told : (m : List ℕ) → Bytes m → Told m (outline m)
-told m below = along-outline m (Told m) (λ r e. tt) (λ before at reached less r e. tt) (λ all read lacks. tt) found
+told m below = along-outline m (Told m) (record { header = λ r e. tt; chunk = λ before at reached less r e. tt; missing = λ all read lacks. tt; found = found })
   where
     found : (all : List (List ℕ)) → AllRead m all → mandatoryThere (recordsFrom 8 all) ≡ true → Outlined m (layoutWith m (placesOf (recordsFrom 8 all)))
     found all read h =

@@ -219,9 +219,9 @@ missing-placed m all read =
     these : ChunksOf m all
     these = record { header = take 8 m; bytes = read .bytes; headerSize = read .front .headerSize; whole = whole }
 
-    lacks : {letters : List ℕ} (covers : Covered letters) → Mandatory letters → occurs (identifierOf covers) records ≡ false → Placed m (refusal Missing (length m))
-    lacks {letters} covers mandatory e =
-        let no = never (occurs-says covers 8 whole) e in
+    lacks : {letters : List ℕ} (c : Covered letters) → Mandatory letters → occurs (identifierOf c) records ≡ false → Placed m (refusal Missing (length m))
+    lacks {letters} c mandatory e =
+        let no = never (occurs-says c 8 whole) e in
         (missing these (record { letters = letters; mandatory = mandatory; lacks = λ chunk a. no (chunk, a) }), omega arith)
 
 -- What an outline says of places.
@@ -230,9 +230,12 @@ Told m (Found l) = Unit {0}
 Told m (Refused r) = Placed m r
 
 told : (m : List ℕ) → Told m (outline m)
-told m =
-    along-outline m (Told m) (first-broken (header-placed m)) (λ before at reached less. first-broken (chunk-placed reached less))
-    (missing-placed m) (λ all read mandatory. tt)
+told m = along-outline m (Told m) (record {
+  header = first-broken (header-placed m);
+  chunk = λ before at reached less. first-broken (chunk-placed reached less);
+  missing = missing-placed m;
+  found = λ all read mandatory. tt;
+})
 
 pub outline-place : (m : List ℕ) (r : Refusal) → outline m ≡ Refused r → Placed m r
 outline-place m r e = subst (Told m) e (told m)

@@ -4,7 +4,7 @@ use Prim.Native.Nat.{ℕ, _+_, _-_, _≤_, _<_}
 use mathlib.Core.Path.{_≡_, sym, _∙_}
 use mathlib.Core.Logic.{_⊎_, inl, inr}
 use mathlib.Core.List.{List, []}
-use mathlib.Core.Bool.{true, false, not, _&&_, _||_}
+use mathlib.Core.Bool.{false, not, _&&_, _||_}
 use native.Mathlib.Omega.{arith}
 use lib.ListN.{length, getD}
 use lib.Dec.{leb}
@@ -15,6 +15,7 @@ use Rattle.refusal.specs.declared.Cause.the-variants.{Blocks}
 use Rattle.refusal.specs.declared.Refusal.{Refusal}
 use Rattle.refusal.specs.declared.Verdict.the-variants.{Refused}
 use Rattle.numbers.specs.Numbers.{number16, number32}
+use Rattle.layout.specs.declared.Place.{Place}
 use Rattle.layout.specs.declared.Layout.{Layout}
 use Rattle.blocks.specs.Sizes.{sizeOf, blockAt}
 use Rattle.blocks.specs.Filling.{fills, flagsRules, blockRules}
@@ -75,7 +76,10 @@ module _ {m : List ℕ} {l : Layout} (o : Outlined m l) where
 
   -- 11: envelopes, where their chunk is there.
   module _ (thing : Thing) where
-    if-filling-placed : not (chunkOf l thing .present) || fills m (kindOf thing) (chunkOf l thing) (countOf m l thing) ≡ false → Placed m (refusal Blocks (chunkOf l thing .at))
+    abbrev place : Place
+    place = chunkOf l thing
+
+    if-filling-placed : not (place .present) || fills m (kindOf thing) place (countOf m l thing) ≡ false → Placed m (refusal Blocks (place .at))
     if-filling-placed e =
         let (present, over) = unless-broken (chunkOf l thing .present) _ e in
         filling-placed thing (found-of o thing .chunk present) over
@@ -113,11 +117,14 @@ module _ {m : List ℕ} {l : Layout} (o : Outlined m l) where
         frames : 1 ≤ sample → framesOf m (l .places .smpl) sample ≡ number32 (getD (samples .0) (sample - 1) []) 4
         frames some = frames-same (l .places .smpl) (samples .1) sample some exists
 
-        past-frames : leb 1 sample && leb end (framesOf m (l .places .smpl) sample) ≡ false → (sample ≡ 0) ⊎ (number32 (getD (samples .0) (sample - 1) []) 4 < end)
+        abbrev has : ℕ
+        has = framesOf m (l .places .smpl) sample
+
+        past-frames : leb 1 sample && leb end has ≡ false → (sample ≡ 0) ⊎ (number32 (getD (samples .0) (sample - 1) []) 4 < end)
         past-frames =
-            both-broken (leb 1 sample) (leb end (framesOf m (l .places .smpl) sample))
+            both-broken (leb 1 sample) (leb end has)
             (λ e. inl (omega (arith, leb-false 1 sample e)))
-            (λ some e. inr (rw (frames (leb-true 1 sample some)) at (leb-false end (framesOf m (l .places .smpl) sample) e)))
+            (λ some e. inr (rw (frames (leb-true 1 sample some)) at (leb-false end has e)))
 
       loop-fault : loopFits m (l .places .smpl) at ≡ false → LoopFault (o .chunks) (all-chunks o .info) block
       loop-fault e =

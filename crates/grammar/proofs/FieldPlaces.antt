@@ -1,6 +1,6 @@
 -- Refusals 12 and 13 (theorem 10): each is at a field of a block, and that field is wrong.
 use Prim.Native.Nat.{ℕ, _+_, _*_, _/_, _%_, _≤_, _<_}
-use mathlib.Core.Path.{_≡_, refl, sym, subst}
+use mathlib.Core.Path.{_≡_, refl, subst}
 use mathlib.Core.Logic.{_↔_, _⊎_, inl, inr}
 use mathlib.Core.List.{List}
 use mathlib.Core.Bool.{Bool, true, false, not, _&&_, _||_}
@@ -88,8 +88,9 @@ module _ {m : List ℕ} {l : Layout} (o : Outlined m l) where
       number-inside : k ≤ length (block b)
       number-inside = omega (arith, instrument-size (b .part) (b .sized))
 
-      number-placed : (test : ℕ → Bool) → (test (number16 (block b) k) ≡ false → InstrumentFault (block b) k) → test (number16 m (at + k)) ≡ false → RangeAt (at + k)
-      number-placed test fault e = range-placed b (at + k) refl number-inside (FieldFault.instrument (fault (rw number-is at e)))
+      module _ (test : ℕ → Bool) (fault : test (number16 (block b) k) ≡ false → InstrumentFault (block b) k) where
+        number-placed : test (number16 m (at + k)) ≡ false → RangeAt (at + k)
+        number-placed e = range-placed b (at + k) refl number-inside (FieldFault.instrument (fault (rw number-is at e)))
 
     sample-placed : leb (number16 m (at + 30)) (l .samples) ≡ false → ReferenceAt (at + 30)
     sample-placed e =

@@ -84,15 +84,15 @@ module _ (kind : Kind) (m : List ℕ) (start : ℕ) where
   abbrev EachFrom : List (List ℕ) → List (List ℕ) → ℕ → Type 0
   EachFrom first blocks at = Every (OneBlock kind m start (first ++ blocks)) (placesFrom (sizeOf kind m) (length blocks) at)
 
-  each-from : (first blocks : List (List ℕ)) (at : ℕ) → start + length (joined first) ≡ at → PartAt m at (joined blocks) → Every (Sized kind) blocks → EachFrom first blocks at
-  each-from first [] at there p none = none
-  each-from first (block ∷ blocks) at there p (also s e) =
+  each-from : (first blocks : List (List ℕ)) (at : ℕ) → PartAt m at (joined blocks) → Every (Sized kind) blocks → start + length (joined first) ≡ at → EachFrom first blocks at
+  each-from first [] at p none there = none
+  each-from first (block ∷ blocks) at p (also s e) there =
       let part = part-first block (joined blocks) p in
       let long : length (joined (first ++ (block ∷ []))) ≡ length (joined first) + length block = rw joined-last (length-append (joined first) block) in
-      let more = each-from (first ++ (block ∷ [])) blocks (at + length block) (omega arith) (part-rest block (joined blocks) p) e in
+      let more = each-from (first ++ (block ∷ [])) blocks (at + length block) (part-rest block (joined blocks) p) e (omega arith) in
       also (record { before = first; block = block; after = blocks; splits = refl; part = part; sized = s; there = there })
       (rw (append-assoc, sym (part-size kind part s)) at more)
 
 module _ {kind : Kind} {m : List ℕ} {start front : ℕ} {chunk : List ℕ} {count : ℕ} {blocks : List (List ℕ)} (b : BlocksIn kind m start front chunk count blocks) where
   pub each-block : Every (OneBlock kind m start blocks) (placesFrom (sizeOf kind m) count start)
-  each-block = rw (← b .filled .number) (each-from kind m start [] blocks start (omega arith) (b .there) (b .sized))
+  each-block = rw (← b .filled .number) (each-from kind m start [] blocks start (b .there) (b .sized) (omega arith))

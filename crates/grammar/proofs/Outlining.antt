@@ -28,19 +28,26 @@ pub record AllRead (m : List ℕ) (all : List (List ℕ)) : Type 0 where
   pub bytes : m ≡ take 8 m ++ joined all
   pub turn : InTurn [] all
 
-module _ (m : List ℕ) (P : Outline → Type 0) (header-broken : (r : Refusal) → firstBroken (headerRules m) ≡ VerdictRefused r → P (Refused r)) (chunk-broken : (before : List (List ℕ)) (at : ℕ) → Reached m (take 8 m) before at → at < length m → (r : Refusal) → firstBroken (chunkRules m (recordsFrom 8 before) at) ≡ VerdictRefused r → P (Refused r)) (missing : (all : List (List ℕ)) → AllRead m all → mandatoryThere (recordsFrom 8 all) ≡ false → P (Refused (refusal Missing (length m)))) (found : (all : List (List ℕ)) → AllRead m all → mandatoryThere (recordsFrom 8 all) ≡ true → P (Found (layoutWith m (placesOf (recordsFrom 8 all))))) where
+-- What is shown of each way that an outline can come out.
+pub record EachOutline (m : List ℕ) (P : Outline → Type 0) : Type 0 where
+  pub header : (r : Refusal) → firstBroken (headerRules m) ≡ VerdictRefused r → P (Refused r)
+  pub chunk : (before : List (List ℕ)) (at : ℕ) → Reached m (take 8 m) before at → at < length m → (r : Refusal) → firstBroken (chunkRules m (recordsFrom 8 before) at) ≡ VerdictRefused r → P (Refused r)
+  pub missing : (all : List (List ℕ)) → AllRead m all → mandatoryThere (recordsFrom 8 all) ≡ false → P (Refused (refusal Missing (length m)))
+  pub found : (all : List (List ℕ)) → AllRead m all → mandatoryThere (recordsFrom 8 all) ≡ true → P (Found (layoutWith m (placesOf (recordsFrom 8 all))))
+
+module _ (m : List ℕ) (P : Outline → Type 0) (each : EachOutline m P) where
   all-read : (all : List (List ℕ)) → AllRead m all → (b : Bool) → mandatoryThere (recordsFrom 8 all) ≡ b → P (cond b (Found (layoutWith m (placesOf (recordsFrom 8 all)))) (Refused (refusal Missing (length m))))
-  all-read all read true h = found all read h
-  all-read all read false h = missing all read h
+  all-read all read true h = each .found all read h
+  all-read all read false h = each .missing all read h
 
   by-header : (v : Verdict) → firstBroken (headerRules m) ≡ v → P (outlineIf v (outlineOf m (chunks m)))
-  by-header (VerdictRefused r) h = header-broken r h
+  by-header (VerdictRefused r) h = each .header r h
   by-header Accepted h =
       let hold = accepted-hold (headerRules m) .0 h in
       let front = reached-first m ((simp plain at hold) .1 .0 .0) in
       along (λ (w : Walk). P (outlineOf m w))
       (λ all bytes turn. all-read all (record { header = hold; front = front; bytes = bytes; turn = turn }) (mandatoryThere (recordsFrom 8 all)) refl)
-      chunk-broken front
+      (each .chunk) front
 
   pub along-outline : P (outline m)
   along-outline = by-header (firstBroken (headerRules m)) refl

@@ -99,7 +99,7 @@ Told m (Found l) = PlacesWhole m l
 Told m (Refused r) = Unit {0}
 
 told : (m : List ℕ) → Told m (outline m)
-told m = along-outline m (Told m) (λ r e. tt) (λ before at reached less r e. tt) (λ all read lacks. tt) places-of
+told m = along-outline m (Told m) (record { header = λ r e. tt; chunk = λ before at reached less r e. tt; missing = λ all read lacks. tt; found = places-of })
 
 pub outline-places : (m : List ℕ) (l : Layout) → outline m ≡ Found l → PlacesWhole m l
 outline-places m l e = subst (Told m) e (told m)
