@@ -11,8 +11,8 @@ use Rattle.queries.specs.Finding.{kindOf, chunkOf, countOf}
 use Rattle.queries.specs.declared.Thing.{Thing}
 use Rattle.queries.specs.declared.Thing.the-variants.{Song, Instrument, Pattern, Sample, VolumeEnvelope, PanningEnvelope}
 use Rattle.grammar.specs.Rules.{Every, NeedsInfo}
-use Rattle.grammar.specs.Faults.{lettersOf, frontOf, countIn, SizeFits, BlocksOf}
-use Rattle.grammar.specs.Places.{AllChunks, BlocksAt, BlockAt}
+use Rattle.grammar.specs.Faults.{lettersOf, frontOf, countIn, SizeFits, MadeOf}
+use Rattle.grammar.specs.Places.{AllChunks, BlocksAt, BlockBegins}
 use Rattle.grammar.proofs.Standing.{Stands, Found, CountsOf}
 use Rattle.grammar.proofs.Locating.{PartAt}
 use Rattle.grammar.proofs.Holding.{every-of}
@@ -92,14 +92,14 @@ module _ {m : List ℕ} {l : Layout} (o : Outlined m l) where
     blocks-at = record { chunk = there .0; among = there .1; there = sym (found-of thing .begins (there .0) (there .1)) }
 
     -- Blocks of which the rules say that the chunk is made are those that the check counts.
-    pub blocks-there : (list : List (List ℕ)) → BlocksOf thing (all-chunks .info) (there .0) list → BlocksThere thing (there .0) list
+    pub blocks-there : (list : List (List ℕ)) → MadeOf thing (all-chunks .info) (there .0) list → BlocksThere thing (there .0) list
     blocks-there list b =
         filled-blocks stands-of (kindOf thing) (frontOf thing) (countOf m l thing) list
         (counted (sym (count-is thing stands-of (b .filled .fronts))) (b .filled)) (every-of (sized-of thing) (b .sizes))
 
   -- A block of a thing begins at this place, where the module has its bytes.
   pub record Begins (thing : Thing) (at : ℕ) : Type 0 where
-    pub here : BlockAt all-chunks thing at
+    pub here : BlockBegins all-chunks thing at
     pub part : PartAt m at (here .block)
     pub sized : Sized (kindOf thing) (here .block)
 
@@ -121,7 +121,7 @@ module _ {m : List ℕ} {l : Layout} (o : Outlined m l) where
           let end = thing-fills m l fill thing (s .there) in
           fill-blocks s (kindOf thing) (frontOf thing) (countOf m l thing) (rw (first-is thing (chunkOf l thing)) at end)
 
-      pub blocks-of : BlocksOf thing (all-chunks .info) (there .0) (thing-blocks .0)
+      pub blocks-of : MadeOf thing (all-chunks .info) (there .0) (thing-blocks .0)
       blocks-of =
           let b = thing-blocks .1 in
           record { filled = counted (count-is thing (stands-of thing there) (b .filled .fronts)) (b .filled); sizes = sizes-of thing b }
@@ -134,7 +134,7 @@ module _ {m : List ℕ} {l : Layout} (o : Outlined m l) where
           before = one .before;
           block = one .block;
           after = one .after;
-          blocks = subst (BlocksOf thing (all-chunks .info) (there .0)) (one .splits) blocks-of;
+          blocks = subst (MadeOf thing (all-chunks .info) (there .0)) (one .splits) blocks-of;
           there = one .there;
         };
         part = one .part;

@@ -20,7 +20,7 @@ use Rattle.layout.specs.declared.Outline.{Outline}
 use Rattle.layout.specs.declared.Outline.the-variants.{Found, Refused}
 use Rattle.grammar.specs.Rules.{Every, ChunkBytes, infoLetters, Covered, NeedsInfo}
 use Rattle.grammar.specs.Faults.{HeaderFault, VersionFault, CutFault, IdentifierFault, LengthFault, RangeFault}
-use Rattle.grammar.specs.Places.{ChunkAt, ChunksOf, PlaceOf, tooLong, notAModule, version, chunkCut, identifier, repeated, beforeInfo, missing, fixedLength, infoRange}
+use Rattle.grammar.specs.Places.{ChunkBegins, ChunksOf, PlaceOf, tooLong, notAModule, version, chunkCut, identifier, repeated, beforeInfo, missing, fixedLength, infoRange}
 use Rattle.grammar.proofs.Locating.{PartAt, byteAt-at, number16-at, number32-at, part-inside}
 use Rattle.grammar.proofs.Holding.{eqb-says, and-says, unless-says, plain}
 use Rattle.grammar.proofs.FirstBroken.{WhereBroken, no-rule, this-or, first-broken, broken-if, never, not-broken, both-broken, neither-broken, unless-broken}
@@ -104,7 +104,7 @@ module _ {m header : List ℕ} {before : List (List ℕ)} {at : ℕ} (r : Reache
 
   -- The others are of a whole chunk.
   module _ {chunk : List ℕ} (part : PartAt m at chunk) (c : ChunkBytes chunk) where
-    abbrev chunk-at : ChunkAt m at
+    abbrev chunk-at : ChunkBegins m at
     chunk-at = record {
       begins = record {
         header = header;

@@ -28,7 +28,7 @@ use Rattle.queries.specs.Finding.{kindOf, chunkOf, countOf}
 use Rattle.queries.specs.declared.Thing.{Thing}
 use Rattle.queries.specs.declared.Thing.the-variants.{Song, Instrument, Pattern, Sample, VolumeEnvelope, PanningEnvelope}
 use Rattle.grammar.specs.Rules.{Bytes}
-use Rattle.grammar.specs.Faults.{lettersOf, BlocksOf, BlocksFault, LoopFault, StreamFault}
+use Rattle.grammar.specs.Faults.{lettersOf, MadeOf, BlocksFault, LoopFault, PatternFault}
 use Rattle.grammar.specs.Places.{blocks, loop, stream, content}
 use Rattle.grammar.proofs.Locating.{number16-at, number32-at, part-inside}
 use Rattle.grammar.proofs.Holding.{false-never, every-first, every-of, every-both, AllHold, every-place}
@@ -50,7 +50,7 @@ module _ {m : List ℕ} {l : Layout} (o : Outlined m l) where
     blocks-placed : BlocksFault thing (all-chunks o .info) (there .0) → Placed m (refusal Blocks (chunkOf l thing .at))
     blocks-placed fault = (content (all-chunks o) (blocks (blocks-at o thing there) fault), omega (arith, part-inside (stands-part (stands-of o thing there))))
 
-    ends : (list : List (List ℕ)) → BlocksOf thing (all-chunks o .info) (there .0) list → ThingFills m l thing
+    ends : (list : List (List ℕ)) → MadeOf thing (all-chunks o .info) (there .0) list → ThingFills m l thing
     ends list b =
         let s = stands-of o thing there in
         rw (first-is thing (chunkOf l thing)) (blocks-fill s _ _ (countOf m l thing) list (blocks-there o thing there list b))
@@ -63,7 +63,7 @@ module _ {m : List ℕ} {l : Layout} (o : Outlined m l) where
     abbrev flagsOf : List Rule
     flagsOf = flagsRules m (l .places .smpl) (blockAt m SampleKind (l .places .smpl) i)
 
-    flags-fit : (list : List (List ℕ)) → BlocksOf Sample (all-chunks o .info) (o .mandatory .smpl .0) list → AllHold flagsOf
+    flags-fit : (list : List (List ℕ)) → MadeOf Sample (all-chunks o .info) (o .mandatory .smpl .0) list → AllHold flagsOf
     flags-fit list b =
         let here = blocks-there o Sample (o .mandatory .smpl) list b in
         let flags = blocks-every here (λ at block p s. sample-holds p s (l .places .smpl)) .1 (b .sizes) in
@@ -159,7 +159,7 @@ module _ {m : List ℕ} {l : Layout} (o : Outlined m l) where
       tracks-fit = rw (counts o .4) (o .rules .info (all-chunks o .info) (all-chunks o .infoThere) .tracks)
 
       module _ (at : ℕ) (b : Begins o Pattern at) where
-        stream-fault : accepted (streamVerdict m (l .tracks) at) ≡ false → StreamFault (all-chunks o .info) (b .here .block)
+        stream-fault : accepted (streamVerdict m (l .tracks) at) ≡ false → PatternFault (all-chunks o .info) (b .here .block)
         stream-fault e =
             let holds = sound-accepted (b .part) (b .sized) below (l .tracks) tracks-fit in
             record { none = λ entries sound. false-never (sym e ∙ every-first (holds entries (rw (counts o .4) sound))) }

@@ -21,7 +21,7 @@ use Rattle.queries.specs.Finding.{kindOf, chunkOf, countOf}
 use Rattle.queries.specs.declared.Thing.{Thing}
 use Rattle.queries.specs.declared.Thing.the-variants.{Song, Instrument, VolumeEnvelope, PanningEnvelope}
 use Rattle.grammar.specs.Rules.{VolumeFits, PanningValueFits}
-use Rattle.grammar.specs.Faults.{lettersOf, NoInstrument, ReferenceFault, InstrumentFault, EnvelopeFault, FieldFault}
+use Rattle.grammar.specs.Faults.{lettersOf, InstrumentLacks, ReferenceFault, InstrumentFault, EnvelopeFault, FieldFault}
 use Rattle.grammar.specs.Places.{FieldAt, reference, fieldRange, content}
 use Rattle.grammar.proofs.Locating.{number16-at, number16-start, part-inside}
 use Rattle.grammar.proofs.Holding.{leb-says, every-first, every-rest, every-of, every-step}
@@ -109,7 +109,7 @@ module _ {m : List ℕ} {l : Layout} (o : Outlined m l) where
   record Enveloped (thing : Thing) (signed : Bool) (ValueFits : ℕ → Type 0) : Type 0 where
     kind : kindOf thing ≡ Envelope
     absent : chunkOf l thing .present ≡ false → countOf m l thing ≡ 0
-    referring : (block : List ℕ) → NoInstrument infoBytes block → ReferenceFault infoBytes block thing 0
+    referring : (block : List ℕ) → InstrumentLacks infoBytes block → ReferenceFault infoBytes block thing 0
     ranging : (block : List ℕ) (offset : ℕ) → EnvelopeFault ValueFits block offset → FieldFault (o .header) block thing offset
     says : (v : ℕ) → (valueFits signed v ≡ true) ↔ ValueFits v
 
@@ -147,7 +147,7 @@ module _ {m : List ℕ} {l : Layout} (o : Outlined m l) where
       byte-placed e = fault-placed (at + k) refl (omega arith) (fault (rw (byte-is k low) at e))
 
     -- The instrument, flags and sections.
-    no-instrument : leb 1 (number16 (block b) 0) && leb (number16 (block b) 0) (l .instruments) ≡ false → NoInstrument infoBytes (block b)
+    no-instrument : leb 1 (number16 (block b) 0) && leb (number16 (block b) 0) (l .instruments) ≡ false → InstrumentLacks infoBytes (block b)
     no-instrument =
         both-broken (leb 1 (number16 (block b) 0)) (leb (number16 (block b) 0) (l .instruments))
         (λ none. inl (omega (arith, leb-false 1 (number16 (block b) 0) none)))

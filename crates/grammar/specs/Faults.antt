@@ -51,7 +51,7 @@ SizeFits VolumeEnvelope block = length block ≡ 136
 SizeFits PanningEnvelope block = length block ≡ 136
 
 -- B1: the chunk is its front and these blocks, as many as it has, each as long as its bytes say, and nothing else.
-pub record BlocksOf (thing : Thing) (info chunk : List ℕ) (blocks : List (List ℕ)) : Type 0 where
+pub record MadeOf (thing : Thing) (info chunk : List ℕ) (blocks : List (List ℕ)) : Type 0 where
   pub filled : Filled (frontOf thing) chunk (countIn thing info chunk) blocks
   pub sizes : Every (SizeFits thing) blocks
 
@@ -113,18 +113,18 @@ pub record InfoFault (chunk : List ℕ) (offset : ℕ) : Type 0 where
 
 -- 11: the chunk is not made of such blocks.
 pub record BlocksFault (thing : Thing) (info chunk : List ℕ) : Type 0 where
-  pub none : (blocks : List (List ℕ)) → BlocksOf thing info chunk blocks → ⊥
+  pub none : (blocks : List (List ℕ)) → MadeOf thing info chunk blocks → ⊥
 
 -- 12, V1 to V3: what a block refers to does not exist: the pattern of an entry, patterns counted from 0; the sample of an instrument, from
 -- 1, where 0 is none; the instrument of an envelope, from 1.
-abbrev pub NoInstrument : List ℕ → List ℕ → Type 0
-NoInstrument counts block = (number16 block 0 ≡ 0) ⊎ (number16 counts 8 < number16 block 0)
+abbrev pub InstrumentLacks : List ℕ → List ℕ → Type 0
+InstrumentLacks counts block = (number16 block 0 ≡ 0) ⊎ (number16 counts 8 < number16 block 0)
 
 pub data ReferenceFault (info block : List ℕ) : Thing → ℕ → Type 0 where
   entry : (i : ℕ) → i < number16 block 44 → number16 info 14 ≤ number16 block (46 + 2 * i) → ReferenceFault info block Song (46 + 2 * i)
   sample : number16 info 10 < number16 block 30 → ReferenceFault info block Instrument 30
-  ofVolume : NoInstrument info block → ReferenceFault info block VolumeEnvelope 0
-  ofPanning : NoInstrument info block → ReferenceFault info block PanningEnvelope 0
+  ofVolume : InstrumentLacks info block → ReferenceFault info block VolumeEnvelope 0
+  ofPanning : InstrumentLacks info block → ReferenceFault info block PanningEnvelope 0
 
 -- 13, V2: the field of an instrument that is out of range.
 pub data InstrumentFault (block : List ℕ) : ℕ → Type 0 where
@@ -154,11 +154,11 @@ pub record LoopFault (chunks : List (List ℕ)) (info block : List ℕ) : Type 0
   pub smpl : List ℕ
   pub among : Among chunks smplLetters smpl
   pub samples : List (List ℕ)
-  pub blocks : BlocksOf Sample info smpl samples
+  pub blocks : MadeOf Sample info smpl samples
   pub looped : Looped block
   pub exists : number16 block 30 ≤ length samples
   pub outside : (number16 block 30 ≡ 0) ⊎ (number32 (getD samples (number16 block 30 - 1) []) 4 < number32 block 38 + number32 block 42)
 
 -- 15, V7: the packed bytes of a pattern are no stream of its rows and INFO's tracks.
-pub record StreamFault (info block : List ℕ) : Type 0 where
+pub record PatternFault (info block : List ℕ) : Type 0 where
   pub none : (entries : List (List Entry)) → StreamOf (number16 block 0) (number16 info 16) (partOf block 6 (number32 block 2)) entries → ⊥

@@ -11,7 +11,7 @@ use Rattle.cells.specs.Cells.{joined}
 use Rattle.queries.specs.declared.Thing.{Thing}
 use Rattle.queries.specs.declared.Thing.the-variants.{Instrument, Pattern}
 use Rattle.grammar.specs.Rules.{Every, ChunkBytes, infoLetters, Among, NeedsInfo, ChunkRules}
-use Rattle.grammar.specs.Faults.{lettersOf, frontOf, BlocksOf, HeaderFault, VersionFault, CutFault, IdentifierFault, RepeatedFault, OrderFault, MissingFault, LengthFault, InfoFault, BlocksFault, ReferenceFault, FieldFault, LoopFault, StreamFault}
+use Rattle.grammar.specs.Faults.{lettersOf, frontOf, MadeOf, HeaderFault, VersionFault, CutFault, IdentifierFault, RepeatedFault, OrderFault, MissingFault, LengthFault, InfoFault, BlocksFault, ReferenceFault, FieldFault, LoopFault, PatternFault}
 
 -- A chunk's header begins at this place: the module's header and whole chunks are before it, and at least a byte follows.
 pub record HeaderAt (m : List ℕ) (place : ℕ) : Type 0 where
@@ -25,7 +25,7 @@ pub record HeaderAt (m : List ℕ) (place : ℕ) : Type 0 where
   pub follows : place < length m
 
 -- A whole chunk begins at this place.
-pub record ChunkAt (m : List ℕ) (place : ℕ) : Type 0 where
+pub record ChunkBegins (m : List ℕ) (place : ℕ) : Type 0 where
   pub begins : HeaderAt m place
   pub chunk : List ℕ
   pub rest : List ℕ
@@ -55,31 +55,31 @@ pub record BlocksAt {m : List ℕ} (all : AllChunks m) (thing : Thing) (place : 
   pub there : 8 + length (joined (among .before)) ≡ place
 
 -- A block of a thing begins at this place: it is one of the blocks that its chunk is made of.
-pub record BlockAt {m : List ℕ} (all : AllChunks m) (thing : Thing) (place : ℕ) : Type 0 where
+pub record BlockBegins {m : List ℕ} (all : AllChunks m) (thing : Thing) (place : ℕ) : Type 0 where
   pub start : ℕ
   pub within : BlocksAt all thing start
   pub before : List (List ℕ)
   pub block : List ℕ
   pub after : List (List ℕ)
-  pub blocks : BlocksOf thing (all .info) (within .chunk) (before ++ (block ∷ after))
+  pub blocks : MadeOf thing (all .info) (within .chunk) (before ++ (block ∷ after))
   pub there : start + frontOf thing + length (joined before) ≡ place
 
 -- A field of such a block begins at this place, and of the block, the thing and the field's offset this is so.
 pub record FieldAt {m : List ℕ} (all : AllChunks m) (Wrong : List ℕ → Thing → ℕ → Type 0) (place : ℕ) : Type 0 where
   pub thing : Thing
   pub start : ℕ
-  pub within : BlockAt all thing start
+  pub within : BlockBegins all thing start
   pub offset : ℕ
   pub there : start + offset ≡ place
   pub wrong : Wrong (within .block) thing offset
 
 -- F17: the place of each refusal from 11 to 15, and what is wrong there.
-pub data PlaceIn {m : List ℕ} (all : AllChunks m) : Refusal → Type 0 where
-  blocks : {thing : Thing} {place : ℕ} (at : BlocksAt all thing place) → BlocksFault thing (all .info) (at .chunk) → PlaceIn all (refusal Blocks place)
-  reference : {place : ℕ} → FieldAt all (ReferenceFault (all .info)) place → PlaceIn all (refusal Reference place)
-  fieldRange : {place : ℕ} → FieldAt all (FieldFault (all .header)) place → PlaceIn all (refusal FieldRange place)
-  loop : {place : ℕ} (at : BlockAt all Instrument place) → LoopFault (all .chunks) (all .info) (at .block) → PlaceIn all (refusal Loop place)
-  stream : {place : ℕ} (at : BlockAt all Pattern place) → StreamFault (all .info) (at .block) → PlaceIn all (refusal Stream place)
+pub data ContentPlace {m : List ℕ} (all : AllChunks m) : Refusal → Type 0 where
+  blocks : {thing : Thing} {place : ℕ} (at : BlocksAt all thing place) → BlocksFault thing (all .info) (at .chunk) → ContentPlace all (refusal Blocks place)
+  reference : {place : ℕ} → FieldAt all (ReferenceFault (all .info)) place → ContentPlace all (refusal Reference place)
+  fieldRange : {place : ℕ} → FieldAt all (FieldFault (all .header)) place → ContentPlace all (refusal FieldRange place)
+  loop : {place : ℕ} (at : BlockBegins all Instrument place) → LoopFault (all .chunks) (all .info) (at .block) → ContentPlace all (refusal Loop place)
+  stream : {place : ℕ} (at : BlockBegins all Pattern place) → PatternFault (all .info) (at .block) → ContentPlace all (refusal Stream place)
 
 -- F17: the place of each refusal of a module, from 1 to 15, and what is wrong there.
 pub data PlaceOf (m : List ℕ) : Refusal → Type 0 where
@@ -88,9 +88,9 @@ pub data PlaceOf (m : List ℕ) : Refusal → Type 0 where
   version : 8 ≤ length m → VersionFault m → PlaceOf m (refusal Version 4)
   chunkCut : {place : ℕ} (at : HeaderAt m place) → CutFault (at .after) → PlaceOf m (refusal ChunkCut place)
   identifier : {place : ℕ} (at : HeaderAt m place) → IdentifierFault (at .after) → PlaceOf m (refusal Identifier place)
-  repeated : {place : ℕ} (at : ChunkAt m place) → RepeatedFault (at .begins .before) (at .chunk) → PlaceOf m (refusal Repeated place)
-  beforeInfo : {place : ℕ} (at : ChunkAt m place) → OrderFault (at .begins .before) (at .chunk) → PlaceOf m (refusal BeforeInfo place)
+  repeated : {place : ℕ} (at : ChunkBegins m place) → RepeatedFault (at .begins .before) (at .chunk) → PlaceOf m (refusal Repeated place)
+  beforeInfo : {place : ℕ} (at : ChunkBegins m place) → OrderFault (at .begins .before) (at .chunk) → PlaceOf m (refusal BeforeInfo place)
   missing : {chunks : List (List ℕ)} → ChunksOf m chunks → MissingFault chunks → PlaceOf m (refusal Missing (length m))
-  fixedLength : {place : ℕ} (at : ChunkAt m place) → LengthFault (at .chunk) → PlaceOf m (refusal FixedLength place)
-  infoRange : {place offset : ℕ} (at : ChunkAt m place) → InfoFault (at .chunk) offset → PlaceOf m (refusal InfoRange (place + offset))
-  content : (all : AllChunks m) {r : Refusal} → PlaceIn all r → PlaceOf m r
+  fixedLength : {place : ℕ} (at : ChunkBegins m place) → LengthFault (at .chunk) → PlaceOf m (refusal FixedLength place)
+  infoRange : {place offset : ℕ} (at : ChunkBegins m place) → InfoFault (at .chunk) offset → PlaceOf m (refusal InfoRange (place + offset))
+  content : (all : AllChunks m) {r : Refusal} → ContentPlace all r → PlaceOf m r
