@@ -123,6 +123,9 @@ module _ (tracks : ℕ) (block : List ℕ) (r : PatternRules tracks block) where
   pattern-stream : PartAt block 6 (r .stream)
   pattern-stream = record { before = r .front; after = r .filler; bytes = r .bytes; starts = r .frontSize }
 
+  pub pattern-sound : StreamOf (number16 block 0) tracks (partOf block 6 (number32 block 2)) (r .entries)
+  pattern-sound = rw (pattern-rows, pattern-packed, part-is pattern-stream) (r .sound)
+
   pub pattern-sized : Sized Pattern block
   unfolding sizeOf
   pattern-sized = rw pattern-packed pattern-length

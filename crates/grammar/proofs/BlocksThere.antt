@@ -34,7 +34,7 @@ first-is VolumeEnvelope place = refl
 first-is PanningEnvelope place = refl
 
 -- The size of a block, as the rules have it and as the check computes it.
-sized-of : (thing : Thing) (block : List ℕ) → SizeFits thing block → Sized (kindOf thing) block
+pub sized-of : (thing : Thing) (block : List ℕ) → SizeFits thing block → Sized (kindOf thing) block
 unfolding sizeOf
 sized-of Song block s = s
 sized-of Instrument block s = s

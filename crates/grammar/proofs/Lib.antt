@@ -24,6 +24,9 @@ pub mod FieldPlaces
 pub mod ContentPlaces
 pub mod Acceptance
 pub mod RefusalPlaces
+pub mod OneSplit
+pub mod FaultlessChunks
+pub mod Faultless
 pub mod FoundBlocks
 pub mod SampleFrames
 pub mod ShownBytes

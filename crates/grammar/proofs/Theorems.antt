@@ -13,7 +13,8 @@
 --     of the mandatory chunks is not among the chunks. 10: at the number of INFO that is out of range. For 11 to 15 nothing of 1 to 10 is
 --     wrong. 11: a chunk with blocks begins there, and is not made of so many blocks of their sizes. 12: at the entry, the sample or the
 --     instrument of a block that does not exist. 13: at the field of an instrument or of an envelope that is out of range. 14: the block of
---     an instrument begins there, whose loop does not lie within its sample. 15: that of a pattern, whose packed bytes are no stream.
+--     an instrument begins there, whose loop does not lie within its sample. 15: that of a pattern, whose packed bytes are no stream. And
+--     where the check accepts a module, nothing of this is wrong, at any place.
 -- 12. The register samples P1 to P12: what the definitions give, as numbers, is what the register says.
 -- 13. For every list of numbers: where a query finds the block of a song, an instrument, a pattern, a sample or an envelope, the module
 --     is accepted, the chunk that holds such blocks is there, with its own identifier and the length that its header says, the block
@@ -75,6 +76,7 @@ use Rattle.grammar.specs.Places.{PlaceOf}
 use Rattle.grammar.specs.Queries.{InChunk, FramesIn, HasCell, storedCell, valueAt, Between}
 use Rattle.grammar.proofs.Acceptance as Acceptance
 use Rattle.grammar.proofs.RefusalPlaces as RefusalPlaces
+use Rattle.grammar.proofs.Faultless as Faultless
 use Rattle.grammar.proofs.Samples as Samples
 use Rattle.grammar.proofs.FoundBlocks as FoundBlocks
 use Rattle.grammar.proofs.SampleFrames as SampleFrames
@@ -90,6 +92,9 @@ accepted-exactly = Acceptance.accepted-exactly
 -- 10.
 pub refusal-place : (m : List ℕ) → Bytes m → (r : Refusal) → moduleVerdict m ≡ Refused r → PlaceOf m r × (r .place ≤ length m)
 refusal-place = RefusalPlaces.refusal-place
+
+pub accepted-faultless : (m : List ℕ) → Bytes m → moduleVerdict m ≡ Accepted → (r : Refusal) → PlaceOf m r → ⊥
+accepted-faultless = Faultless.accepted-faultless
 
 -- 12.
 pub samples-agree : map (λ (s : Samples.Sample). s .found) Samples.samples ≡ map (λ (s : Samples.Sample). s .registered) Samples.samples
