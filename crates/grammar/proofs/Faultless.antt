@@ -35,7 +35,7 @@ use Rattle.grammar.proofs.OneSplit.{split-same, all-same, blocks-own}
 use Rattle.grammar.proofs.FaultlessChunks.{no-header-fault, no-version-fault, no-cut-fault, no-identifier-fault, no-repeated-fault, no-order-fault, no-length-fault, no-info-fault, no-missing-fault}
 
 -- Fields.
-no-envelope-fault : {instruments : ℕ} {ValueFits : ℕ → Type 0} {block : List ℕ} {offset : ℕ} → EnvelopeRules instruments ValueFits block → EnvelopeFault ValueFits block offset → ⊥
+no-envelope-fault : {n : ℕ} {ValueFits : ℕ → Type 0} {block : List ℕ} {offset : ℕ} → EnvelopeRules n ValueFits block → EnvelopeFault ValueFits block offset → ⊥
 no-envelope-fault r (EnvelopeFault.flags h) = absurd (omega (arith, r .flags))
 no-envelope-fault r (EnvelopeFault.sections h) = absurd (omega (arith, r .sections))
 no-envelope-fault r (EnvelopeFault.firstSustain set over) = absurd (omega (arith, r .firstSustain set))
@@ -156,9 +156,9 @@ module _ {m : List ℕ} (below : Bytes m) (accepted : moduleVerdict m ≡ Accept
   RulesOf PanningEnvelope block = EnvelopeRules (number16 (all .info) 8) (PanningValueFits (byteAt (all .header) 4)) block
 
   -- Those of an instrument, with the samples of any chunk that is SMPL.
-  module _ {place : ℕ} (b : BlockAt all Instrument place) {smpl : List ℕ} (d : Is smplLetters smpl) {samples : List (List ℕ)} (made : BlocksOf Sample (all .info) smpl samples) where
-    instrument-rules : InstrumentRules samples (b .block)
-    instrument-rules =
+  module _ {place : ℕ} (b : BlockAt all Instrument place) {smpl : List ℕ} (d : Is smplLetters smpl) {samples : List (List ℕ)} where
+    instrument-rules : BlocksOf Sample (all .info) smpl samples → InstrumentRules samples (b .block)
+    instrument-rules made =
         let c = content-of (any-song .1) (b .within .among) (any-patt .1) d in
         let rules = block-has b (instruments-made c) (c .instrumentRules) in
         subst (λ (list : List (List ℕ)). InstrumentRules list (b .block)) (blocks-same Sample (samples-made c) made) rules
@@ -234,7 +234,7 @@ accepted-faultless m below accepted r place = go (accepted-exactly m below .0 ac
     go rules (identifier at fault) = no-identifier-fault (rules .chunkRules) at fault
     go rules (repeated at fault) = no-repeated-fault (rules .chunkRules) at fault
     go rules (beforeInfo at fault) = no-order-fault (rules .chunkRules) at fault
-    go rules (missing {chunks = others} of fault) = no-missing-fault (rules .chunkRules) others of fault (rules .info, rules .infoThere) (needed rules)
+    go rules (missing {chunks = others} of fault) = no-missing-fault (rules .chunkRules) (rules .info, rules .infoThere) (needed rules) others of fault
     go rules (fixedLength at fault) = no-length-fault (rules .chunkRules) at fault
     go rules (infoRange {offset = offset} at fault) = no-info-fault (rules .chunkRules) at offset fault
     go rules (content all at) = no-place-in below accepted all at

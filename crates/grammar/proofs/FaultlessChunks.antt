@@ -33,8 +33,9 @@ module _ {m header : List ℕ} {chunks : List (List ℕ)} (c : ChunkRules m head
   begins-same : take 4 m ≡ take 4 header
   begins-same =
       let four : length (take 4 header) ≡ 4 = length-take-le 4 header (omega (arith, c .headerSize)) in
-      let parts : m ≡ take 4 header ++ (drop 4 header ++ joined chunks) = c .bytes ∙ ap (λ (h : List ℕ). h ++ joined chunks) (sym (take-append-drop 4 header)) ∙ append-assoc (take 4 header) (drop 4 header) (joined chunks) in
-      ap (take 4) parts ∙ take-at (take 4 header) (drop 4 header ++ joined chunks) 4 four
+      let two = ap (λ (bytes : List ℕ). bytes ++ joined chunks) (sym (take-append-drop 4 header)) in
+      let three = append-assoc (take 4 header) (drop 4 header) (joined chunks) in
+      ap (take 4) (c .bytes ∙ two ∙ three) ∙ take-at (take 4 header) (drop 4 header ++ joined chunks) 4 four
 
   pub no-header-fault : HeaderFault m → ⊥
   no-header-fault (HeaderFault.short h) = absurd (omega (arith, ap length (c .bytes), length-append header (joined chunks), c .headerSize))
@@ -44,7 +45,9 @@ module _ {m header : List ℕ} {chunks : List (List ℕ)} (c : ChunkRules m head
   byte-same = header-byte m header (joined chunks) (c .bytes) (c .headerSize)
 
   pub no-version-fault : VersionFault m → ⊥
-  no-version-fault (VersionFault.version two three) = elim (c .version) [ inl e ↦ two (byte-same 4 (omega arith) ∙ e) | inr e ↦ three (byte-same 4 (omega arith) ∙ e) ]
+  no-version-fault (VersionFault.version two three) =
+      let same = byte-same 4 (omega arith) in
+      elim (c .version) [ inl e ↦ two (same ∙ e) | inr e ↦ three (same ∙ e) ]
   no-version-fault (VersionFault.firstDigit h) = digit-never (byteAt header 5 / 16) (rw (byte-same 5 (omega arith)) at h) (c .revision .0)
   no-version-fault (VersionFault.secondDigit h) = digit-never (byteAt header 5 % 16) (rw (byte-same 5 (omega arith)) at h) (c .revision .1)
 
@@ -64,12 +67,15 @@ module _ {m header : List ℕ} {chunks : List (List ℕ)} (c : ChunkRules m head
 
     next : Next
     next =
-        let joins = after-front (at .header) (at .headerSize) (joined (at .before) ++ at .after) (at .bytes ∙ append-assoc (at .header) (joined (at .before)) (at .after)) in
+        let bytes = at .bytes ∙ append-assoc (at .header) (joined (at .before)) (at .after) in
+        let joins = after-front (at .header) (at .headerSize) (joined (at .before) ++ at .after) bytes in
         let (rest, splits, ends) = front-split chunks-own (at .after) (c .whole) (at .whole) joins in
         go rest splits ends
       where
         go : (rest : List (List ℕ)) → chunks ≡ at .before ++ rest → joined rest ≡ at .after → Next
-        go [] splits ends = absurd (omega (arith, at .follows, at .there, ap length (at .bytes), length-append (at .header ++ joined (at .before)) (at .after), ap length ends))
+        go [] splits ends =
+            let long = ap length (at .bytes) ∙ length-append (at .header ++ joined (at .before)) (at .after) in
+            absurd (omega (arith, at .follows, at .there, ap length ends))
         go (chunk ∷ more) splits ends = record {
           chunk = chunk;
           more = more;
@@ -128,8 +134,13 @@ module _ {m header : List ℕ} {chunks : List (List ℕ)} (c : ChunkRules m head
     no-info-fault offset fault = no-range-fault (c .info (at .chunk) (among (fault .named))) (fault .range)
 
   -- 8.
-  pub no-missing-fault : (others : List (List ℕ)) → ChunksOf m others → MissingFault others → (There chunks infoLetters) → ((letters : List ℕ) → NeedsInfo letters → There chunks letters) → ⊥
-  no-missing-fault others of fault info needed =
-      let same = all-same chunks-own (c .whole) (of .whole) (after-front (of .header) (of .headerSize) (joined others) (of .bytes)) in
-      let lacks : (chunk : List ℕ) → Among chunks (fault .letters) chunk → ⊥ = rw same (fault .lacks) in
-      elim (fault .mandatory) [ inl e ↦ lacks (info .0) (rw e (info .1)) | inr needs ↦ (let there = needed (fault .letters) needs in lacks (there .0) (there .1)) ]
+  module _ (info : There chunks infoLetters) (needed : (letters : List ℕ) → NeedsInfo letters → There chunks letters) where
+    mandatory-there : (letters : List ℕ) → (letters ≡ infoLetters) ⊎ NeedsInfo letters → There chunks letters
+    mandatory-there letters (inl e) = rw e info
+    mandatory-there letters (inr needs) = needed letters needs
+
+    pub no-missing-fault : (others : List (List ℕ)) → ChunksOf m others → MissingFault others → ⊥
+    no-missing-fault others of fault =
+        let same = all-same chunks-own (c .whole) (of .whole) (after-front (of .header) (of .headerSize) (joined others) (of .bytes)) in
+        let there : There others (fault .letters) = rw same at (mandatory-there (fault .letters) (fault .mandatory)) in
+        fault .lacks (there .0) (there .1)

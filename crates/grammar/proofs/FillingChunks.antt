@@ -84,7 +84,7 @@ module _ (kind : Kind) (m : List ℕ) (start : ℕ) where
   abbrev EachFrom : List (List ℕ) → List (List ℕ) → ℕ → Type 0
   EachFrom first blocks at = Every (OneBlock kind m start (first ++ blocks)) (placesFrom (sizeOf kind m) (length blocks) at)
 
-  each-from : (first blocks : List (List ℕ)) (at : ℕ) → PartAt m at (joined blocks) → Every (Sized kind) blocks → start + length (joined first) ≡ at → EachFrom first blocks at
+  each-from : (first xs : List (List ℕ)) (at : ℕ) → PartAt m at (joined xs) → Every (Sized kind) xs → start + length (joined first) ≡ at → EachFrom first xs at
   each-from first [] at p none there = none
   each-from first (block ∷ blocks) at p (also s e) there =
       let part = part-first block (joined blocks) p in
@@ -93,6 +93,6 @@ module _ (kind : Kind) (m : List ℕ) (start : ℕ) where
       also (record { before = first; block = block; after = blocks; splits = refl; part = part; sized = s; there = there })
       (rw (append-assoc, sym (part-size kind part s)) at more)
 
-module _ {kind : Kind} {m : List ℕ} {start front : ℕ} {chunk : List ℕ} {count : ℕ} {blocks : List (List ℕ)} (b : BlocksIn kind m start front chunk count blocks) where
-  pub each-block : Every (OneBlock kind m start blocks) (placesFrom (sizeOf kind m) count start)
+module _ {kind : Kind} {m chunk : List ℕ} {start front n : ℕ} {blocks : List (List ℕ)} (b : BlocksIn kind m start front chunk n blocks) where
+  pub each-block : Every (OneBlock kind m start blocks) (placesFrom (sizeOf kind m) n start)
   each-block = rw (← b .filled .number) (each-from kind m start [] blocks start (b .there) (b .sized) (omega arith))

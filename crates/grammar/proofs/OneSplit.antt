@@ -27,7 +27,11 @@ pub record OwnLength (P : List ℕ → Type 0) : Type 0 where
   pub same : (a b xs ys : List ℕ) → P a → P b → a ++ xs ≡ b ++ ys → length a ≡ length b
 
 module _ {P : List ℕ → Type 0} (own : OwnLength P) where
-  pub front-split : {xs before : List (List ℕ)} (after : List ℕ) → Every P xs → Every P before → joined xs ≡ joined before ++ after → (rest : List (List ℕ)) × (xs ≡ before ++ rest) × (joined rest ≡ after)
+  -- What is left of some parts, after those before it.
+  abbrev pub Left : List (List ℕ) → List (List ℕ) → List ℕ → Type 0
+  Left parts before after = (rest : List (List ℕ)) × (parts ≡ before ++ rest) × (joined rest ≡ after)
+
+  pub front-split : {xs before : List (List ℕ)} (after : List ℕ) → Every P xs → Every P before → joined xs ≡ joined before ++ after → Left xs before after
   front-split {xs} after every none e = (xs, refl, e)
   front-split after none (also {x = b} {xs = before} p more) e =
       absurd (omega (arith, own .some b p, ap length e, length-append (b ++ joined before) after, length-append b (joined before)))
