@@ -21,8 +21,8 @@ use Rattle.queries.specs.Finding.{kindOf}
 use Rattle.queries.specs.declared.Thing.{Thing}
 use Rattle.queries.specs.declared.Thing.the-variants.{Song, Instrument, Pattern, Sample, VolumeEnvelope, PanningEnvelope}
 use Rattle.grammar.specs.Rules.{Bytes, Every, songLetters, instLetters, pattLetters, smplLetters, venvLetters, penvLetters, Among, NeedsInfo, SongRules, InstrumentRules, PatternRules, SampleRules, EnvelopeRules, VolumeFits, PanningValueFits, Content, Rules}
-use Rattle.grammar.specs.Faults.{lettersOf, frontOf, BlocksOf, BlocksFault, NoInstrument, ReferenceFault, InstrumentFault, EnvelopeFault, FieldFault, LoopFault, StreamFault}
-use Rattle.grammar.specs.Places.{AllChunks, BlockAt, PlaceIn, blocks, reference, fieldRange, loop, stream, PlaceOf, tooLong, notAModule, version, chunkCut, identifier, repeated, beforeInfo, missing, fixedLength, infoRange, content}
+use Rattle.grammar.specs.Faults.{lettersOf, frontOf, MadeOf, BlocksFault, InstrumentLacks, ReferenceFault, InstrumentFault, EnvelopeFault, FieldFault, LoopFault, PatternFault}
+use Rattle.grammar.specs.Places.{AllChunks, BlockBegins, ContentPlace, blocks, reference, fieldRange, loop, stream, PlaceOf, tooLong, notAModule, version, chunkCut, identifier, repeated, beforeInfo, missing, fixedLength, infoRange, content}
 use Rattle.grammar.proofs.Holding.{every-append, every-first, every-of}
 use Rattle.grammar.proofs.Recorded.{There}
 use Rattle.grammar.proofs.Standing.{LayoutOf}
@@ -45,7 +45,7 @@ no-envelope-fault r (EnvelopeFault.loopLast set (inr under)) = absurd (omega (ar
 no-envelope-fault r (EnvelopeFault.secondSustain set over) = absurd (omega (arith, r .secondSustain set))
 no-envelope-fault r (EnvelopeFault.value i used low h) = h (r .values i used)
 
-no-instrument : (info block : List ℕ) → NoInstrument info block → (1 ≤ number16 block 0) × (number16 block 0 ≤ number16 info 8) → ⊥
+no-instrument : (info block : List ℕ) → InstrumentLacks info block → (1 ≤ number16 block 0) × (number16 block 0 ≤ number16 info 8) → ⊥
 no-instrument info block (inl zero) h = absurd (omega (arith, h .0))
 no-instrument info block (inr over) h = absurd (omega (arith, h .1))
 
@@ -55,7 +55,7 @@ no-instrument-fault r (InstrumentFault.panning h) = h (r .panning)
 no-instrument-fault r (InstrumentFault.flags h) = absurd (omega (arith, r .flags))
 
 -- Blocks fill a chunk in one way only.
-blocks-same : (thing : Thing) {info chunk : List ℕ} {xs ys : List (List ℕ)} → BlocksOf thing info chunk xs → BlocksOf thing info chunk ys → xs ≡ ys
+blocks-same : (thing : Thing) {info chunk : List ℕ} {xs ys : List (List ℕ)} → MadeOf thing info chunk xs → MadeOf thing info chunk ys → xs ≡ ys
 blocks-same thing {chunk = chunk} {xs = xs} {ys = ys} a b =
     let front = take (frontOf thing) chunk in
     let joins = split-same front front (joined xs) (joined ys) refl (sym (a .filled .bytes) ∙ b .filled .bytes) .1 in
@@ -63,24 +63,24 @@ blocks-same thing {chunk = chunk} {xs = xs} {ys = ys} a b =
 
 -- The chunks are made of the blocks of the content.
 module _ {header : List ℕ} {chunks : List (List ℕ)} {info song inst patt smpl : List ℕ} (c : Content header chunks info song inst patt smpl) where
-  songs-made : BlocksOf Song info song (c .songs)
+  songs-made : MadeOf Song info song (c .songs)
   songs-made = record { filled = c .songsFill; sizes = every-of (λ block r. r .size) (c .songRules) }
 
-  instruments-made : BlocksOf Instrument info inst (c .instruments)
+  instruments-made : MadeOf Instrument info inst (c .instruments)
   instruments-made = record { filled = c .instrumentsFill; sizes = every-of (λ block r. r .size) (c .instrumentRules) }
 
-  patterns-made : BlocksOf Pattern info patt (c .patterns)
+  patterns-made : MadeOf Pattern info patt (c .patterns)
   unfolding sizeOf
   patterns-made = record { filled = c .patternsFill; sizes = every-of (pattern-sized (number16 info 16)) (c .patternRules) }
 
-  samples-made : BlocksOf Sample info smpl (c .samples)
+  samples-made : MadeOf Sample info smpl (c .samples)
   samples-made = record { filled = c .samplesFill; sizes = c .sampleRules }
 
   module _ {chunk : List ℕ} where
-    volume-made : (a : Among chunks venvLetters chunk) → BlocksOf VolumeEnvelope info chunk (c .volumeEnvelopes chunk a .envelopes)
+    volume-made : (a : Among chunks venvLetters chunk) → MadeOf VolumeEnvelope info chunk (c .volumeEnvelopes chunk a .envelopes)
     volume-made a = let e = c .volumeEnvelopes chunk a in record { filled = e .filled; sizes = every-of (λ block r. r .size) (e .rules) }
 
-    panning-made : (a : Among chunks penvLetters chunk) → BlocksOf PanningEnvelope info chunk (c .panningEnvelopes chunk a .envelopes)
+    panning-made : (a : Among chunks penvLetters chunk) → MadeOf PanningEnvelope info chunk (c .panningEnvelopes chunk a .envelopes)
     panning-made a = let e = c .panningEnvelopes chunk a in record { filled = e .filled; sizes = every-of (λ block r. r .size) (e .rules) }
 
 module _ {m : List ℕ} (below : Bytes m) (accepted : moduleVerdict m ≡ Accepted) (all : AllChunks m) where
@@ -140,8 +140,8 @@ module _ {m : List ℕ} (below : Bytes m) (accepted : moduleVerdict m ≡ Accept
   no-blocks-fault PanningEnvelope chunk a fault = fault .none _ (panning-made any-content a)
 
   -- What holds of all blocks of a chunk holds of the block at a place.
-  module _ {thing : Thing} {place : ℕ} (b : BlockAt all thing place) {Q : List ℕ → Type 0} {list : List (List ℕ)} where
-    block-has : BlocksOf thing (all .info) (b .within .chunk) list → Every Q list → Q (b .block)
+  module _ {thing : Thing} {place : ℕ} (b : BlockBegins all thing place) {Q : List ℕ → Type 0} {list : List (List ℕ)} where
+    block-has : MadeOf thing (all .info) (b .within .chunk) list → Every Q list → Q (b .block)
     block-has made every =
         let each : Every Q (b .before ++ (b .block ∷ b .after)) = subst (Every Q) (blocks-same thing made (b .blocks)) every in
         every-first (every-append (b .before) (b .block ∷ b .after) .0 each .1)
@@ -156,14 +156,14 @@ module _ {m : List ℕ} (below : Bytes m) (accepted : moduleVerdict m ≡ Accept
   RulesOf PanningEnvelope block = EnvelopeRules (number16 (all .info) 8) (PanningValueFits (byteAt (all .header) 4)) block
 
   -- Those of an instrument, with the samples of any chunk that is SMPL.
-  module _ {place : ℕ} (b : BlockAt all Instrument place) {smpl : List ℕ} (d : Is smplLetters smpl) {samples : List (List ℕ)} where
-    instrument-rules : BlocksOf Sample (all .info) smpl samples → InstrumentRules samples (b .block)
+  module _ {place : ℕ} (b : BlockBegins all Instrument place) {smpl : List ℕ} (d : Is smplLetters smpl) {samples : List (List ℕ)} where
+    instrument-rules : MadeOf Sample (all .info) smpl samples → InstrumentRules samples (b .block)
     instrument-rules made =
         let c = content-of (any-song .1) (b .within .among) (any-patt .1) d in
         let rules = block-has b (instruments-made c) (c .instrumentRules) in
         subst (λ (list : List (List ℕ)). InstrumentRules list (b .block)) (blocks-same Sample (samples-made c) made) rules
 
-  block-rules : (thing : Thing) {place : ℕ} (b : BlockAt all thing place) → RulesOf thing (b .block)
+  block-rules : (thing : Thing) {place : ℕ} (b : BlockBegins all thing place) → RulesOf thing (b .block)
   block-rules Song b =
       let c = content-of (b .within .among) (any-inst .1) (any-patt .1) (any-smpl .1) in
       subst (λ (n : ℕ). SongRules n (b .block)) (c .patternsFill .number) (block-has b (songs-made c) (c .songRules))
@@ -198,18 +198,18 @@ module _ {m : List ℕ} (below : Bytes m) (accepted : moduleVerdict m ≡ Accept
 
   module _ {place : ℕ} where
     -- 14.
-    no-loop-fault : (b : BlockAt all Instrument place) → LoopFault (all .chunks) (all .info) (b .block) → ⊥
+    no-loop-fault : (b : BlockBegins all Instrument place) → LoopFault (all .chunks) (all .info) (b .block) → ⊥
     no-loop-fault b fault =
         let within = instrument-rules b (fault .among) (fault .blocks) .loop (fault .looped) in
         elim (fault .outside) [ inl zero ↦ absurd (omega (arith, within .0)) | inr past ↦ absurd (omega (arith, within .1)) ]
 
     -- 15.
-    no-stream-fault : (b : BlockAt all Pattern place) → StreamFault (all .info) (b .block) → ⊥
+    no-stream-fault : (b : BlockBegins all Pattern place) → PatternFault (all .info) (b .block) → ⊥
     no-stream-fault b fault =
         let rules = block-rules Pattern b in
         fault .none (rules .entries) (pattern-sound (number16 (all .info) 16) (b .block) rules)
 
-  no-place-in : {r : Refusal} → PlaceIn all r → ⊥
+  no-place-in : {r : Refusal} → ContentPlace all r → ⊥
   no-place-in (blocks {thing = thing} at fault) = no-blocks-fault thing (at .chunk) (at .among) fault
   no-place-in (reference at) = no-reference-fault (at .wrong) (block-rules (at .thing) (at .within))
   no-place-in (fieldRange at) = no-field-fault (at .wrong) (block-rules (at .thing) (at .within))

@@ -11,7 +11,7 @@ use Rattle.cells.specs.Cells.{joined}
 use Rattle.numbers.specs.Numbers.{byteAt, number32}
 use Rattle.grammar.specs.Rules.{ChunkBytes, infoLetters, Among, NeedsInfo, InfoRules, ChunkRules}
 use Rattle.grammar.specs.Faults.{HeaderFault, VersionFault, CutFault, IdentifierFault, RepeatedFault, OrderFault, MissingFault, LengthFault, RangeFault, InfoFault}
-use Rattle.grammar.specs.Places.{HeaderAt, ChunkAt, ChunksOf}
+use Rattle.grammar.specs.Places.{HeaderAt, ChunkBegins, ChunksOf}
 use Rattle.grammar.proofs.Locating.{byteAt-front, number32-front}
 use Rattle.grammar.proofs.Holding.{every-append, every-first}
 use Rattle.grammar.proofs.Recorded.{There}
@@ -102,7 +102,7 @@ module _ {m header : List ℕ} {chunks : List (List ℕ)} (c : ChunkRules m head
         (λ i h. rw (byteAt-front (n .chunk) (joined (n .more)) i (omega arith)) (n .whole .letters i h))
 
   -- A whole chunk begins where one of the chunks does, and is that one.
-  module _ {place : ℕ} (at : ChunkAt m place) where
+  module _ {place : ℕ} (at : ChunkBegins m place) where
     splits : (more : List (List ℕ)) × (chunks ≡ at .begins .before ++ (at .chunk ∷ more))
     splits =
         let n = next (at .begins) in
