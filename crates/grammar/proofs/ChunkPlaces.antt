@@ -67,7 +67,7 @@ module _ (m : List ℕ) where
 tracks-say : (tracks : ℕ) → (tracksFit tracks ≡ true) ↔ ((4 ≤ tracks) × (tracks ≤ 254) × (tracks % 2 ≡ 0))
 tracks-say tracks = simp plain (λ h. (h .0, h .1 .0, h .1 .1), λ h. (h .0, (h .1, h .2)))
 
--- 4, 5, 6, 7, 9, 10: where the walk is, behind whole chunks.
+-- 4, 5, 6, 7, 9, 10: where the walk is, after whole chunks.
 module _ {m header : List ℕ} {before : List (List ℕ)} {at : ℕ} (r : Reached m header before at) (less : at < length m) where
   inside : at ≤ length m
   inside = omega arith
