@@ -123,9 +123,12 @@ pub fn frames_place(m: &[u8], sample: usize) -> FramesAnswer
     }
 }
 
-// The frames of a sample, counted from 1: the part of the module that they are. It is empty where `frames_place` gives a refusal.
+// The frames of a sample, counted from 1: the part of the module that they are, at the offset that `frames_place` answers. It is empty
+// where that gives a refusal.
 pub fn frames(m: &[u8], sample: usize) -> &[u8]
-    ensures { λ r. ⌜ (now r ≡ framesPart (now (m .entry)) sample) × (r .ptr .0 ≡ m .entry .ptr .0) × (r .ptr .1 ≡ min (framesAnswer (now (m .entry)) sample .offset) (length (now (m .entry))) + m .entry .ptr .1) ⌝ }
+    ensures { λ r. ⌜ (now r ≡ framesPart (now (m .entry)) sample)
+        × (r .ptr .0 ≡ m .entry .ptr .0)
+        × (r .ptr .1 ≡ min (framesAnswer (now (m .entry)) sample .offset) (length (now (m .entry))) + m .entry .ptr .1) ⌝ }
 {
     let a = frames_place(m, sample);
     part(m, a.offset, a.length)

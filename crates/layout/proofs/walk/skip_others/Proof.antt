@@ -34,18 +34,29 @@ cast-at c = search needs
 
 add-at-2 : tie.Need-add-at-2 Inv-loop μ-loop
 add-at-2 c =
-    let fit : c .before .before .before .loop .at + 8 + c .number32 .result ≤ length (c .before .before .before .before .before .args .m .now) = rw (c .number32 .ensures) (other-end (c .before .before .before .before .before .args .m .now) (c .before .before .before .loop .at) (sym (c .before .before .is-other .ensures) ∙ c .before .if1 .taken)) in
+    let m = c .before .before .before .before .before .args .m .now in
+    let at = c .before .before .before .loop .at in
+    let other = sym (c .before .before .is-other .ensures) ∙ c .before .if1 .taken in
+    let fit : at + 8 + c .number32 .result ≤ length m = rw (c .number32 .ensures) (other-end m at other) in
     search needs
 
 loop-less : tie.Need-loop-less Inv-loop μ-loop
 loop-less c =
-    let fit : c .before .before .before .loop .at + 8 + c .number32 .result ≤ length (c .before .before .before .before .before .args .m .now) = rw (c .number32 .ensures) (other-end (c .before .before .before .before .before .args .m .now) (c .before .before .before .loop .at) (sym (c .before .before .is-other .ensures) ∙ c .before .if1 .taken)) in
+    let m = c .before .before .before .before .before .args .m .now in
+    let at = c .before .before .before .loop .at in
+    let other = sym (c .before .before .is-other .ensures) ∙ c .before .if1 .taken in
+    let fit : at + 8 + c .number32 .result ≤ length m = rw (c .number32 .ensures) (other-end m at other) in
     omega (arith, fit)
 
 loop-again : tie.Need-loop-again Inv-loop μ-loop
 loop-again c =
-    let fit : c .before .before .before .loop .at + 8 + c .number32 .result ≤ length (c .before .before .before .before .before .args .m .now) = rw (c .number32 .ensures) (other-end (c .before .before .before .before .before .args .m .now) (c .before .before .before .loop .at) (sym (c .before .before .is-other .ensures) ∙ c .before .if1 .taken)) in
-    ((suc (c .before .before .before .loop .inv .0 .0), rw (c .number32 .ensures) (others-more (c .before .before .before .before .before .args .m .now) (c .before .before .before .loop .inv .0 .0) (c .before .before .before .before .before .args .start) (c .before .before .before .loop .at) (c .before .before .before .loop .inv .0 .1) (sym (c .before .before .is-other .ensures) ∙ c .before .if1 .taken))), omega (arith, fit, c .before .before .before .loop .inv .1), omega (arith, fit))
+    let m = c .before .before .before .before .before .args .m .now in
+    let at = c .before .before .before .loop .at in
+    let other = sym (c .before .before .is-other .ensures) ∙ c .before .if1 .taken in
+    let fit : at + 8 + c .number32 .result ≤ length m = rw (c .number32 .ensures) (other-end m at other) in
+    let before = c .before .before .before .loop .inv in
+    let more = others-more m (before .0 .0) (c .before .before .before .before .before .args .start) at (before .0 .1) other in
+    ((suc (before .0 .0), rw (c .number32 .ensures) more), omega (arith, fit, before .1), omega (arith, fit))
 
 returns : tie.Need-returns Inv-loop μ-loop
 returns c = (c .before .before .loop .inv .0, c .before .before .loop .inv .1)

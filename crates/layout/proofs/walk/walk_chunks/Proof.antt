@@ -17,25 +17,50 @@ loop-holds : tie.Need-loop-holds Inv-loop μ-loop
 loop-holds c = walking-others (c .before .before .before .args .m .now) (c .before .no-places .result) (c .skip-others .ensures .0 .0) 8 (c .skip-others .result) (c .skip-others .ensures .0 .1) (rw (c .before .no-places .ensures) (walking-first (c .before .before .before .args .m .now)))
 
 returns : tie.Need-returns Inv-loop μ-loop
-returns c = sym (walking-refused (c .before .before .before .before .before .before .before .before .before .args .m .now) (c .before .before .before .before .before .loop .p) (c .before .before .before .before .before .loop .at) (c .before .before .before .before .before .loop .inv) (c .before .before .before .before .loop-test .taken) (c .before .r .given .0 .0) (sym (c .before .before .before .check-chunk .ensures) ∙ c .before .r .given .1))
+returns c =
+    let turn = c .before .before .before .before in
+    let loop = turn .before .loop in
+    let m = turn .before .before .before .before .before .args .m .now in
+    let r = c .before .r .given in
+    sym (walking-refused m (loop .p) (loop .at) (loop .inv) (turn .loop-test .taken) (r .0 .0) (sym (c .before .before .before .check-chunk .ensures) ∙ r .1))
 
 enum-told : tie.Need-enum-told Inv-loop μ-loop
 enum-told c = search needs
 
 add-skip-others : tie.Need-add-skip-others Inv-loop μ-loop
-add-skip-others c = omega (arith, c .before .before .before .before .before .before .before .loop-test .taken, c .before .before .before .before .before .before .before .before .before .before .before .before .pre)
+add-skip-others c =
+    let turn = c .before .before .before .before .before .before .before in
+    omega (arith, turn .loop-test .taken, turn .before .before .before .before .before .pre)
 
 add-skip-others-2 : tie.Need-add-skip-others-2 Inv-loop μ-loop
-add-skip-others-2 c = omega (arith, c .before .before .before .before .before .before .before .loop-test .taken, c .before .before .before .before .before .before .before .before .before .before .before .before .pre)
+add-skip-others-2 c =
+    let turn = c .before .before .before .before .before .before .before in
+    omega (arith, turn .loop-test .taken, turn .before .before .before .before .before .pre)
 
 skip-others-requires-2 : tie.Need-skip-others-requires-2 Inv-loop μ-loop
-skip-others-requires-2 c κs = (omega (arith, c .before .before .before .before .before .before .before .loop-test .taken, c .before .before .before .before .before .before .before .before .before .before .before .before .pre), c .before .before .before .before .before .before .before .before .before .before .before .before .pre)
+skip-others-requires-2 c κs =
+    let turn = c .before .before .before .before .before .before .before in
+    let small = turn .before .before .before .before .before .pre in
+    (omega (arith, turn .loop-test .taken, small), small)
 
 loop-less : tie.Need-loop-less Inv-loop μ-loop
 loop-less c = omega (arith, c .skip-others2 .ensures .1, c .before .before .before .before .before .before .before .before .loop-test .taken)
 
 loop-again : tie.Need-loop-again Inv-loop μ-loop
-loop-again c = walking-others (c .before .before .before .before .before .before .before .before .before .before .before .before .before .args .m .now) (c .before .put .result) (c .skip-others2 .ensures .0 .0) (c .before .before .before .before .before .before .before .before .before .loop .at + 8 + c .before .before .before .before .number32 .result) (c .skip-others2 .result) (c .skip-others2 .ensures .0 .1) (rw (c .before .before .before .before .number32 .ensures) (walking-turn (c .before .before .before .before .before .before .before .before .before .before .before .before .before .args .m .now) (c .before .before .before .before .before .before .before .before .before .loop .p) (c .before .before .before .before .before .before .before .before .before .loop .at) (c .before .before .before .before .before .before .before .before .before .loop .inv) (c .before .before .before .before .before .before .before .before .loop-test .taken) (sym (c .before .before .before .before .before .before .before .check-chunk .ensures) ∙ c .before .before .before .before .before .enum-told .given .1) (c .before .put .result) (c .before .put .ensures ∙ simp (c .before .before .standing .ensures, c .before .before .before .before .number32 .ensures, c .before .before .before .number322 .ensures))))
+loop-again c =
+    let turn = c .before .before .before .before .before .before .before .before in
+    let loop = turn .before .loop in
+    let m = turn .before .before .before .before .before .args .m .now in
+    let size = c .before .before .before .before .number32 in
+    let put = c .before .put in
+    let place = c .before .before .standing in
+    let letters = c .before .before .before .number322 in
+    let sound = sym (c .before .before .before .before .before .before .before .check-chunk .ensures) ∙ c .before .before .before .before .before .enum-told .given .1 in
+    let next =
+    walking-turn m (loop .p) (loop .at) (loop .inv) (turn .loop-test .taken) sound (put .result)
+    (put .ensures ∙ simp (place .ensures, size .ensures, letters .ensures)) in
+    let others = c .skip-others2 .ensures .0 in
+    walking-others m (put .result) (others .0) (loop .at + 8 + size .result) (c .skip-others2 .result) (others .1) (rw (size .ensures) next)
 
 returns-2 : tie.Need-returns-2 Inv-loop μ-loop
 returns-2 c = sym (walking-last (c .before .before .before .before .before .args .m .now) (c .before .loop .p) (c .before .loop .at) (c .before .loop .inv) (c .loop-test .left))
