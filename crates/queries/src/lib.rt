@@ -105,8 +105,8 @@ fn first_of(thing: Thing) -> usize
     }
 }
 
-// Where the block of a number stands: 18.
-fn find_in(m: &[u8], l: Layout, thing: Thing, number: usize) -> Found
+// Where the block of a number is, in a module with this layout: 18.
+pub fn find_in(m: &[u8], l: Layout, thing: Thing, number: usize) -> Found
     ensures { λ r. ⌜ (r ≡ foundIn (now (m .entry)) l thing number) × (placeIn r < 0x10000000000000) ⌝ }
 {
     let first = first_of(thing);
