@@ -5,16 +5,14 @@ use mathlib.Core.List.{List, [], _∷_, _++_, map}
 use lib.ListN.{length, replicate}
 use Rattle.refusal.specs.Numbers.{verdictNumber, verdictPlace}
 use Rattle.refusal.specs.declared.Verdict.{Verdict}
-use Rattle.refusal.specs.declared.Verdict.the-variants.{Accepted, Refused}
 use Rattle.cells.specs.Cells.{joined}
 use Rattle.packed_rows.specs.Answers.{checkAnswer}
 use Rattle.module.specs.Verdicts.{moduleVerdict}
 use Rattle.grammar.specs.Rules.{infoLetters, songLetters, instLetters, pattLetters, smplLetters}
 
--- A verdict as number and place; 0 0 is accepted. By cases, so that the verdict is computed once and not for each of the two.
+-- A verdict as number and place; 0 0 is accepted.
 unfoldable pub verdictNumbers : Verdict → List ℕ
-verdictNumbers Accepted = verdictNumber Accepted ∷ verdictPlace Accepted ∷ []
-verdictNumbers (Refused r) = verdictNumber (Refused r) ∷ verdictPlace (Refused r) ∷ []
+verdictNumbers v = verdictNumber v ∷ verdictPlace v ∷ []
 
 -- What the check of a stream says.
 unfoldable pub checked : ℕ → ℕ → List ℕ → List ℕ
