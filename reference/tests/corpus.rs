@@ -36,7 +36,7 @@ fn the_lines_of_p1() {
     let stream = format!("020347010000{}", "aa".repeat(44));
     assert_eq!(
         expected(&corpus),
-        format!("check 0 0\nunpack 0 0 48 {cells}\nrepack 0 0 6 {stream}\ncell 0 0 2 4 7 1 0 0 0 0\ncases 1\n")
+        format!("check 0 0\nunpack 0 0 48 {cells}\nrepack 0 0 6 {stream}\ncell 0 0 2 4 7 0 1 0 0 0 0\ncases 1\n")
     );
 }
 
@@ -61,11 +61,11 @@ fn the_lines_of_refusals() {
     ]);
     assert_eq!(
         expected(&corpus),
-        "check 15 1\nunpack 17 48 0 \nrepack 15 1 0 \ncell 15 1 0 0 0 0 0 0 0 0\n\
-         check 16 0\nunpack 16 0 0 aa\nrepack 16 0 0 aa\ncell 16 0 0 0 0 0 0 0 0 0\n\
+        "check 15 1\nunpack 17 48 0 \nrepack 15 1 0 \ncell 15 1 0 0 0 0 0 0 0 0 0\n\
+         check 16 0\nunpack 16 0 0 aa\nrepack 16 0 0 aa\ncell 16 0 0 0 0 0 0 0 0 0 0\n\
          pack 17 33 0 aaaa\n\
          pack 0 0 1 00aa\n\
-         check 0 0\nunpack 17 24 0 \nrepack 17 1 0 \ncell 18 0 0 0 0 0 0 0 0 0\n\
+         check 0 0\nunpack 17 24 0 \nrepack 17 1 0 \ncell 18 0 0 0 0 0 0 0 0 0 0\n\
          cases 5\n"
     );
 }
@@ -81,7 +81,7 @@ fn the_lines_of_shown_cells() {
     assert_eq!(corpus.len(), 28);
     assert_eq!(
         expected(&corpus),
-        "shown 0 0 0 1 2 3 4 5\nshown 1 0 0 0 0 0 0 255\nshown 2 8 11 0 0 0 9 0\nshown 3 255 0 7 0 0 0 0\ncases 4\n"
+        "shown 0 0 0 0 1 2 3 4 5\nshown 1 0 0 0 0 0 0 0 255\nshown 2 8 11 0 0 0 0 9 0\nshown 3 0 0 255 7 0 0 0 0\ncases 4\n"
     );
 }
 
@@ -289,7 +289,7 @@ fn the_lines_of_records() {
              volume_envelope 18 0{}\n\
              panning_envelope 0 0 1 5 1 7 0 1 9 3 300{} -128 128{}\n\
              rows 0 0 1\n\
-             cell 0 0 1 0 0 0 0 0 0 0\n\
+             cell 0 0 1 0 0 0 0 0 0 0 0\n\
              unpack 17 24 0 aaaaaaaaaa\n\
              sample 0 0 16 2\n\
              frames 0 0 320 4 80007fff\n\
@@ -330,7 +330,7 @@ fn refused_records(summary: &str, counts: &str, refusal: &str, out: &str) -> Str
         "00".repeat(30),
         zeros(71),
         zeros(71),
-        zeros(8),
+        zeros(9),
     )
 }
 
@@ -390,7 +390,7 @@ fn a_cut_case_or_an_unknown_kind_ends_the_run() {
     assert_eq!(expected(&[4, 0, 0]), "cases 0\n");
     assert_eq!(expected(&[6, 0, 0, 0, 0, 0, 0, 0, 0]), "cases 0\n");
     let shown = encoded(&[Case::Shown([0; 6])]);
-    let line = "shown 0 0 0 0 0 0 0 0\n";
+    let line = "shown 0 0 0 0 0 0 0 0 0\n";
     assert_eq!(
         expected(&[&shown[..], &[9], &shown].concat()),
         format!("{line}cases 1\n")
