@@ -1,4 +1,4 @@
-//! Compiles the two Cs for baseline x86-64 and links them, libpattern.a and libdbm0.a.
+//! Compiles the two Cs for baseline x86-64 and links them. The package `interface` links libpattern.a and libdbm0.a.
 
 use std::env;
 use std::path::{Path, PathBuf};
@@ -26,20 +26,6 @@ fn main() {
     run("ar", &archive);
     println!("cargo:rustc-link-search=native={}", made.display());
     println!("cargo:rustc-link-lib=static=baselines");
-
-    println!("cargo:rerun-if-env-changed=DBM0_STATICLIB_DIR");
-    let libraries = env::var_os("DBM0_STATICLIB_DIR")
-        .map(PathBuf::from)
-        .unwrap_or_else(|| package.join("../target/staticlib"));
-    println!("cargo:rustc-link-search=native={}", libraries.display());
-    for name in ["pattern", "dbm0"] {
-        let library = libraries.join(format!("lib{name}.a"));
-        println!("cargo:rerun-if-changed={}", library.display());
-        if !library.is_file() {
-            panic!("{} is not there", library.display());
-        }
-        println!("cargo:rustc-link-lib=static={name}");
-    }
 
     println!("cargo:rustc-env=BENCH_GCC={}", first_line("gcc"));
     println!(

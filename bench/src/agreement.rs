@@ -142,11 +142,7 @@ fn same_as(
     expected: &[u8],
     fill: impl Fn(&Implementation, &mut [u8]) -> Answer,
 ) -> Result<usize, String> {
-    let success = Answer {
-        number: 0,
-        place: 0,
-        length: expected.len() as u64,
-    };
+    let success = Answer::written(expected.len());
     for room in [expected.len(), expected.len() + SPARE] {
         for one in &IMPLEMENTATIONS {
             let (answer, out) = into(room, |out| fill(one, out));

@@ -2,22 +2,8 @@
 
 use reference::{module, pattern, repack};
 
-/// Of a pattern's call, and of repacking a module. `number` 0: no refusal.
-#[repr(C)]
-#[derive(Clone, Copy, Debug, PartialEq, Eq)]
-pub struct Answer {
-    pub number: u64,
-    pub place: u64,
-    pub length: u64,
-}
-
-/// Of the check of a module. `number` 0: no refusal.
-#[repr(C)]
-#[derive(Clone, Copy, Debug, PartialEq, Eq)]
-pub struct Verdict {
-    pub number: u64,
-    pub place: u64,
-}
+/// Of a pattern's call, and of repacking a module; and of the check of a module. The Cs have the same two.
+pub use interface::{Answer, ModuleAnswer as Verdict};
 
 pub type Check = fn(&[u8], u64, u64) -> Answer;
 pub type Fill = fn(&[u8], u64, u64, &mut [u8]) -> Answer;
@@ -41,11 +27,11 @@ pub const COUNT: usize = 4;
 pub const IMPLEMENTATIONS: [Implementation; COUNT] = [
     Implementation {
         name: "ours",
-        check: ours::check,
-        unpack: ours::unpack,
-        pack: ours::pack,
-        check_module: ours::check_module,
-        repack_module: ours::repack_module,
+        check: interface::check_pattern,
+        unpack: interface::unpack_pattern,
+        pack: interface::pack_pattern,
+        check_module: interface::check_module,
+        repack_module: interface::repack,
     },
     Implementation {
         name: "plain C",
@@ -155,14 +141,6 @@ macro_rules! over_c {
 }
 
 over_c!(
-    ours,
-    dbm0_check_pattern,
-    dbm0_unpack_pattern,
-    dbm0_pack_pattern,
-    dbm0_check_module,
-    dbm0_repack
-);
-over_c!(
     plain,
     plain_check_pattern,
     plain_unpack_pattern,
@@ -181,16 +159,8 @@ over_c!(
 
 fn answer(result: Result<u64, pattern::Refusal>) -> Answer {
     match result {
-        Ok(length) => Answer {
-            number: 0,
-            place: 0,
-            length,
-        },
-        Err(refusal) => Answer {
-            number: refusal.number,
-            place: refusal.place,
-            length: 0,
-        },
+        Ok(length) => Answer::written(length as usize),
+        Err(refusal) => Answer::refused(refusal.number, refusal.place as usize),
     }
 }
 

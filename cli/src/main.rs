@@ -19,6 +19,7 @@ mod reader;
 mod records;
 mod repack;
 mod report;
+mod signal;
 mod text;
 
 use std::process::ExitCode;
@@ -28,7 +29,7 @@ use fault::{Fault, FINE};
 use output::Output;
 
 fn main() -> ExitCode {
-    library::ignore_file_size_signal();
+    signal::ignore_file_size_signal();
     let status = run().unwrap_or_else(|fault| {
         fault.tell();
         fault.status

@@ -1,8 +1,8 @@
 //! The comparison of all records of a module at once, and what must hold of them whatever the reference says.
 
 use crate::compare::{self, answer, rooms, same_answer, same_bytes, with_module, Fill, Lent};
-use crate::interface::{self, Answer, Envelope};
 use crate::queries::Queries;
+use interface::{Answer, Envelope};
 use reference::all_records::write;
 use reference::generate::Random;
 

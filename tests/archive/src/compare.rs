@@ -2,7 +2,7 @@
 
 use std::fmt::Debug;
 
-use crate::interface::{self, Answer, ModuleAnswer};
+use interface::{Answer, ModuleAnswer};
 use reference::corpus::Case;
 use reference::expect::MOST_ROOM;
 use reference::generate::Random;
@@ -46,9 +46,11 @@ pub struct Library {
 
 /// libpattern.a and libdbm0.a.
 pub const ARCHIVE: Library = Library {
-    check: interface::check,
-    unpack: |stream, rows, tracks, lent| interface::unpack(stream, rows, tracks, lent.out()),
-    pack: |cells, rows, tracks, lent| interface::pack(cells, rows, tracks, lent.out()),
+    check: interface::check_pattern,
+    unpack: |stream, rows, tracks, lent| {
+        interface::unpack_pattern(stream, rows, tracks, lent.out())
+    },
+    pack: |cells, rows, tracks, lent| interface::pack_pattern(cells, rows, tracks, lent.out()),
     check_module: interface::check_module,
 };
 

@@ -1,10 +1,9 @@
 //! Compares libpattern.a and libdbm0.a with the independent second program.
 
-#![deny(unsafe_code)]
+#![forbid(unsafe_code)]
 
 pub mod all_records;
 pub mod compare;
-pub mod interface;
 pub mod large;
 pub mod modules;
 pub mod queries;

@@ -1,8 +1,8 @@
 //! The queries about a module, as a library gives them: libdbm0.a, and the reference.
 
 use crate::compare::{answer, Lent};
-use crate::interface::{
-    self, Answer, Cell, Envelope, Frames, Info, Instrument, Name, Sample, Song, Told, Version,
+use interface::{
+    Answer, Cell, Envelope, Frames, Info, Instrument, Name, Sample, Song, Told, Version,
 };
 use reference::chunks;
 use reference::pattern::{self, Note};

@@ -3,8 +3,8 @@
 use std::fmt::Debug;
 
 use crate::compare::{same_answer, same_bytes, with_module, Lent};
-use crate::interface::{Answer, Frames, Info, Told};
 use crate::queries::{Queries, REFERENCE};
+use interface::{Answer, Frames, Info, Told};
 use reference::generate::Random;
 
 /// Asks a library everything about a module, and the reference too. The error says what differs, with the whole module where it is

@@ -1,9 +1,9 @@
 //! The comparison of repacking a whole module, and what must hold of it whatever the reference says.
 
 use crate::compare::{self, answer, rooms, same_answer, same_bytes, with_module, Fill, Lent};
-use crate::interface::{self, Answer};
 use crate::queries::Queries;
 use crate::records::show_the_same;
+use interface::Answer;
 use reference::generate::Random;
 use reference::repack::repack;
 

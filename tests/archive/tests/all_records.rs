@@ -3,10 +3,10 @@
 
 use archive::all_records::{compare, into_room, shown_one_by_one, ARCHIVE};
 use archive::compare::Lent;
-use archive::interface::{self, Answer};
 use archive::modules;
 use archive::queries;
 use archive::seeds::for_seeds;
+use interface::Answer;
 use reference::generate::{bytes, module, Most, Random};
 use reference::module::check;
 use reference::tunes::files;

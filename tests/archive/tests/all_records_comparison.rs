@@ -3,9 +3,9 @@
 
 use archive::all_records::{compare, shown_one_by_one, REFERENCE};
 use archive::compare::{Fill, Lent};
-use archive::interface::Answer;
 use archive::modules;
 use archive::queries;
+use interface::Answer;
 use reference::generate::Random;
 use reference::module::read;
 

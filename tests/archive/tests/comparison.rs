@@ -1,7 +1,7 @@
 //! The comparison itself: it finds nothing between the reference and the reference, and it notices each of these wrong libraries.
 
 use archive::compare::{self, Lent, Library, REFERENCE};
-use archive::interface::Answer;
+use interface::Answer;
 use reference::corpus::{pattern_cases, Case};
 use reference::generate::{cells, Random};
 

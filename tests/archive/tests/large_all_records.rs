@@ -1,8 +1,8 @@
 //! All records at once of modules as large as they may be. What is written of them is made by hand too.
 
 use archive::all_records::{into_room, ARCHIVE};
-use archive::interface::{self, Answer};
 use archive::large::{filled_up, with_last, MOST};
+use interface::Answer;
 use reference::draft::{Chunk, Envelope, Instrument, Pattern, Sample, Song, Tune};
 
 /// The records of the module are these, in an output of just that length, of one more and of the module's length and 60; with one byte

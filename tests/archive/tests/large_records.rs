@@ -2,11 +2,9 @@
 
 use std::fmt::Debug;
 
-use archive::interface::{
-    self, Answer, Cell, Envelope, Frames, Info, Instrument, Name, Sample, Song, Told,
-};
 use archive::large::{filled_up, with_last, MOST};
 use archive::queries::{refused, shown, Queries, ARCHIVE, REFERENCE};
+use interface::{Answer, Cell, Envelope, Frames, Info, Instrument, Name, Sample, Song, Told};
 use reference::draft::{self, Tune};
 use reference::records;
 

@@ -1,9 +1,9 @@
 //! Modules as large as they may be, repacked. What becomes of them is typed by hand too.
 
-use archive::interface::{self, Answer};
 use archive::large::{filled_up, with_last, MOST};
 use archive::queries;
 use archive::repacking::{into_room, keeps, ARCHIVE};
+use interface::Answer;
 use reference::draft::{Chunk, Draft, Pattern, Sample, Tune};
 use reference::generate::Random;
 

@@ -4,8 +4,8 @@
 mod large;
 
 use archive::compare::{self, ARCHIVE};
-use archive::interface::{self, ModuleAnswer};
 use archive::seeds::for_seeds;
+use interface::ModuleAnswer;
 use reference::chunks::{Name, COVERED};
 use reference::corpus::module_cases;
 use reference::draft::{Chunk, Draft, Envelope, Instrument, Pattern, Sample, Song, Tune};

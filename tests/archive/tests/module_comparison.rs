@@ -2,7 +2,7 @@
 //! checks.
 
 use archive::compare::{self, Library, REFERENCE};
-use archive::interface::ModuleAnswer;
+use interface::ModuleAnswer;
 use reference::chunks::Chunks;
 use reference::corpus::module_cases;
 use reference::draft::{Chunk, Tune};

@@ -1,7 +1,6 @@
 //! libpattern.a against the reference. DBM0_CASES and DBM0_SEED say how many random cases there are, and which.
 
 use archive::compare::{self, answer, Lent, ARCHIVE, REFERENCE};
-use archive::interface;
 use archive::seeds::for_seeds;
 use reference::corpus::{pattern_cases, Case};
 use reference::generate::{bytes, cells, damaged, likely_bytes, sound_stream, Random};
@@ -214,18 +213,18 @@ fn the_largest_pattern() {
     let told = answer(pack(&cells, ROWS, TRACKS, &mut expected));
     assert_eq!(told.length as usize, needed);
     assert_eq!(
-        interface::pack(&cells, ROWS, TRACKS, &mut is[..needed - 1]),
+        interface::pack_pattern(&cells, ROWS, TRACKS, &mut is[..needed - 1]),
         answer(pack(&cells, ROWS, TRACKS, &mut [])),
     );
     assert!(
         is.iter().all(|&byte| byte == 0xAA),
         "a refusal changes the output"
     );
-    assert_eq!(interface::pack(&cells, ROWS, TRACKS, &mut is), told);
+    assert_eq!(interface::pack_pattern(&cells, ROWS, TRACKS, &mut is), told);
     assert!(is == expected, "the packed streams differ");
     let short = &cells[..CELLS - 1];
     assert_eq!(
-        interface::pack(short, ROWS, TRACKS, &mut is),
+        interface::pack_pattern(short, ROWS, TRACKS, &mut is),
         answer(pack(short, ROWS, TRACKS, &mut []))
     );
 
@@ -234,21 +233,21 @@ fn the_largest_pattern() {
     let mut out = vec![0xAA; CELLS + 1];
     for stream in [stream, &stream[..needed - 1], &left_over] {
         assert_eq!(
-            interface::check(stream, ROWS, TRACKS),
+            interface::check_pattern(stream, ROWS, TRACKS),
             (REFERENCE.check)(stream, ROWS, TRACKS)
         );
         assert_eq!(
-            interface::unpack(stream, ROWS, TRACKS, &mut out[..CELLS - 1]),
+            interface::unpack_pattern(stream, ROWS, TRACKS, &mut out[..CELLS - 1]),
             answer(unpack(stream, ROWS, TRACKS, &mut [])),
         );
         assert_eq!(
-            interface::unpack(stream, ROWS, TRACKS, &mut out[..CELLS - 1]).number,
+            interface::unpack_pattern(stream, ROWS, TRACKS, &mut out[..CELLS - 1]).number,
             17
         );
     }
     // Without its last byte, row ends lack: told at the length. With one more, that one is left over.
     for (stream, place) in [(&stream[..needed - 1], needed - 1), (&left_over, needed)] {
-        let is = interface::unpack(stream, ROWS, TRACKS, &mut out);
+        let is = interface::unpack_pattern(stream, ROWS, TRACKS, &mut out);
         assert_eq!((is.number, is.place as usize, is.length), (15, place, 0));
     }
     assert!(
@@ -256,7 +255,7 @@ fn the_largest_pattern() {
         "a refusal changes the output"
     );
     assert_eq!(
-        interface::unpack(stream, ROWS, TRACKS, &mut out).length as usize,
+        interface::unpack_pattern(stream, ROWS, TRACKS, &mut out).length as usize,
         CELLS
     );
     assert!(out[..CELLS] == cells[..], "the cells differ");
@@ -271,12 +270,12 @@ fn a_full_pattern_of_many_rows() {
     let length = (rows * (1 + 8 * tracks)) as usize;
     let mut packed = vec![0xAA; length];
     assert_eq!(
-        interface::pack(&cells, rows, tracks, &mut packed[..length - 1]).place as usize,
+        interface::pack_pattern(&cells, rows, tracks, &mut packed[..length - 1]).place as usize,
         length
     );
     assert!(packed.iter().all(|&byte| byte == 0xAA));
     assert_eq!(
-        interface::pack(&cells, rows, tracks, &mut packed).length as usize,
+        interface::pack_pattern(&cells, rows, tracks, &mut packed).length as usize,
         length
     );
     let mut expected = vec![0; length];
@@ -284,7 +283,7 @@ fn a_full_pattern_of_many_rows() {
     assert!(packed == expected);
     let mut out = vec![0xAA; cells.len()];
     assert_eq!(
-        interface::unpack(&packed, rows, tracks, &mut out).length as usize,
+        interface::unpack_pattern(&packed, rows, tracks, &mut out).length as usize,
         cells.len()
     );
     assert!(out == cells);
@@ -299,7 +298,7 @@ fn outputs_at_every_alignment() {
     for start in 0..64 {
         let mut held = Lent::new(200);
         let before = held.bytes.clone();
-        let answer = interface::unpack(&stream, 2, 4, &mut held.bytes[start..start + 48]);
+        let answer = interface::unpack_pattern(&stream, 2, 4, &mut held.bytes[start..start + 48]);
         assert_eq!(answer.length, 48);
         assert_eq!(held.bytes[..start], before[..start]);
         assert_eq!(held.bytes[start..start + 48], expected);

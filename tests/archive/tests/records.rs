@@ -2,10 +2,10 @@
 //! modules that are as large as they may be stand in large_records.rs.
 
 use archive::compare::Lent;
-use archive::interface::{self, Answer};
 use archive::modules;
 use archive::queries::ARCHIVE;
 use archive::records::all;
+use interface::Answer;
 use reference::generate::Random;
 use reference::records;
 use reference::tunes::files;

@@ -2,10 +2,10 @@
 
 use std::mem::{offset_of, size_of};
 
-use archive::interface::{
-    self, Answer, Cell, Envelope, Frames, Info, Instrument, Name, Sample, Song, Told, Version,
-};
 use archive::queries::{refused, shown};
+use interface::{
+    Answer, Cell, Envelope, Frames, Info, Instrument, Name, Sample, Song, Told, Version,
+};
 use reference::draft::{self, Tune};
 
 /// The answer for what is not there.

@@ -2,10 +2,10 @@
 //! wrong queries.
 
 use archive::compare::Lent;
-use archive::interface::{Answer, Envelope, Told};
 use archive::modules;
 use archive::queries::{refused, shown, Queries, REFERENCE};
 use archive::records::all;
+use interface::{Answer, Envelope, Told};
 use reference::draft::{Sample, Tune};
 use reference::generate::Random;
 

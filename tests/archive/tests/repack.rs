@@ -2,11 +2,11 @@
 //! cases there are, and which. The modules that are as large as they may be stand in large_repack.rs.
 
 use archive::compare::Lent;
-use archive::interface::{self, Answer};
 use archive::modules;
 use archive::queries;
 use archive::repacking::{compare, into_room, keeps, ARCHIVE};
 use archive::seeds::for_seeds;
+use interface::Answer;
 use reference::draft::{Chunk, Pattern, Sample, Song, Tune};
 use reference::generate::{bytes, damaged, module, tune, Most, Random};
 use reference::module::check;

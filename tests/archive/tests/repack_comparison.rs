@@ -2,10 +2,10 @@
 //! wrong repackers.
 
 use archive::compare::{answer, Fill, Lent};
-use archive::interface::Answer;
 use archive::modules;
 use archive::queries;
 use archive::repacking::{compare, keeps, REFERENCE};
+use interface::Answer;
 use reference::generate::Random;
 use reference::refusal::Refusal;
 

@@ -1,8 +1,8 @@
 //! Modules as large as they may be, and larger ones. What the answers should be is typed by hand too.
 
 use archive::compare::{self, ARCHIVE};
-use archive::interface::{self, ModuleAnswer};
 use archive::large::{filled_up, with_last, MOST};
+use interface::ModuleAnswer;
 use reference::draft::{Chunk, Envelope, Instrument, Pattern, Sample, Song, Tune};
 
 /// The archive agrees with the reference, and the answer is this one.

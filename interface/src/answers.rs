@@ -9,6 +9,25 @@ pub struct Answer {
     pub length: u64,
 }
 
+impl Answer {
+    /// So many bytes are written.
+    pub const fn written(length: usize) -> Answer {
+        Answer {
+            number: 0,
+            place: 0,
+            length: length as u64,
+        }
+    }
+
+    pub const fn refused(number: u64, place: usize) -> Answer {
+        Answer {
+            number,
+            place: place as u64,
+            length: 0,
+        }
+    }
+}
+
 /// The answer of the check of a module.
 #[repr(C)]
 #[derive(Clone, Copy, Debug, PartialEq, Eq)]
@@ -89,7 +108,7 @@ pub struct Envelope {
     pub values: [i32; 32],
 }
 
-/// The kind of the note is 0 for none, 1 for key off, 2 for a pitch and 3 for an unknown one.
+/// The kind of the note is one of `NOTE_NONE`, `NOTE_KEY_OFF`, `NOTE_PITCH` and `NOTE_UNKNOWN`.
 #[repr(C)]
 #[derive(Clone, Copy, Debug, Default, PartialEq, Eq)]
 pub struct Cell {

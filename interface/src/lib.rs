@@ -1,7 +1,5 @@
-//! The C interface of libpattern.a (include/dbm0_pattern.h) and of libdbm0.a (include/dbm0.h), made safe. All that is unsafe stands
-//! here.
-
-#![allow(unsafe_code)]
+//! The C interface of libpattern.a (include/dbm0_pattern.h) and of libdbm0.a (include/dbm0.h), made safe: each call has a function of
+//! its name without `dbm0_`, which takes slices. The command line, the tests over the archives and the benchmark have it from here.
 
 mod answers;
 
@@ -9,6 +7,18 @@ pub use answers::{
     Answer, Cell, Envelope, Frames, Info, Instrument, ModuleAnswer, Name, Sample, Song, Told,
     Version,
 };
+
+/// The most bytes that a module may have. A longer one is refused.
+pub const MOST_BYTES: usize = 16_777_216;
+
+/// The number of the refusal for an output that is shorter than needed. Its place is the needed length.
+pub const OUTPUT_TOO_SHORT: u64 = 17;
+
+/// The kinds of a cell's note.
+pub const NOTE_NONE: u8 = 0;
+pub const NOTE_KEY_OFF: u8 = 1;
+pub const NOTE_PITCH: u8 = 2;
+pub const NOTE_UNKNOWN: u8 = 3;
 
 extern "C" {
     fn dbm0_check_pattern(stream: *const u8, length: usize, rows: u64, tracks: u64) -> Answer;
@@ -79,18 +89,18 @@ extern "C" {
 }
 
 // All calls below are sound for the same reasons: a pointer and a length are those of a slice that lives through the call, and a
-// lent `&mut` slice overlaps no other.
+// lent `&mut` slice overlaps no other. The answers are laid out as the headers say.
 
-pub fn check(stream: &[u8], rows: u64, tracks: u64) -> Answer {
+pub fn check_pattern(stream: &[u8], rows: u64, tracks: u64) -> Answer {
     unsafe { dbm0_check_pattern(stream.as_ptr(), stream.len(), rows, tracks) }
 }
 
-pub fn unpack(stream: &[u8], rows: u64, tracks: u64, out: &mut [u8]) -> Answer {
+pub fn unpack_pattern(stream: &[u8], rows: u64, tracks: u64, out: &mut [u8]) -> Answer {
     let (start, length) = (out.as_mut_ptr(), out.len());
     unsafe { dbm0_unpack_pattern(stream.as_ptr(), stream.len(), rows, tracks, start, length) }
 }
 
-pub fn pack(cells: &[u8], rows: u64, tracks: u64, out: &mut [u8]) -> Answer {
+pub fn pack_pattern(cells: &[u8], rows: u64, tracks: u64, out: &mut [u8]) -> Answer {
     let (start, length) = (out.as_mut_ptr(), out.len());
     unsafe { dbm0_pack_pattern(cells.as_ptr(), cells.len(), rows, tracks, start, length) }
 }
