@@ -1,51 +1,43 @@
-//! The comparison of all records of a module at once, and what must hold of them whatever the reference says.
+//! All records of a module at once, in the frame of writing.rs.
 
-use crate::compare::{self, answer, rooms, same_answer, same_bytes, with_module, Fill, Lent};
-use crate::queries::Queries;
-use interface::{Answer, Envelope};
+use crate::compare::answer;
+use crate::queries::{self, Queries};
+use crate::writing::Call;
+use interface::Envelope;
 use reference::all_records::write;
 use reference::generate::Random;
 
-/// libdbm0.a.
-pub const ARCHIVE: Fill = |module, lent| interface::records(module, lent.out());
+/// libdbm0.a against the reference.
+pub const RECORDS: Call<'static> = Call {
+    name: "records",
+    library: &|module, lent| interface::records(module, lent.out()),
+    queries: &queries::ARCHIVE,
+    reference: &|module, lent| answer(write(module, lent.out())),
+    enough: |length| length + 60,
+    keeps: shown_one_by_one,
+};
 
-/// The reference itself.
-pub const REFERENCE: Fill = |module, lent| answer(write(module, lent.out()));
-
-/// Writes all records of a module into outputs of several lengths, and has the reference do it too. The error says what differs, with
-/// the whole module where it is not too long to be read.
-pub fn compare(library: Fill, module: &[u8], random: &mut Random) -> Result<(), String> {
-    for room in rooms(REFERENCE, module, random) {
-        into_room(library, module, room)?;
+/// Each record is what its query answers.
+fn shown_one_by_one(
+    call: &Call,
+    module: &[u8],
+    written: &[u8],
+    _: &mut Random,
+) -> Result<(), String> {
+    let expected = one_by_one(call.queries, module);
+    if written == expected {
+        return Ok(());
     }
-    Ok(())
-}
-
-/// The same with one length of the output.
-pub fn into_room(library: Fill, module: &[u8], room: usize) -> Result<(), String> {
-    compare::into_room("records", library, REFERENCE, module, room)
-}
-
-/// What holds of a library alone, with its own queries: the refusal is that of a query, and then the output stays as it was; each record
-/// is what its query answers, and an output of the module's length and 60 bytes is enough.
-pub fn shown_one_by_one(library: Fill, queries: &Queries, module: &[u8]) -> Result<(), String> {
-    let room = module.len() + 60;
-    let (mut lent, mut expected_lent) = (Lent::new(room), Lent::new(room));
-    let is = library(module, &mut lent);
-    let version = (queries.version)(module);
-    let mut expected = Answer {
-        number: version.number,
-        place: version.place,
-        length: 0,
-    };
-    if version.number == 0 {
-        let records = one_by_one(queries, module);
-        expected.length = records.len() as u64;
-        expected_lent.out()[..records.len()].copy_from_slice(&records);
-    }
-    same_answer("records", is, expected)
-        .and_then(|()| same_bytes("records", &lent, &expected_lent))
-        .map_err(|what| with_module(what, module))
+    let same = written
+        .iter()
+        .zip(&expected)
+        .take_while(|(is, expected)| is == expected);
+    Err(format!(
+        "{} bytes, not {}, other than the queries answer from {} on",
+        written.len(),
+        expected.len(),
+        same.count()
+    ))
 }
 
 /// The records of an accepted module, each asked for by its own query.

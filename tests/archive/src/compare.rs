@@ -16,18 +16,25 @@ const GUARD: usize = 64;
 /// cleared or copied shows.
 pub struct Lent {
     pub bytes: Vec<u8>,
+    start: usize,
     room: usize,
 }
 
 impl Lent {
     pub fn new(room: usize) -> Lent {
-        let bytes = (0..room + 2 * GUARD).map(filler).collect();
-        Lent { bytes, room }
+        Lent::shifted(0, room)
+    }
+
+    /// The same so many bytes further on, for another alignment.
+    pub fn shifted(shift: usize, room: usize) -> Lent {
+        let start = GUARD + shift;
+        let bytes = (0..start + room + GUARD).map(filler).collect();
+        Lent { bytes, start, room }
     }
 
     /// The part that a call is lent.
     pub fn out(&mut self) -> &mut [u8] {
-        &mut self.bytes[GUARD..GUARD + self.room]
+        &mut self.bytes[self.start..self.start + self.room]
     }
 }
 
@@ -65,16 +72,8 @@ pub const REFERENCE: Library = Library {
 /// The answer of the C interface for an answer of the reference.
 pub fn answer(result: Result<u64, Refusal>) -> Answer {
     match result {
-        Ok(length) => Answer {
-            number: 0,
-            place: 0,
-            length,
-        },
-        Err(Refusal { number, place }) => Answer {
-            number,
-            place,
-            length: 0,
-        },
+        Ok(length) => Answer::written(length as usize),
+        Err(Refusal { number, place }) => Answer::refused(number, place as usize),
     }
 }
 
@@ -126,11 +125,8 @@ pub fn stream(
     let is = (library.check)(stream, rows, tracks);
     let expected = (REFERENCE.check)(stream, rows, tracks);
     same_answer("check", is, expected).map_err(told)?;
-    let (mut is_lent, mut expected_lent) = (Lent::new(room), Lent::new(room));
-    let is = (library.unpack)(stream, rows, tracks, &mut is_lent);
-    let expected = (REFERENCE.unpack)(stream, rows, tracks, &mut expected_lent);
-    same_answer("unpack", is, expected).map_err(told)?;
-    same_bytes("unpack", &is_lent, &expected_lent).map_err(told)
+    let unpack = |of: Library| move |lent: &mut Lent| (of.unpack)(stream, rows, tracks, lent);
+    same_output("unpack", room, unpack(library), unpack(REFERENCE)).map_err(told)
 }
 
 /// Packs cells into this much room. The error says what differs, with the whole case.
@@ -144,11 +140,8 @@ pub fn cells(
     let told = |what: String| {
         format!("{what}\ncells {cells:02x?}, {rows} rows, {tracks} tracks, room {room}")
     };
-    let (mut is_lent, mut expected_lent) = (Lent::new(room), Lent::new(room));
-    let is = (library.pack)(cells, rows, tracks, &mut is_lent);
-    let expected = (REFERENCE.pack)(cells, rows, tracks, &mut expected_lent);
-    same_answer("pack", is, expected).map_err(told)?;
-    same_bytes("pack", &is_lent, &expected_lent).map_err(told)
+    let pack = |of: Library| move |lent: &mut Lent| (of.pack)(cells, rows, tracks, lent);
+    same_output("pack", room, pack(library), pack(REFERENCE)).map_err(told)
 }
 
 /// Cells packed and unpacked again are the same cells, and their length is the one that an output of nothing tells.
@@ -164,23 +157,12 @@ pub fn round_trip(library: Library, cells: &[u8], rows: u64, tracks: u64) -> Res
         return Err(told("pack writes another length than it tells"));
     }
     let stream = lent.out()[..packed.length as usize].to_vec();
-    if (library.check)(&stream, rows, tracks)
-        != (Answer {
-            number: 0,
-            place: 0,
-            length: 0,
-        })
-    {
+    if (library.check)(&stream, rows, tracks) != Answer::written(0) {
         return Err(told("the packed stream does not pass the check"));
     }
     let mut lent = Lent::new(cells.len());
     let unpacked = (library.unpack)(&stream, rows, tracks, &mut lent);
-    let whole = Answer {
-        number: 0,
-        place: 0,
-        length: cells.len() as u64,
-    };
-    if unpacked != whole || lent.out() != cells {
+    if unpacked != Answer::written(cells.len()) || lent.out() != cells {
         return Err(told("unpacking gives other cells"));
     }
     Ok(())
@@ -197,42 +179,24 @@ pub fn module(library: Library, module: &[u8]) -> Result<(), String> {
     same_answer("check_module", is, expected).map_err(told)
 }
 
-/// A call that fills an output from a module, of a library or of the reference.
-pub type Fill = fn(&[u8], &mut Lent) -> Answer;
-
-/// A call with one length of the output: it answers and writes what the reference does, and the module stays.
-pub fn into_room(
+/// Two calls with outputs of the same length: they answer the same, and leave the same in the output and on both sides of it.
+pub fn same_output(
     call: &str,
-    library: Fill,
-    reference: Fill,
-    module: &[u8],
     room: usize,
+    is: impl FnOnce(&mut Lent) -> Answer,
+    expected: impl FnOnce(&mut Lent) -> Answer,
 ) -> Result<(), String> {
-    let stored = module.to_vec();
     let (mut is_lent, mut expected_lent) = (Lent::new(room), Lent::new(room));
-    let is = library(module, &mut is_lent);
-    let expected = reference(module, &mut expected_lent);
-    same_answer(call, is, expected)
-        .and_then(|()| same_bytes(call, &is_lent, &expected_lent))
-        .and_then(|()| match module == stored {
-            true => Ok(()),
-            false => Err("the module is changed".to_string()),
-        })
-        .map_err(|what| with_module(format!("{what} (with room {room})"), &stored))
+    same_answer(call, is(&mut is_lent), expected(&mut expected_lent))?;
+    same_bytes(call, &is_lent, &expected_lent)
 }
 
-/// Lengths of an output: around the needed one and around the module's own, none, shorter and longer.
-pub fn rooms(reference: Fill, module: &[u8], random: &mut Random) -> Vec<usize> {
-    let needed = match reference(module, &mut Lent::new(0)) {
-        Answer {
-            number: 17, place, ..
-        } => place as usize,
-        _ => module.len(),
-    };
+/// Lengths of an output where so many bytes are needed: none, one, shorter, longer, and all around the needed one and another.
+pub fn rooms(needed: usize, other: usize, random: &mut Random) -> Vec<usize> {
     let short = random.below(needed as u64 + 1) as usize;
     let more = 3 + random.below(100) as usize;
     let mut rooms = vec![0, 1, short, needed + more];
-    for length in [needed, module.len()] {
+    for length in [needed, other] {
         rooms.extend(length.saturating_sub(2)..=length + 2);
     }
     rooms.sort_unstable();
@@ -266,7 +230,7 @@ pub fn same_bytes(call: &str, is: &Lent, expected: &Lent) -> Result<(), String> 
         return Ok(());
     };
     let (is_byte, expected_byte) = (is.bytes[place], expected.bytes[place]);
-    let offset = place as i64 - GUARD as i64;
+    let offset = place as i64 - is.start as i64;
     Err(format!(
         "{call} leaves {is_byte:02x} at {offset} of its output, expected {expected_byte:02x}"
     ))

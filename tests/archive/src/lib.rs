@@ -10,3 +10,5 @@ pub mod queries;
 pub mod records;
 pub mod repacking;
 pub mod seeds;
+pub mod stand_ins;
+pub mod writing;

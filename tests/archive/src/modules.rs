@@ -1,15 +1,17 @@
-//! The modules that a comparison of whole modules runs over: those of the corpus, the files of the folder `samples`, and random ones,
-//! sound and damaged.
+//! The modules that a comparison of whole modules runs over: those of the corpus, the files of the folder `samples`, random ones, sound
+//! and damaged, and all those that are a module with one change.
 
 use crate::seeds::for_seeds;
 use reference::corpus::{cases, Case};
 use reference::draft::Draft;
-use reference::generate::{damage, damaged, module, Most, Random};
+use reference::generate::{bytes, damage, damaged, module, Most, Random};
 use reference::module::check;
 use reference::tunes::files;
 
 /// A comparison of one module.
-pub type Comparison = fn(&[u8], &mut Random) -> Result<(), String>;
+pub trait Comparison: Fn(&[u8], &mut Random) -> Result<(), String> {}
+
+impl<F: Fn(&[u8], &mut Random) -> Result<(), String>> Comparison for F {}
 
 /// The small modules, and, so many times in a hundred, a larger one.
 fn drawn(random: &mut Random, larger: u64) -> Draft {
@@ -22,7 +24,7 @@ fn drawn(random: &mut Random, larger: u64) -> Draft {
 }
 
 /// The modules of all cases; there are at least so many.
-pub fn corpus(agrees: Comparison, least: usize) {
+pub fn corpus(agrees: impl Comparison, least: usize) {
     let mut count = 0;
     for (index, case) in cases().iter().enumerate() {
         if let Case::Module { module, .. } | Case::Records { module, .. } = case {
@@ -34,13 +36,13 @@ pub fn corpus(agrees: Comparison, least: usize) {
     assert!(count >= least, "only {count} cases");
 }
 
-pub fn sample_files(agrees: Comparison) {
+pub fn sample_files(agrees: impl Comparison) {
     for (name, module) in files() {
         agrees(&module, &mut Random::new(1)).unwrap_or_else(|what| panic!("{name}: {what}"));
     }
 }
 
-pub fn sound(agrees: Comparison, cases: u64, larger: u64) {
+pub fn sound(agrees: impl Comparison, cases: u64, larger: u64) {
     for_seeds(cases, |random| {
         let module = drawn(random, larger).bytes();
         check(&module).expect("it was made sound");
@@ -49,7 +51,7 @@ pub fn sound(agrees: Comparison, cases: u64, larger: u64) {
 }
 
 /// Chunks, blocks and fields damaged.
-pub fn damaged_parts(agrees: Comparison, cases: u64, larger: u64) {
+pub fn damaged_parts(agrees: impl Comparison, cases: u64, larger: u64) {
     for_seeds(cases, |random| {
         let mut draft = drawn(random, larger);
         for _ in 0..1 + random.below(3) {
@@ -60,11 +62,78 @@ pub fn damaged_parts(agrees: Comparison, cases: u64, larger: u64) {
 }
 
 /// Bytes taken out, put in and changed, wherever they stand.
-pub fn damaged_bytes(agrees: Comparison, cases: u64, larger: u64) {
+pub fn damaged_bytes(agrees: impl Comparison, cases: u64, larger: u64) {
     for_seeds(cases, |random| {
         let module = drawn(random, larger).bytes();
         agrees(&damaged(random, &module), random)
     });
+}
+
+/// Bytes that are mostly no module, though most have the beginning of one.
+pub fn any_bytes(agrees: impl Comparison, cases: u64) {
+    for_seeds(cases, |random| {
+        let length = random.below(100);
+        let mut module = bytes(random, length);
+        for (byte, due) in module.iter_mut().zip(*b"DBM0\x03\x00\x00\x00") {
+            if random.chance(98) {
+                *byte = due;
+            }
+        }
+        agrees(&module, random)
+    });
+}
+
+/// Every beginning of a module, and the module without each byte, and with one more.
+pub fn every_cut(module: &[u8], agrees: impl Comparison) {
+    for place in 0..module.len() {
+        let random = &mut Random::new(place as u64);
+        agrees(&module[..place], random).unwrap();
+        let (before, after) = module.split_at(place);
+        agrees(&[before, &after[1..]].concat(), random).unwrap();
+        for byte in [0, after[0], 0xFF] {
+            agrees(&[before, &[byte], after].concat(), random).unwrap();
+        }
+    }
+}
+
+/// Every byte of a module changed to each of the values that are given for it.
+pub fn every_change<const COUNT: usize>(
+    module: &[u8],
+    values: impl Fn(u8) -> [u8; COUNT],
+    agrees: impl Comparison,
+) {
+    let mut module = module.to_vec();
+    for place in 0..module.len() {
+        let stored = module[place];
+        for byte in values(stored) {
+            module[place] = byte;
+            agrees(&module, &mut Random::new(place as u64)).unwrap();
+        }
+        module[place] = stored;
+    }
+}
+
+/// All values that a byte can have.
+pub fn all_values(_: u8) -> [u8; 256] {
+    std::array::from_fn(|value| value as u8)
+}
+
+/// The module may be anywhere in memory, and what is before and after it does not count.
+pub fn at_every_alignment(module: &[u8], agrees: impl Comparison) {
+    for start in 0..64 {
+        for filler in [0, b'A', 0xFF] {
+            let mut memory = vec![filler; module.len() + 128];
+            let place = start..start + module.len();
+            memory[place.clone()].copy_from_slice(module);
+            agrees(&memory[place], &mut Random::new(start as u64)).unwrap();
+        }
+    }
+}
+
+/// A file of the folder `samples`.
+pub fn file(wanted: &str) -> Vec<u8> {
+    let found = files().into_iter().find(|(name, _)| *name == wanted);
+    found.expect("there is such a file").1
 }
 
 /// The files of the folder `samples`, and so many modules made from seeds; every fourth of these is damaged.

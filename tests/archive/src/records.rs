@@ -2,9 +2,9 @@
 
 use std::fmt::Debug;
 
-use crate::compare::{same_answer, same_bytes, with_module, Lent};
+use crate::compare::{rooms, same_answer, same_output, with_module, Lent};
 use crate::queries::{Queries, REFERENCE};
-use interface::{Answer, Frames, Info, Told};
+use interface::{Answer, Frames, Info, Told, OUTPUT_TOO_SHORT};
 use reference::generate::Random;
 
 /// Asks a library everything about a module, and the reference too. The error says what differs, with the whole module where it is
@@ -209,17 +209,13 @@ impl Asking<'_> {
         query: impl Fn(Side, &mut Lent) -> Answer,
     ) -> Result<(), String> {
         let needed = match query(self.expected, &mut Lent::new(0)) {
-            Answer {
-                number: 17, place, ..
-            } => place,
+            answer if answer.number == OUTPUT_TOO_SHORT => answer.place as usize,
             _ => 0,
         };
-        for room in self.rooms(needed as usize) {
-            let (mut is_lent, mut expected_lent) = (Lent::new(room), Lent::new(room));
-            let is = query(self.is, &mut is_lent);
-            let expected = query(self.expected, &mut expected_lent);
-            same_answer(call, is, expected)
-                .and_then(|()| same_bytes(call, &is_lent, &expected_lent))
+        for room in rooms(needed, needed, self.random) {
+            let is = |lent: &mut Lent| query(self.is, lent);
+            let expected = |lent: &mut Lent| query(self.expected, lent);
+            same_output(call, room, is, expected)
                 .map_err(|what| format!("{what} (asked for {asked} with room {room})"))?;
         }
         Ok(())
@@ -241,23 +237,6 @@ impl Asking<'_> {
         numbers.sort_unstable();
         numbers.dedup();
         numbers
-    }
-
-    /// Lengths of an output: none, too short, just enough, longer.
-    fn rooms(&mut self, needed: usize) -> Vec<usize> {
-        let short = self.random.below(needed as u64 + 1) as usize;
-        let more = 2 + self.random.below(100) as usize;
-        let mut rooms = vec![
-            0,
-            short,
-            needed.saturating_sub(1),
-            needed,
-            needed + 1,
-            needed + more,
-        ];
-        rooms.sort_unstable();
-        rooms.dedup();
-        rooms
     }
 }
 

@@ -1,6 +1,7 @@
 //! The comparison itself: it finds nothing between the reference and the reference, and it notices each of these wrong libraries.
 
 use archive::compare::{self, Lent, Library, REFERENCE};
+use archive::writing::writing;
 use interface::Answer;
 use reference::corpus::{pattern_cases, Case};
 use reference::generate::{cells, Random};
@@ -13,11 +14,7 @@ fn differences(library: Library) -> usize {
         .count()
 }
 
-const ACCEPTED: Answer = Answer {
-    number: 0,
-    place: 0,
-    length: 0,
-};
+const ACCEPTED: Answer = Answer::written(0);
 
 #[test]
 fn nothing_between_the_reference_and_itself() {
@@ -39,11 +36,7 @@ fn a_check_that_accepts_everything() {
 
 #[test]
 fn a_check_that_refuses_everything() {
-    let check = |_: &[u8], _, _| Answer {
-        number: 15,
-        place: 0,
-        length: 0,
-    };
+    let check = |_: &[u8], _, _| Answer::refused(15, 0);
     assert!(differences(Library { check, ..REFERENCE }) > 100);
 }
 
@@ -204,22 +197,7 @@ fn a_packer_that_names_all_six_fields() {
             }
             packed.push(0);
         }
-        let length = packed.len() as u64;
-        match lent.out().get_mut(..packed.len()) {
-            Some(out) => {
-                out.copy_from_slice(&packed);
-                Answer {
-                    number: 0,
-                    place: 0,
-                    length,
-                }
-            }
-            None => Answer {
-                number: 17,
-                place: length,
-                length: 0,
-            },
-        }
+        writing(&packed, lent)
     };
     let library = Library { pack, ..REFERENCE };
     assert!(differences(library) > 100);

@@ -1,37 +1,8 @@
 //! All records at once of modules as large as they may be. What is written of them is made by hand too.
 
-use archive::all_records::{into_room, ARCHIVE};
+use archive::all_records::RECORDS;
 use archive::large::{filled_up, with_last, MOST};
-use interface::Answer;
 use reference::draft::{Chunk, Envelope, Instrument, Pattern, Sample, Song, Tune};
-
-/// The records of the module are these, in an output of just that length, of one more and of the module's length and 60; with one byte
-/// less it is 17, and nothing is written. The reference says the same.
-#[track_caller]
-fn shows(module: &[u8], expected: &[u8]) {
-    let needed = expected.len();
-    let answer = |number, place, length: usize| Answer {
-        number,
-        place,
-        length: length as u64,
-    };
-    let mut out = vec![0xAA; module.len() + 60];
-    let short = answer(17, needed as u64, 0);
-    assert_eq!(interface::records(module, &mut []), short);
-    assert_eq!(interface::records(module, &mut out[..needed - 1]), short);
-    assert!(out.iter().all(|&byte| byte == 0xAA), "a refusal writes");
-    for room in [needed, needed + 1, module.len() + 60] {
-        out.fill(0xAA);
-        let is = interface::records(module, &mut out[..room]);
-        assert_eq!(is, answer(0, 0, needed));
-        assert!(out[..needed] == *expected, "other bytes are written");
-        assert!(
-            out[needed..].iter().all(|&byte| byte == 0xAA),
-            "the bytes behind do not stay"
-        );
-    }
-    into_room(ARCHIVE, module, needed + 3).unwrap();
-}
 
 /// Version 3.00, no name, and these numbers: instruments, samples, songs, patterns, tracks, volume envelopes, panning envelopes.
 fn summary(numbers: [u16; 7]) -> Vec<u8> {
@@ -66,7 +37,7 @@ fn all_songs() {
     let mut records = summary([0, 0, 32_767, 1_024, 4, 0, 0]);
     records.extend(tune.songs.iter().flat_map(Song::bytes));
     records.extend([0; 2_048]);
-    shows(&module, &records);
+    RECORDS.gives(&module, &records);
 }
 
 /// 65,535 volume envelopes of two points, and as many panning envelopes of all points as fit. Of the first, the points that are not in
@@ -117,7 +88,7 @@ fn all_envelopes() {
         records.extend(shown.bytes());
     }
     records.extend((0..count).flat_map(|number| panning(number).bytes()));
-    shows(&module, &records);
+    RECORDS.gives(&module, &records);
 }
 
 /// In version 2: the stored values 0 to 64 become -128 to 128 in steps of 4.
@@ -146,7 +117,7 @@ fn all_envelopes_of_version_2() {
     records[2..5].copy_from_slice(b"old");
     records.extend([0; 50]);
     records.extend((0..65_535).flat_map(|n| envelope(|point| 8 * point - 124, n).bytes()));
-    shows(&module, &records);
+    RECORDS.gives(&module, &records);
 }
 
 /// 1,024 patterns of packed rows and 255 samples, which fill the module and are hardly shown.
@@ -174,7 +145,7 @@ fn patterns_and_samples() {
         records.extend([0, [8, 16, 32][number % 3]]);
         records.extend((9_000 + number as u32).to_be_bytes());
     }
-    shows(&module, &records);
+    RECORDS.gives(&module, &records);
 }
 
 /// As many chunks as there is room for, all of them empty, before and behind the others.
@@ -187,21 +158,10 @@ fn as_many_chunks_as_fit() {
         draft.chunks.extend(vec![empty.clone(); count / 5]);
         draft.chunks.push(chunk);
     }
-    shows(&draft.bytes(), &summary([0, 0, 0, 0, 4, 0, 0]));
+    RECORDS.gives(&draft.bytes(), &summary([0, 0, 0, 0, 4, 0, 0]));
 }
 
-/// One byte more than a module may have is 1, whatever it holds, and nothing is written.
 #[test]
 fn one_byte_too_many() {
-    let mut module = filled_up(Tune::default().draft(), MOST);
-    shows(&module, &summary([0, 0, 0, 0, 4, 0, 0]));
-    module.push(0);
-    let mut out = vec![0xAA; MOST];
-    let refused = Answer {
-        number: 1,
-        place: 0,
-        length: 0,
-    };
-    assert_eq!(interface::records(&module, &mut out), refused);
-    assert!(out.iter().all(|&byte| byte == 0xAA), "a refusal writes");
+    RECORDS.one_byte_too_many(|_| summary([0, 0, 0, 0, 4, 0, 0]));
 }

@@ -4,7 +4,8 @@ use std::fmt::Debug;
 
 use archive::large::{filled_up, with_last, MOST};
 use archive::queries::{refused, shown, Queries, ARCHIVE, REFERENCE};
-use interface::{Answer, Cell, Envelope, Frames, Info, Instrument, Name, Sample, Song, Told};
+use archive::writing::writes_around;
+use interface::{Cell, Envelope, Frames, Info, Instrument, Name, Sample, Song, Told};
 use reference::draft::{self, Tune};
 use reference::records;
 
@@ -26,33 +27,6 @@ fn name(text: &[u8]) -> Name {
     let mut name = Name::default();
     name.0[..text.len()].copy_from_slice(text);
     name
-}
-
-/// A call that writes these bytes: with no room and with one byte too little nothing is written, with one byte too much it stays.
-#[track_caller]
-fn writes(expected: &[u8], call: impl Fn(&mut [u8]) -> Answer) {
-    let needed = expected.len();
-    let short = Answer {
-        number: 17,
-        place: needed as u64,
-        length: 0,
-    };
-    let written = Answer {
-        number: 0,
-        place: 0,
-        length: needed as u64,
-    };
-    let mut out = vec![0xAA; needed + 1];
-    assert_eq!(call(&mut []), short);
-    assert_eq!(call(&mut out[..needed - 1]), short);
-    assert!(out.iter().all(|&byte| byte == 0xAA), "a refusal writes");
-    assert_eq!(call(&mut out), written);
-    assert!(out[..needed] == *expected, "other bytes are written");
-    assert_eq!(out[needed], 0xAA);
-    out.fill(0xAA);
-    assert_eq!(call(&mut out[..needed]), written);
-    assert!(out[..needed] == *expected, "other bytes are written");
-    assert_eq!(out[needed], 0xAA);
 }
 
 /// A sample that fills the module: nearly 17 million frames of 8 bits, or as many of 16 or 32 as fit. SMPL stands at 50, its block
@@ -93,7 +67,9 @@ fn a_long_sample() {
         }
         let mut expected = vec![0; 2 * frames];
         records::all_frames(&module, 1, &mut expected).expect("there is room");
-        writes(&expected, |out| interface::all_frames(&module, 1, out));
+        writes_around(&expected, |lent| {
+            interface::all_frames(&module, 1, lent.out())
+        });
     }
 }
 
@@ -135,7 +111,9 @@ fn all_songs() {
         .iter()
         .flat_map(|entry| entry.to_be_bytes())
         .collect();
-    writes(&bytes, |out| interface::playlist(&module, 32_766, out));
+    writes_around(&bytes, |lent| {
+        interface::playlist(&module, 32_766, lent.out())
+    });
 }
 
 /// 1,024 patterns of 254 tracks; every field is another in each.
@@ -165,8 +143,8 @@ fn all_patterns() {
     let module = filled_up(with_last(&tune, b"PATT"), MOST);
     for pattern in [0, 1, 255, 256, 1_023] {
         gives(|library| (library.rows)(&module, pattern), shown(1));
-        writes(&cells(pattern), |out| {
-            interface::cells(&module, pattern, out)
+        writes_around(&cells(pattern), |lent| {
+            interface::cells(&module, pattern, lent.out())
         });
     }
     gives(|library| (library.rows)(&module, 1_024), not_there());
@@ -239,7 +217,7 @@ fn a_long_pattern() {
     expected[253 * 6 + 5] = 0xFF;
     expected[CELLS - 254 * 6] = 0x10;
     expected[CELLS - 5] = 7;
-    writes(&expected, |out| interface::cells(&module, 0, out));
+    writes_around(&expected, |lent| interface::cells(&module, 0, lent.out()));
 }
 
 /// 255 instruments and 255 samples.

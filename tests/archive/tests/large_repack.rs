@@ -1,40 +1,16 @@
 //! Modules as large as they may be, repacked. What becomes of them is typed by hand too.
 
 use archive::large::{filled_up, with_last, MOST};
-use archive::queries;
-use archive::repacking::{into_room, keeps, ARCHIVE};
-use interface::Answer;
+use archive::repacking::REPACK;
 use reference::draft::{Chunk, Draft, Pattern, Sample, Tune};
 use reference::generate::Random;
 
-/// The module becomes this one, in an output of just that length, of one more and of the module's own; with one byte less it is 17, and
-/// nothing is written.
+/// The module becomes this one, which becomes itself and shows the same.
 #[track_caller]
 fn becomes(module: &[u8], expected: &[u8]) {
-    let needed = expected.len();
-    let answer = |number, place, length: usize| Answer {
-        number,
-        place,
-        length: length as u64,
-    };
-    let mut out = vec![0xAA; module.len() + 1];
-    let short = answer(17, needed as u64, 0);
-    assert_eq!(interface::repack(module, &mut []), short);
-    assert_eq!(interface::repack(module, &mut out[..needed - 1]), short);
-    assert!(out.iter().all(|&byte| byte == 0xAA), "a refusal writes");
-    for room in [needed, needed + 1, module.len()] {
-        out.fill(0xAA);
-        let is = interface::repack(module, &mut out[..room]);
-        assert_eq!(is, answer(0, 0, needed));
-        assert!(out[..needed] == *expected, "other bytes are written");
-        assert!(
-            out[needed..].iter().all(|&byte| byte == 0xAA),
-            "the bytes behind do not stay"
-        );
-    }
-    into_room(ARCHIVE, module, module.len()).unwrap();
-    into_room(ARCHIVE, expected, needed).unwrap();
-    keeps(ARCHIVE, &queries::ARCHIVE, module, &mut Random::new(1)).unwrap();
+    REPACK.gives(module, expected);
+    REPACK.into_room(expected, expected.len()).unwrap();
+    REPACK.holds_alone(module, &mut Random::new(1)).unwrap();
 }
 
 /// The draft with other patterns.
@@ -121,21 +97,7 @@ fn long_chunks_around_patt() {
     becomes(&module, &with(&[2, 3, 0x47, 1, 0, 0]));
 }
 
-/// One byte more than a module may have is 1, whatever it holds, and nothing is written.
 #[test]
 fn one_byte_too_many() {
-    let answer = |number, length| Answer {
-        number,
-        place: 0,
-        length,
-    };
-    let mut module = filled_up(Tune::default().draft(), MOST);
-    let mut out = vec![0xAA; MOST + 1];
-    assert_eq!(interface::repack(&module, &mut out), answer(0, MOST as u64));
-    assert!(out[..MOST] == *module, "it does not stay as it is");
-    assert_eq!(out[MOST], 0xAA);
-    module.push(0);
-    out.fill(0xAA);
-    assert_eq!(interface::repack(&module, &mut out), answer(1, 0));
-    assert!(out.iter().all(|&byte| byte == 0xAA), "a refusal writes");
+    REPACK.one_byte_too_many(<[u8]>::to_vec);
 }

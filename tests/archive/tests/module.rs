@@ -4,18 +4,23 @@
 mod large;
 
 use archive::compare::{self, ARCHIVE};
+use archive::modules;
 use archive::seeds::for_seeds;
 use interface::ModuleAnswer;
 use reference::chunks::{Name, COVERED};
 use reference::corpus::module_cases;
 use reference::draft::{Chunk, Draft, Envelope, Instrument, Pattern, Sample, Song, Tune};
-use reference::generate::{bytes, damage, damaged, module, Most, Random};
-use reference::tunes::files;
+use reference::generate::{bytes, Random};
 
 const ACCEPTED: ModuleAnswer = ModuleAnswer {
     number: 0,
     place: 0,
 };
+
+/// The archive agrees with the reference.
+fn agrees(module: &[u8], _: &mut Random) -> Result<(), String> {
+    compare::module(ARCHIVE, module)
+}
 
 /// The archive agrees with the reference, and both accept the module.
 fn accepted(module: &[u8]) -> Result<(), String> {
@@ -24,16 +29,6 @@ fn accepted(module: &[u8]) -> Result<(), String> {
         ACCEPTED => Ok(()),
         answer => Err(format!("{answer:?} for a module that was made sound")),
     }
-}
-
-/// The small modules, and now and then a larger one.
-fn drawn(random: &mut Random) -> Draft {
-    let most = if random.chance(10) {
-        Most::USUAL
-    } else {
-        Most::SMALL
-    };
-    module(random, &most)
 }
 
 /// All eight covered chunks and two others, each list with two blocks or more.
@@ -145,34 +140,22 @@ fn the_corpus() {
 
 #[test]
 fn the_sample_files() {
-    for (name, module) in files() {
-        compare::module(ARCHIVE, &module).unwrap_or_else(|what| panic!("{name}: {what}"));
-    }
+    modules::sample_files(agrees);
 }
 
 #[test]
 fn sound_modules() {
-    for_seeds(20_000, |random| accepted(&drawn(random).bytes()));
+    modules::sound(|module, _| accepted(module), 20_000, 10);
 }
 
 #[test]
 fn damaged_modules() {
-    for_seeds(100_000, |random| {
-        let mut draft = drawn(random);
-        for _ in 0..1 + random.below(3) {
-            damage(random, &mut draft);
-        }
-        compare::module(ARCHIVE, &draft.bytes())
-    });
+    modules::damaged_parts(agrees, 100_000, 10);
 }
 
-/// Bytes taken out, put in and changed, wherever they stand.
 #[test]
 fn damaged_bytes() {
-    for_seeds(50_000, |random| {
-        let module = drawn(random).bytes();
-        compare::module(ARCHIVE, &damaged(random, &module))
-    });
+    modules::damaged_bytes(agrees, 50_000, 10);
 }
 
 /// Chunks in any order and number, most of them as they should be where all counts are 0.
@@ -212,17 +195,7 @@ fn heaps_of_chunks() {
 
 #[test]
 fn any_bytes() {
-    for_seeds(20_000, |random| {
-        let length = random.below(100);
-        let mut module = bytes(random, length);
-        // Mostly with the beginning of a module.
-        for (byte, due) in module.iter_mut().zip(*b"DBM0\x03\x00\x00\x00") {
-            if random.chance(98) {
-                *byte = due;
-            }
-        }
-        compare::module(ARCHIVE, &module)
-    });
+    modules::any_bytes(agrees, 20_000);
 }
 
 /// Every beginning of a module with all chunks, in two orders of the chunks; and the module without each byte, and with one more.
@@ -234,14 +207,7 @@ fn every_cut() {
     for draft in [everything(), reversed] {
         let module = draft.bytes();
         accepted(&module).unwrap();
-        for place in 0..module.len() {
-            compare::module(ARCHIVE, &module[..place]).unwrap();
-            let (before, after) = module.split_at(place);
-            compare::module(ARCHIVE, &[before, &after[1..]].concat()).unwrap();
-            for byte in [0, after[0], 0xFF] {
-                compare::module(ARCHIVE, &[before, &[byte], after].concat()).unwrap();
-            }
-        }
+        modules::every_cut(&module, agrees);
     }
 }
 
@@ -249,16 +215,9 @@ fn every_cut() {
 #[test]
 fn every_change_of_a_byte() {
     for version in [2, 3] {
-        let mut module = small(version, Sample::new(1, &[0x40, 0x80, 0xC0]));
+        let module = small(version, Sample::new(1, &[0x40, 0x80, 0xC0]));
         accepted(&module).unwrap();
-        for place in 0..module.len() {
-            let stored = module[place];
-            for byte in 0..=255 {
-                module[place] = byte;
-                compare::module(ARCHIVE, &module).unwrap();
-            }
-            module[place] = stored;
-        }
+        modules::every_change(&module, modules::all_values, agrees);
     }
 }
 
@@ -357,15 +316,8 @@ fn no_bytes() {
 /// The module may stand anywhere, and what stands before and behind it does not count.
 #[test]
 fn modules_at_every_alignment() {
-    let module = everything().bytes();
-    for start in 0..64 {
-        for filler in [0, b'A', 0xFF] {
-            let mut memory = vec![filler; module.len() + 128];
-            memory[start..start + module.len()].copy_from_slice(&module);
-            let lent = &memory[start..start + module.len()];
-            assert_eq!(interface::check_module(lent), ACCEPTED);
-            let cut = &lent[..lent.len() - 1];
-            compare::module(ARCHIVE, cut).unwrap();
-        }
-    }
+    modules::at_every_alignment(&everything().bytes(), |module, _| {
+        accepted(module)?;
+        compare::module(ARCHIVE, &module[..module.len() - 1])
+    });
 }

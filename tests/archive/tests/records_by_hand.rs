@@ -572,11 +572,7 @@ fn a_sample_without_frames() {
 /// zeros, and leaves the output alone.
 fn all_refuse(module: &[u8], asked: usize, room: usize, number: u64, place: u64) {
     let mut out = vec![0xAA; room];
-    let refusal = Answer {
-        number,
-        place,
-        length: 0,
-    };
+    let refusal = Answer::refused(number, place as usize);
     assert_eq!(interface::playlist(module, asked, &mut out), refusal);
     assert_eq!(interface::cells(module, asked, &mut out), refusal);
     assert_eq!(interface::all_frames(module, asked, &mut out), refusal);

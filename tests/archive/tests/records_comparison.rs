@@ -161,11 +161,7 @@ fn outputs_that_give_17_before_18() {
     fn wrong(right: Filling, module: &[u8], number: usize, lent: &mut Lent) -> Answer {
         let answer = right(module, number, lent);
         if answer.number == 18 && lent.out().is_empty() {
-            return Answer {
-                number: 17,
-                place: 2,
-                length: 0,
-            };
+            return Answer::refused(17, 2);
         }
         answer
     }
