@@ -9,52 +9,11 @@
 #define _DEFAULT_SOURCE /* for MAP_ANONYMOUS */
 
 #include "dbm0.h"
-#include "expect.h"
-#include "lent.h"
 
-#include <stdio.h>
-#include <string.h>
-
-#define LEND(bytes) lend((bytes), sizeof(bytes) - 1)
-
-/* With an output of so many bytes these records are written, and what stands behind them stays. */
-static void written(const char *bytes, size_t needed, size_t room, int line)
-{
-    uint8_t *out = output(room);
-    dbm0_length_answer answer = dbm0_records(module, length, out, room);
-
-    count(answer.number == 0 && answer.place == 0, line, "it is refused");
-    count(answer.length == needed, line, "another length");
-    count(memcmp(out, bytes, needed) == 0, line, "other bytes");
-    count(rest_is_filled(room, needed), line, "bytes behind or before it do not stay");
-}
-
-/* With an output of so many bytes it is refused, and nothing is written. */
-static void refused(uint64_t number, uint64_t place, size_t room, int line)
-{
-    dbm0_length_answer answer = dbm0_records(module, length, output(room), room);
-
-    count(answer.number == number && answer.place == place, line, "another refusal");
-    count(answer.length == 0, line, "a length beside a refusal");
-    count(rest_is_filled(room, 0), line, "a refusal writes");
-}
-
-/* The records of the module are these, with outputs from none to longer than the module and 60 bytes. */
-static void shows(
-    const char *bytes, size_t bytes_length, const char *records, size_t needed, int line)
-{
-    size_t room;
-
-    lend(bytes, bytes_length);
-    for (room = 0; room < needed; room++)
-        refused(DBM0_MODULE_ROOM, needed, room, line);
-    for (room = needed; room < bytes_length + 63; room++)
-        written(records, needed, room, line);
-    count(memcmp(module, bytes, bytes_length) == 0, line, "the module is changed");
-}
-
-#define SHOWS(bytes, records) \
-    shows((bytes), sizeof(bytes) - 1, (records), sizeof(records) - 1, __LINE__)
+#define WRITING_CALL dbm0_records
+#define ENOUGH(length) ((length) + 60)
+#define CHANGED_ROOMS {0, 1, 60, 501, 502, 609, 700}
+#include "writing.h"
 
 #define TIMES_4(bytes) bytes bytes bytes bytes
 #define TIMES_11(bytes) TIMES_4(bytes) TIMES_4(bytes) bytes bytes bytes
@@ -144,39 +103,24 @@ static void shows(
 static void modules(void)
 {
     HOLDS(sizeof(SMALLEST) - 1 == 58 && sizeof(SMALLEST_RECORDS) - 1 == 60);
-    SHOWS(SMALLEST, SMALLEST_RECORDS);
+    WRITES(SMALLEST, SMALLEST_RECORDS);
     HOLDS(sizeof(FULL_3) - 1 == 609 && sizeof(FULL_3_RECORDS) - 1 == 502);
-    SHOWS(FULL_3, FULL_3_RECORDS);
-    SHOWS(FULL_2, FULL_2_RECORDS);
-    SHOWS(FULL("\x03", ALL_POINTS TIMES_4(EIGHT_3)), FULL_RECORDS("\x03", ALL_POINTS TIMES_4(EIGHT_3)));
-    SHOWS(FULL("\x02", ALL_POINTS TIMES_4(EIGHT_2)), FULL_RECORDS("\x02", ALL_POINTS TIMES_4(EIGHT_2_SHOWN)));
+    WRITES(FULL_3, FULL_3_RECORDS);
+    WRITES(FULL_2, FULL_2_RECORDS);
+    WRITES(FULL("\x03", ALL_POINTS TIMES_4(EIGHT_3)), FULL_RECORDS("\x03", ALL_POINTS TIMES_4(EIGHT_3)));
+    WRITES(FULL("\x02", ALL_POINTS TIMES_4(EIGHT_2)), FULL_RECORDS("\x02", ALL_POINTS TIMES_4(EIGHT_2_SHOWN)));
 }
 
 /* A name, and envelopes of which there are none. */
 static void behind_the_others(void)
 {
-    SHOWS(SMALLEST "VENV" "\0\0\0\x02" "\0\0" "PENV" "\0\0\0\x02" "\0\0", SMALLEST_RECORDS);
-    SHOWS(SMALLEST "NAME" "\0\0\0\x2C" NAME,
+    WRITES(SMALLEST "VENV" "\0\0\0\x02" "\0\0" "PENV" "\0\0\0\x02" "\0\0", SMALLEST_RECORDS);
+    WRITES(SMALLEST "NAME" "\0\0\0\x2C" NAME,
           "\x03\0" NAME "\0\0\0\0\0\0\0\0\0\x04" "\0\0" "\0\0");
     /* Bytes of NAME that are zeros stay where they are. */
-    SHOWS(SMALLEST "NAME" "\0\0\0\x2C" "\0\xFF" TIMES_4("\0 \0 ") TIMES_4("\0\0\0\0\0\0") "\x80\0",
+    WRITES(SMALLEST "NAME" "\0\0\0\x2C" "\0\xFF" TIMES_4("\0 \0 ") TIMES_4("\0\0\0\0\0\0") "\x80\0",
           "\x03\0" "\0\xFF" TIMES_4("\0 \0 ") TIMES_4("\0\0\0\0\0\0") "\x80\0" "\0\0\0\0\0\0\0\0\0\x04" "\0\0" "\0\0");
 }
-
-/* A byte of the module is another one: this refusal, whatever the output, and then the byte is as it was. */
-static void changed(size_t at, uint8_t byte, uint64_t number, uint64_t place, int line)
-{
-    static const size_t rooms[] = {0, 1, 60, 501, 502, 609, 700};
-    uint8_t stored = module[at];
-    size_t k;
-
-    module[at] = byte;
-    for (k = 0; k < sizeof rooms / sizeof *rooms; k++)
-        refused(number, place, rooms[k], line);
-    module[at] = stored;
-}
-
-#define CHANGED(at, byte, number, place) changed((at), (byte), (number), (place), __LINE__)
 
 static void refused_modules(void)
 {
@@ -242,30 +186,15 @@ static void queries(void)
     }
 }
 
-static void nothing(void)
-{
-    dbm0_length_answer answer = dbm0_records(NULL, 0, NULL, 0);
-
-    HOLDS(answer.number == 2 && answer.place == 0 && answer.length == 0);
-    LEND(FULL_3);
-    answer = dbm0_records(module, length, NULL, 0);
-    HOLDS(answer.number == 17 && answer.place == 502 && answer.length == 0);
-    module = NULL, length = 0;
-    refused(DBM0_MODULE_NOT_DBM0, 0, 10, __LINE__);
-    HOLDS(DBM0_VERSION >= 10300);
-}
-
 int main(void)
 {
-    setvbuf(stdout, NULL, _IOLBF, 0);
-    if (!make_memory()) {
-        printf("there is no memory for the tests\n");
+    if (!ready())
         return 1;
-    }
     modules();
     behind_the_others();
     refused_modules();
     queries();
-    nothing();
+    NOTHING(FULL_3, 502);
+    HOLDS(DBM0_VERSION >= 10300);
     return counted();
 }

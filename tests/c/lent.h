@@ -9,6 +9,7 @@
 
 #include <stddef.h>
 #include <stdint.h>
+#include <stdio.h>
 #include <string.h>
 #include <sys/mman.h>
 
@@ -24,6 +25,16 @@ static int make_memory(void)
     out_memory = memory + MODULE + PAGE;
     return mprotect(memory + MODULE, PAGE, PROT_NONE) == 0
         && mprotect(out_memory + OUT, PAGE, PROT_NONE) == 0;
+}
+
+/* Before the first expectation: lines are printed one by one, and there is memory. */
+static int ready(void)
+{
+    setvbuf(stdout, NULL, _IOLBF, 0);
+    if (make_memory())
+        return 1;
+    printf("there is no memory for the tests\n");
+    return 0;
 }
 
 /* The module that is lent. It stands just before the end of its memory. */

@@ -529,11 +529,8 @@ static void macros(void)
 
 int main(void)
 {
-    setvbuf(stdout, NULL, _IOLBF, 0);
-    if (!make_memory()) {
-        printf("there is no memory for the tests\n");
+    if (!ready())
         return 1;
-    }
     HOLDS(sizeof(WHOLE) - 1 == 836);
     HOLDS(sizeof(SMALLEST) - 1 == 58);
     LEND(WHOLE);

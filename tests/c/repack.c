@@ -10,51 +10,17 @@
 
 #include "dbm0.h"
 #include "dbm0_pattern.h"
-#include "expect.h"
-#include "lent.h"
 
-#include <stdio.h>
-#include <string.h>
+#define WRITING_CALL dbm0_repack
+#define ENOUGH(length) (length)
+#define CHANGED_ROOMS {0, 1, 299, 300, 304, 400}
+#include "writing.h"
 
-#define LEND(bytes) lend((bytes), sizeof(bytes) - 1)
-
-/* With an output of so many bytes the module becomes these bytes, and what stands behind them stays. */
-static void written(const char *bytes, size_t needed, size_t room, int line)
-{
-    uint8_t *out = output(room);
-    dbm0_length_answer answer = dbm0_repack(module, length, out, room);
-
-    count(answer.number == 0 && answer.place == 0, line, "it is refused");
-    count(answer.length == needed, line, "another length");
-    count(memcmp(out, bytes, needed) == 0, line, "other bytes");
-    count(rest_is_filled(room, needed), line, "bytes behind or before it do not stay");
-}
-
-/* With an output of so many bytes it is refused, and nothing is written. */
-static void refused(uint64_t number, uint64_t place, size_t room, int line)
-{
-    dbm0_length_answer answer = dbm0_repack(module, length, output(room), room);
-
-    count(answer.number == number && answer.place == place, line, "another refusal");
-    count(answer.length == 0, line, "a length beside a refusal");
-    count(rest_is_filled(room, 0), line, "a refusal writes");
-}
-
-/*
- * The module of `before` becomes that of `after`, with outputs from none to
- * longer than the module; that one is accepted, and becomes itself.
- */
+/* The module of `before` becomes that of `after`; that one is accepted, and becomes itself. */
 static void becomes(
     const char *before, size_t before_length, const char *after, size_t after_length, int line)
 {
-    size_t room;
-
-    lend(before, before_length);
-    for (room = 0; room < after_length; room++)
-        refused(DBM0_MODULE_ROOM, after_length, room, line);
-    for (room = after_length; room < before_length + 3; room++)
-        written(after, after_length, room, line);
-    count(memcmp(module, before, before_length) == 0, line, "the module is changed");
+    writes(before, before_length, after, after_length, line);
     lend(after, after_length);
     count(dbm0_check_module(module, length).number == 0, line, "the output is refused");
     written(after, after_length, after_length, line);
@@ -212,21 +178,6 @@ static void shown(void)
     HOLDS(memcmp(out + 132, after, 6) == 0 && memcmp(out + 144, after, 6) == 0);
 }
 
-/* A byte of the module is another one: this refusal, whatever the output, and then the byte is as it was. */
-static void changed(size_t at, uint8_t byte, uint64_t number, uint64_t place, int line)
-{
-    static const size_t rooms[] = {0, 1, 299, 300, 304, 400};
-    uint8_t stored = module[at];
-    size_t k;
-
-    module[at] = byte;
-    for (k = 0; k < sizeof rooms / sizeof *rooms; k++)
-        refused(number, place, rooms[k], line);
-    module[at] = stored;
-}
-
-#define CHANGED(at, byte, number, place) changed((at), (byte), (number), (place), __LINE__)
-
 static void refused_modules(void)
 {
     LEND(BEFORE);
@@ -258,31 +209,16 @@ static void refused_modules(void)
     refused(DBM0_MODULE_CHUNK_CUT, 295, 400, __LINE__);
 }
 
-static void nothing(void)
-{
-    dbm0_length_answer answer = dbm0_repack(NULL, 0, NULL, 0);
-
-    HOLDS(answer.number == 2 && answer.place == 0 && answer.length == 0);
-    LEND(BEFORE);
-    answer = dbm0_repack(module, length, NULL, 0);
-    HOLDS(answer.number == 17 && answer.place == 300 && answer.length == 0);
-    module = NULL, length = 0;
-    refused(DBM0_MODULE_NOT_DBM0, 0, 10, __LINE__);
-    HOLDS(DBM0_VERSION >= 10200);
-}
-
 int main(void)
 {
-    setvbuf(stdout, NULL, _IOLBF, 0);
-    if (!make_memory()) {
-        printf("there is no memory for the tests\n");
+    if (!ready())
         return 1;
-    }
     streams();
     modules();
     as_long_as_before();
     shown();
     refused_modules();
-    nothing();
+    NOTHING(BEFORE, 300);
+    HOLDS(DBM0_VERSION >= 10200);
     return counted();
 }

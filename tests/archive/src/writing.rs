@@ -126,7 +126,8 @@ impl Call<'_> {
     /// The library refuses the module, whatever the output, and writes nothing.
     #[track_caller]
     pub fn refuses(&self, module: &[u8], number: u64, place: usize) {
-        for room in [0, 1, module.len(), (self.enough)(module.len())] {
+        let length = module.len();
+        for room in [0, 1, length - 1, length, (self.enough)(length)] {
             self.does(module, room, |_| Answer::refused(number, place))
                 .unwrap();
         }
