@@ -17,6 +17,17 @@ pub fn filled_up(mut draft: Draft, length: usize) -> Vec<u8> {
     module
 }
 
+/// Playlists of the last song, the last but two and so on, which fill the module up. There are 1,024 patterns.
+pub fn fill_playlists(tune: &mut Tune) {
+    let mut entries = (MOST - tune.bytes().len()) / 2;
+    for song in tune.songs.iter_mut().rev().step_by(2) {
+        let here = entries.min(65_535);
+        song.playlist = (0..here).map(|entry| entry as u16 % 1_024).collect();
+        entries -= here;
+    }
+    assert_eq!(entries, 0);
+}
+
 /// The same module with one chunk behind all others.
 pub fn with_last(tune: &Tune, name: &Name) -> Draft {
     let mut draft = tune.draft();

@@ -1,7 +1,7 @@
 //! All records at once of modules as large as they may be. What is written of them is made by hand too.
 
 use archive::all_records::RECORDS;
-use archive::large::{filled_up, with_last, MOST};
+use archive::large::{fill_playlists, filled_up, with_last, MOST};
 use reference::draft::{Chunk, Envelope, Instrument, Pattern, Sample, Song, Tune};
 
 /// Version 3.00, no name, and these numbers: instruments, samples, songs, patterns, tracks, volume envelopes, panning envelopes.
@@ -25,13 +25,7 @@ fn all_songs() {
         patterns: vec![Pattern::default(); 1_024],
         ..Tune::default()
     };
-    let mut entries = (MOST - tune.bytes().len()) / 2;
-    for song in tune.songs.iter_mut().rev().step_by(2) {
-        let here = entries.min(65_535);
-        song.playlist = (0..here).map(|entry| entry as u16 % 1_024).collect();
-        entries -= here;
-    }
-    assert_eq!(entries, 0);
+    fill_playlists(&mut tune);
     let module = with_last(&tune, b"SONG").bytes();
     assert_eq!(module.len(), MOST);
     let mut records = summary([0, 0, 32_767, 1_024, 4, 0, 0]);

@@ -1,7 +1,7 @@
 //! Modules as large as they may be, and larger ones. What the answers should be is typed by hand too.
 
 use archive::compare::{self, ARCHIVE};
-use archive::large::{filled_up, with_last, MOST};
+use archive::large::{fill_playlists, filled_up, with_last, MOST};
 use interface::ModuleAnswer;
 use reference::draft::{Chunk, Envelope, Instrument, Pattern, Sample, Song, Tune};
 
@@ -102,13 +102,7 @@ fn all_songs() {
         patterns: vec![Pattern::default(); 1_024],
         ..Tune::default()
     };
-    let mut entries = (MOST - tune.bytes().len()) / 2;
-    for song in tune.songs.iter_mut().rev().step_by(2) {
-        let here = entries.min(65_535);
-        song.playlist = (0..here).map(|entry| entry as u16 % 1_024).collect();
-        entries -= here;
-    }
-    assert_eq!(entries, 0);
+    fill_playlists(&mut tune);
     let mut module = with_last(&tune, b"SONG").bytes();
     assert_eq!(module.len(), MOST);
     accepted(&module);
