@@ -13,8 +13,9 @@ pub const RECORDS: Call<'static> = Call {
     library: &|module, lent| interface::records(module, lent.out()),
     queries: &queries::ARCHIVE,
     reference: &|module, lent| answer(write(module, lent.out())),
-    enough: |length| length + 60,
-    keeps: shown_one_by_one,
+    enough: &|length| length + 60,
+    refusal: &queries::refusal,
+    keeps: &shown_one_by_one,
 };
 
 /// Each record is what its query answers.

@@ -2,7 +2,8 @@
 
 use crate::compare::{answer, Lent};
 use interface::{
-    Answer, Cell, Envelope, Frames, Info, Instrument, Name, Sample, Song, Told, Version,
+    Answer, Cell, Envelope, Frames, Info, Instrument, ModuleAnswer, Name, Sample, Song, Told,
+    Version,
 };
 use reference::chunks;
 use reference::pattern::{self, Note};
@@ -90,6 +91,12 @@ fn told<Record: Default>(result: Result<Record, Refusal>) -> Told<Record> {
         Ok(record) => shown(record),
         Err(refusal) => refused(refusal.number, refusal.place),
     }
+}
+
+/// The refusal of a module, as each query about the whole of it gives it.
+pub fn refusal(library: &Queries, module: &[u8]) -> ModuleAnswer {
+    let Told { number, place, .. } = (library.version)(module);
+    ModuleAnswer { number, place }
 }
 
 /// A record without a refusal.

@@ -14,8 +14,9 @@ pub const REPACK: Call<'static> = Call {
     library: &|module, lent| interface::repack(module, lent.out()),
     queries: &queries::ARCHIVE,
     reference: &|module, lent| answer(repack(module, lent.out())),
-    enough: |length| length,
-    keeps,
+    enough: &|length| length,
+    refusal: &queries::refusal,
+    keeps: &keeps,
 };
 
 /// The module repacked is accepted, shows the same, and repacks to itself.

@@ -4,7 +4,8 @@
 //! A call is compared with the reference in outputs of every length around the needed one and around the module's own. After a refusal
 //! the output is as it was; after success only the written bytes differ; and the memory on both sides of the output, and the module,
 //! stay in any case. `tests_of_a_call!` makes the tests that each call has, over typed, generated and damaged modules;
-//! `tests_of_the_comparison!` of stand_ins.rs makes those that show that a wrong library is noticed.
+//! `tests_of_the_comparison!` of stand_ins.rs makes those that show that a wrong library is noticed. So another call needs a `Call`, two
+//! modules with what is written for them, and these two macros; and its own tests where it has something of its own.
 
 use std::collections::BTreeSet;
 
@@ -12,12 +13,15 @@ use crate::compare::{rooms, same_answer, same_bytes, same_output, with_module, L
 use crate::large::{filled_up, MOST};
 use crate::modules;
 use crate::queries::Queries;
-use interface::{Answer, OUTPUT_TOO_SHORT};
+use interface::{Answer, ModuleAnswer, OUTPUT_TOO_SHORT};
 use reference::draft::Tune;
 use reference::generate::Random;
 
-/// What is called: it makes something of a module, and writes it into the output. What else it takes is part of the closure.
+/// What is called: it makes something of a module, and writes it into the output. What else it takes, the closure has with it.
 pub type Fill<'a> = &'a dyn Fn(&[u8], &mut Lent) -> Answer;
+
+/// What must hold of the bytes that a call writes, whatever the reference says. It is given the module and the bytes.
+pub type Keeps<'a> = &'a dyn Fn(&Call, &[u8], &[u8], &mut Random) -> Result<(), String>;
 
 #[derive(Clone, Copy)]
 pub struct Call<'a> {
@@ -27,9 +31,10 @@ pub struct Call<'a> {
     pub queries: &'a Queries,
     pub reference: Fill<'a>,
     /// For a module of so many bytes: an output of how many is enough.
-    pub enough: fn(usize) -> usize,
-    /// What must hold of the bytes written for an accepted module, whatever the reference says. It is given the module and the bytes.
-    pub keeps: fn(&Call, &[u8], &[u8], &mut Random) -> Result<(), String>,
+    pub enough: &'a dyn Fn(usize) -> usize,
+    /// What a query of the library says that refuses just what the call refuses.
+    pub refusal: &'a dyn Fn(&Queries, &[u8]) -> ModuleAnswer,
+    pub keeps: Keeps<'a>,
 }
 
 impl Call<'_> {
@@ -88,15 +93,15 @@ impl Call<'_> {
         }
     }
 
-    /// The bytes that are written for an accepted module.
+    /// The bytes that are written where nothing is refused.
     fn written(&self, module: &[u8]) -> Result<Option<Vec<u8>>, String> {
         let room = (self.enough)(module.len());
         let (mut lent, mut expected_lent) = (Lent::new(room), Lent::new(room));
         let is = (self.library)(module, &mut lent);
-        let query = (self.queries.version)(module);
-        let expected = match query.number {
+        let refusal = (self.refusal)(self.queries, module);
+        let expected = match refusal.number {
             0 => Answer::written(is.length as usize),
-            number => Answer::refused(number, query.place as usize),
+            number => Answer::refused(number, refusal.place as usize),
         };
         same_answer(self.name, is, expected)?;
         let Some(bytes) = lent.out().get(..is.length as usize) else {
@@ -105,7 +110,7 @@ impl Call<'_> {
         let bytes = bytes.to_vec();
         expected_lent.out()[..bytes.len()].copy_from_slice(&bytes);
         same_bytes(self.name, &lent, &expected_lent)?;
-        Ok((query.number == 0).then_some(bytes))
+        Ok((refusal.number == 0).then_some(bytes))
     }
 
     /// The library writes these bytes: in outputs around their length, and in one that is always enough. With fewer it is 17. The
