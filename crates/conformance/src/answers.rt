@@ -83,24 +83,39 @@ fn found(c: CellAnswer) -> Cell {
     }
 }
 
-// Prints the line of a cell that was asked for.
-pub fn print_cell_answer(answer: CellAnswer, line: &mut [u8]) {
-    let a = of_cell(answer);
-    let c = found(answer);
+// A cell as it is printed: its note in numbers, and its other fields.
+pub fn cell_values(c: Cell) -> [usize; 9] {
     let note = c.note;
-    let p = note_numbers(note);
-    let numbers = [
-        a.number,
-        a.place,
-        p.kind as usize,
-        p.octave as usize,
-        p.semitone as usize,
-        p.unknown as usize,
+    let n = note_numbers(note);
+    [
+        n.kind as usize,
+        n.octave as usize,
+        n.semitone as usize,
+        n.unknown as usize,
         c.instrument as usize,
         c.command1 as usize,
         c.parameter1 as usize,
         c.command2 as usize,
         c.parameter2 as usize,
+    ]
+}
+
+// Prints the line of a cell that was asked for.
+pub fn print_cell_answer(answer: CellAnswer, line: &mut [u8]) {
+    let a = of_cell(answer);
+    let v = cell_values(found(answer));
+    let numbers = [
+        a.number,
+        a.place,
+        v[0],
+        v[1],
+        v[2],
+        v[3],
+        v[4],
+        v[5],
+        v[6],
+        v[7],
+        v[8],
     ];
     print_numbers(b"cell", &numbers, line);
 }

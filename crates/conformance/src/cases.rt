@@ -1,4 +1,5 @@
 // One case after the other.
+use crate::answers::cell_values;
 use crate::answers::of_listing;
 use crate::answers::of_packing;
 use crate::answers::of_unpacking;
@@ -13,7 +14,6 @@ use crate::text::fill;
 use crate::text::print_bytes;
 use crate::text::print_numbers;
 use crate::text::within;
-use cells::note_numbers;
 ghost use Prim.Native.Nat.{_≤_};
 ghost use lib.ListN.{length};
 
@@ -67,21 +67,7 @@ fn print_stream(
 }
 
 fn print_shown(cell: [u8; 6], line: &mut [u8]) {
-    let c = cells::shown(cell);
-    let note = c.note;
-    let p = note_numbers(note);
-    let numbers = [
-        p.kind as usize,
-        p.octave as usize,
-        p.semitone as usize,
-        p.unknown as usize,
-        c.instrument as usize,
-        c.command1 as usize,
-        c.parameter1 as usize,
-        c.command2 as usize,
-        c.parameter2 as usize,
-    ];
-    print_numbers(b"shown", &numbers, line);
+    print_numbers(b"shown", &cell_values(cells::shown(cell)), line);
 }
 
 fn print_module(m: &[u8], out: &mut [u8], line: &mut [u8]) {
