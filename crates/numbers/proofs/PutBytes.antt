@@ -1,0 +1,74 @@
+-- Bytes put at a place of an output.
+--     put-over    an output that does not reach so far stays as it was
+--     put-there   what the output holds where it reaches so far
+--     put-length  its length stays
+--     put-behind  the output is written up to the place
+--     put-both    two lists put one after the other are both put at once
+--     put-sets    the stores of the code
+use Prim.Native.Nat.{ℕ, _+_, _<_, _≤_}
+use mathlib.Core.Path.{_≡_, refl, sym, ap, _∙_}
+use mathlib.Core.List.{List, _++_, append-assoc}
+use mathlib.Core.Bool.{Bool, true, false, cond}
+use native.Mathlib.Omega.{arith}
+use lib.ListN.{length, take, drop, length-append, length-drop}
+use lib.Seq.{take-at, drop-at, drop-drop, length-take-le, sets, sets-eq}
+use lib.Dec.{leb}
+use borrow.Author.Tests.{le-leb, lt-leb, leb-true, leb-false}
+use Rattle.numbers.specs.Numbers.{putAt}
+
+module _ (xs : List ℕ) (at : ℕ) (out : List ℕ) where
+  pub put-over : length out < at + length xs → putAt xs at out ≡ out
+  unfolding putAt
+  put-over h = simp (lt-leb (at + length xs) (length out) h)
+
+  module _ (h : at + length xs ≤ length out) where
+    pub put-there : putAt xs at out ≡ take at out ++ (xs ++ drop (at + length xs) out)
+    unfolding putAt
+    put-there = simp (le-leb (at + length xs) (length out) h)
+
+    pub put-sets : sets out at xs ≡ putAt xs at out
+    put-sets = sets-eq xs out at h ∙ append-assoc (take at out) xs (drop (at + length xs) out) ∙ sym put-there
+
+    there-length : length (putAt xs at out) ≡ length out
+    there-length =
+        ap length put-there
+        ∙ omega (
+          arith,
+          length-append (take at out) (xs ++ drop (at + length xs) out),
+          length-append xs (drop (at + length xs) out),
+          length-take-le at out (omega arith),
+          length-drop (at + length xs) out,
+        )
+
+  pub put-length : length (putAt xs at out) ≡ length out
+  put-length = go (leb (at + length xs) (length out)) refl
+    where
+      go : (b : Bool) → leb (at + length xs) (length out) ≡ b → length (putAt xs at out) ≡ length out
+      go true t = there-length (leb-true (at + length xs) (length out) t)
+      go false t = ap length (put-over (leb-false (at + length xs) (length out) t))
+
+module _ (front xs : List ℕ) (at : ℕ) (place : length front ≡ at) where
+  pub put-behind : (rest : List ℕ) → length xs ≤ length rest → putAt xs at (front ++ rest) ≡ front ++ (xs ++ drop (length xs) rest)
+  put-behind rest h =
+      let inside : at + length xs ≤ length (front ++ rest) = omega (arith, length-append front rest) in
+      let behind : drop (at + length xs) (front ++ rest) ≡ drop (length xs) rest =
+      sym (drop-drop (length xs) at (front ++ rest)) ∙ ap (drop (length xs)) (drop-at front rest at place) in
+      put-there xs at (front ++ rest) inside
+      ∙ ap (λ (l : List ℕ). l ++ (xs ++ drop (at + length xs) (front ++ rest))) (take-at front rest at place)
+      ∙ ap (λ (l : List ℕ). front ++ (xs ++ l)) behind
+
+pub put-both : (xs ys : List ℕ) (at to : ℕ) (out : List ℕ) → at + length xs ≡ to → to + length ys ≤ length out → putAt ys to (putAt xs at out) ≡ putAt (xs ++ ys) at out
+put-both xs ys at to out e h =
+    let inside : at + length xs ≤ length out = omega (arith, h) in
+    let before : length (take at out ++ xs) ≡ to = omega (arith, length-append (take at out) xs, length-take-le at out (omega arith)) in
+    let first : putAt xs at out ≡ (take at out ++ xs) ++ drop to out =
+    put-there xs at out inside ∙ sym (append-assoc (take at out) xs (drop (at + length xs) out)) ∙ ap (λ (k : ℕ). (take at out ++ xs) ++ drop k out) e in
+    let end : to + length ys ≡ at + length (xs ++ ys) = omega (arith, length-append xs ys) in
+    let last : drop (length ys) (drop to out) ≡ drop (at + length (xs ++ ys)) out =
+    drop-drop (length ys) to out ∙ ap (λ (k : ℕ). drop k out) end in
+    ap (putAt ys to) first
+    ∙ put-behind (take at out ++ xs) ys to before (drop to out) (omega (arith, length-drop to out))
+    ∙ ap (λ (l : List ℕ). (take at out ++ xs) ++ (ys ++ l)) last
+    ∙ append-assoc (take at out) xs (ys ++ drop (at + length (xs ++ ys)) out)
+    ∙ ap (λ (l : List ℕ). take at out ++ l) (sym (append-assoc xs ys (drop (at + length (xs ++ ys)) out)))
+    ∙ sym (put-there (xs ++ ys) at out (omega (arith, end)))

@@ -1,0 +1,26 @@
+use borrow.Author.Needs.{needs}
+use Rattle.numbers.specs.Numbers.{bytes16}
+use Rattle.numbers.proofs.PutBytes.{put-over, put-sets}
+use mathlib.Core.Path.{sym}
+use native.Mathlib.Numerals.{unary-clauses}
+use native.Mathlib.Omega.{arith}
+use lib.ListN.{length-set}
+use Rattle.numbers.proofs.put16.Statement.{statement}
+use Rattle.numbers.proofs.put16.Tie as tie
+
+returns : tie.Need-returns
+returns c = sym (put-over (bytes16 (c .before .args .n)) (c .before .args .at) (c .before .args .out .now) (omega (arith, c .if1 .taken)))
+
+returns-2 : tie.Need-returns-2
+returns-2 c = sym (put-over (bytes16 (c .before .before .args .n)) (c .before .before .args .at) (c .before .before .args .out .now) (omega (arith, c .before .if1 .left, c .if2 .taken)))
+
+slice-write-out-2 : tie.Need-slice-write-out-2
+slice-write-out-2 c = simp length-set (omega (arith, c .before .if1 .left, c .if2 .left))
+
+returns-3 : tie.Need-returns-3
+returns-3 c = simp unary-clauses (put-sets (bytes16 (c .before .before .args .n)) (c .before .before .args .at) (c .before .before .args .out .now) (omega (arith, c .before .if1 .left, c .if2 .left)))
+
+pub put16-spec : {M : Type 1} → statement M
+put16-spec =
+    tie.close
+    (tie.spec returns (λ c. search needs) returns-2 (λ c. search needs) (λ c. search needs) (λ c. search needs) (λ c. search needs) slice-write-out-2 (λ c. search needs) returns-3)
