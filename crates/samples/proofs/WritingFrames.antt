@@ -7,12 +7,12 @@ use Prim.Native.Nat.{ℕ, zero, suc, _+_, _*_, _/_, _%_, _<_, _≤_}
 use mathlib.Core.Path.{_≡_, refl, sym, ap, _∙_}
 use mathlib.Core.List.{List, [], _∷_, _++_, append-nil}
 use native.Mathlib.Omega.{arith}
-use native.Mathlib.Numerals.{add-one}
-use lib.ListN.{length, set, length-append}
-use lib.Seq.{set-at, append-snoc}
+use native.Mathlib.Numerals.{add-one, unary-clauses}
+use lib.ListN.{length, drop, set, length-append, length-drop}
 use lib.IntN.{ℤ}
 use Rattle.cells.specs.Cells.{joined}
-use Rattle.numbers.specs.Numbers.{signed16, eachFrom, bytes16, unsigned16}
+use Rattle.numbers.specs.Numbers.{signed16, eachFrom, bytes16, unsigned16, putAt}
+use Rattle.numbers.proofs.PutBytes.{put-behind, put-sets}
 use Rattle.samples.proofs.SixteenBits.{stored-again}
 
 module _ (f : ℕ → ℤ) where
@@ -47,26 +47,23 @@ module _ (f : ℕ → ℤ) (n : ℕ) where
       omega (arith, pairs-length f i 0, h .room)
 
   pub writing-turn : (out : List ℕ) (i v : ℕ) → Writing f n out i → i < n → v < 65536 → signed16 v ≡ f i → Writing f n (set (set out (2 * i) (v / 256)) (2 * i + 1) (v % 256)) (i + 1)
-  writing-turn out i v h less small e = go (h .rest) (h .same) (h .room)
-    where
-      bytes : (rest : List ℕ) → v / 256 ∷ v % 256 ∷ rest ≡ bytes16 (unsigned16 (f (0 + i))) ++ rest
-      bytes rest = ap (λ (s : ℕ). s / 256 ∷ s % 256 ∷ rest) (sym (stored-again v small) ∙ ap unsigned16 e ∙ ap (λ (k : ℕ). unsigned16 (f k)) (omega arith))
-
-      go : (rest : List ℕ) → out ≡ pairs f 0 i ++ rest → 2 * i + length rest ≡ 2 * n → Writing f n (set (set out (2 * i) (v / 256)) (2 * i + 1) (v % 256)) (i + 1)
-      go [] s r = absurd (omega (arith, r, less))
-      go (x ∷ []) s r = absurd (omega (arith, r, less))
-      go (x ∷ y ∷ rest) s r =
-          let front = pairs f 0 i in
-          let long : length (front ++ (v / 256 ∷ [])) ≡ 2 * i + 1 = length-append front (v / 256 ∷ []) ∙ omega (arith, pairs-length f i 0) in
-          let first : set out (2 * i) (v / 256) ≡ front ++ (v / 256 ∷ []) ++ (y ∷ rest) =
-          ap (λ (t : List ℕ). set t (2 * i) (v / 256)) s ∙ set-at front x (y ∷ rest) (v / 256) (2 * i) (pairs-length f i 0) ∙ sym (append-snoc front (v / 256) (y ∷ rest)) in
-          let second : set (front ++ (v / 256 ∷ []) ++ (y ∷ rest)) (2 * i + 1) (v % 256) ≡ front ++ (v / 256 ∷ v % 256 ∷ rest) =
-          set-at (front ++ (v / 256 ∷ [])) y rest (v % 256) (2 * i + 1) long ∙ append-snoc front (v / 256) (v % 256 ∷ rest) in
-          record {
-            rest = rest;
-            same = ap (λ (t : List ℕ). set t (2 * i + 1) (v % 256)) first ∙ second ∙ ap (λ (t : List ℕ). front ++ t) (bytes rest) ∙ sym (pairs-more f i 0 rest) ∙ ap (λ (k : ℕ). pairs f 0 k ++ rest) (sym (add-one i));
-            room = omega (arith, r);
-          }
+  writing-turn out i v h less small e =
+      let front : List ℕ = pairs f 0 i in
+      let two : 2 ≤ length (h .rest) = omega (arith, h .room) in
+      let inside : 2 * i + 2 ≤ length out = omega (arith, writing-length out i h) in
+      let stores : set (set out (2 * i) (v / 256)) (2 * i + 1) (v % 256) ≡ putAt (bytes16 v) (2 * i) out = simp unary-clauses (put-sets (bytes16 v) (2 * i) out inside) in
+      let same : v ≡ unsigned16 (f (0 + i)) = sym (stored-again v small) ∙ ap unsigned16 e ∙ ap (λ (k : ℕ). unsigned16 (f k)) (omega arith) in
+      record {
+        rest = drop 2 (h .rest);
+        same =
+            stores
+            ∙ ap (putAt (bytes16 v) (2 * i)) (h .same)
+            ∙ put-behind front (bytes16 v) (2 * i) (pairs-length f i 0) (h .rest) two
+            ∙ ap (λ (k : ℕ). front ++ (bytes16 k ++ drop 2 (h .rest))) same
+            ∙ sym (pairs-more f i 0 (drop 2 (h .rest)))
+            ∙ ap (λ (k : ℕ). pairs f 0 k ++ drop 2 (h .rest)) (sym (add-one i));
+        room = omega (arith, h .room, length-drop 2 (h .rest));
+      }
 
   pub writing-last : (out : List ℕ) (i : ℕ) → Writing f n out i → n ≤ i → out ≡ pairs f 0 n
   writing-last out i h over = go (h .rest) (h .same) (h .room)
