@@ -4,13 +4,15 @@
 --     put-length  its length stays
 --     put-behind  the output is written up to the place
 --     put-both    two lists put one after the other are both put at once
+--     put-each    so are several
 --     put-sets    the stores of the code
 use Prim.Native.Nat.{ℕ, _+_, _<_, _≤_}
 use mathlib.Core.Path.{_≡_, refl, sym, ap, _∙_}
-use mathlib.Core.List.{List, _++_, append-assoc}
-use mathlib.Core.Bool.{Bool, true, false, cond}
+use mathlib.Core.List.{List, [], _∷_, _++_, append-assoc, flatten}
+use mathlib.Core.Bool.{Bool, true, false}
 use native.Mathlib.Omega.{arith}
-use lib.ListN.{length, take, drop, length-append, length-drop}
+use native.Mathlib.Nat.{add-zero}
+use lib.ListN.{length, take, drop, length-append, length-drop, take-append-drop}
 use lib.Seq.{take-at, drop-at, drop-drop, length-take-le, sets, sets-eq}
 use lib.Dec.{leb}
 use borrow.Author.Tests.{le-leb, lt-leb, leb-true, leb-false}
@@ -72,3 +74,15 @@ put-both xs ys at to out e h =
     ∙ append-assoc (take at out) xs (ys ++ drop (at + length (xs ++ ys)) out)
     ∙ ap (λ (l : List ℕ). take at out ++ l) (sym (append-assoc xs ys (drop (at + length (xs ++ ys)) out)))
     ∙ sym (put-there (xs ++ ys) at out (omega (arith, end)))
+
+-- Lists put one after the other, as calls leave them.
+abbrev pub putEach : List (List ℕ) → ℕ → List ℕ → List ℕ
+putEach [] at out = out
+putEach (xs ∷ more) at out = putEach more (at + length xs) (putAt xs at out)
+
+pub put-each : (all : List (List ℕ)) (at : ℕ) (out : List ℕ) → at + length (flatten all) ≤ length out → putEach all at out ≡ putAt (flatten all) at out
+unfolding flatten
+put-each [] at out h = sym (put-there [] at out h ∙ ap (λ (k : ℕ). take at out ++ drop k out) (add-zero at) ∙ take-append-drop at out)
+put-each (xs ∷ more) at out h =
+    let room : at + length xs + length (flatten more) ≤ length out = omega (arith, length-append xs (flatten more)) in
+    put-each more (at + length xs) (putAt xs at out) (omega (arith, put-length xs at out)) ∙ put-both xs (flatten more) at (at + length xs) out refl room
