@@ -2,11 +2,14 @@
 -- is lent the output from a place on.
 use Prim.Native.Nat.{ℕ, zero, suc, _+_, _-_, _≤_, _<_}
 use mathlib.Core.Path.{_≡_, refl, sym, ap, _∙_}
-use mathlib.Core.List.{List, [], _∷_, _++_, map, append-assoc, append-nil}
+use mathlib.Core.List.{List, [], _∷_, _++_, map, append-assoc, append-nil, flatten}
 use native.Mathlib.Omega.{arith}
 use lib.ListN.{length, drop, length-append, length-drop}
+use lib.Seq.{drop-drop}
 use borrow.Rule.Slice.PartMut.{midOf, putMid}
 use Rattle.cells.specs.Cells.{joined}
+use Rattle.numbers.specs.Numbers.{putAt}
+use Rattle.numbers.proofs.PutBytes.{put-behind, putEach, put-each}
 use Rattle.blocks.specs.Sizes.{placesFrom}
 use Rattle.grammar.specs.Rules.{Every, none, also}
 use Rattle.grammar.proofs.Holding.{every-first, every-rest}
@@ -70,6 +73,21 @@ module _ {out₀ all : List ℕ} (room : length all ≤ length out₀) (out : Li
   pub ahead-last : (mid : List ℕ) {r : ℕ} → (r ≡ length xs) × (mid ≡ xs ++ drop r (midOf to (length out - to) out)) → (to + r ≡ length all) × (putMid to (length out - to) out mid ≡ all ++ drop (to + r) out₀)
   ahead-last mid next = ahead-over room (putMid to (length out - to) out mid) (ahead-next room out xs [] last mid next)
 
+  -- It is put at its place.
+  pub ahead-put : putAt xs to out ≡ all ++ drop (to + length xs) out₀
+  ahead-put =
+      let rest : List ℕ = drop (length (a .done)) out₀ in
+      let fits : length xs ≤ length rest = omega (arith, last-small, a .place, length-drop (length (a .done)) out₀) in
+      ap (putAt xs to) (a .written)
+      ∙ put-behind (a .done) xs to (a .place) rest fits
+      ∙ sym (append-assoc (a .done) xs (drop (length xs) rest))
+      ∙ ap (λ (l : List ℕ). l ++ drop (length xs) rest) (a .whole)
+      ∙ ap (λ (l : List ℕ). all ++ l) (drop-drop (length xs) (length (a .done)) out₀ ∙ ap (λ (k : ℕ). drop (k + length xs) out₀) (a .place))
+
+-- Numbers put one after the other from the front on.
+pub front-put : (all : List (List ℕ)) (out : List ℕ) → length (flatten all) ≤ length out → putEach all 0 out ≡ flatten all ++ drop (length (flatten all)) out
+front-put all out h = put-each all 0 out (omega arith) ∙ put-behind [] (flatten all) 0 refl out h
+
 -- Three lists: the first by a call that is lent the whole output, the others behind it.
 module _ (xs ys zs out₀ : List ℕ) (room : length (xs ++ (ys ++ zs)) ≤ length out₀) where
   pub first-fits : length xs ≤ length out₀
@@ -97,6 +115,12 @@ module _ (xs ys zs out₀ : List ℕ) (room : length (xs ++ (ys ++ zs)) ≤ leng
 
       pub third-inside : p + q ≤ length out₂
       third-inside = ahead-inside room out₂ zs behind-second
+
+      pub third-length : length out₂ ≡ length out₀
+      third-length = ahead-length room out₂ zs behind-second
+
+      pub third-put : putAt zs (p + q) out₂ ≡ (xs ++ (ys ++ zs)) ++ drop (p + q + length zs) out₀
+      third-put = ahead-put room out₂ zs behind-second
 
       pub third-part : length zs ≤ length (midOf (p + q) (length out₂ - (p + q)) out₂)
       third-part = last-part room out₂ zs behind-second

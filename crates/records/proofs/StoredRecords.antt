@@ -72,16 +72,6 @@ module _ (m : List ℕ) (bytes : Bytes m) where
       ∙ ap (λ (v : ℕ). bytes16 v ++ bytesFrom m (at + 48) 2) (sym (stored-again (number16 m (at + 46)) (number16-small (at + 46))))
       ∙ ap (λ (rest : List ℕ). bytes16 (unsigned16 (signed16 (number16 m (at + 46)))) ++ rest) (two-bytes (at + 48))))))))
 
-  -- The bits of a frame are one byte.
-  bits-stored : (w : ℕ) → w < 5 → bytes16 (8 * w) ≡ 0 ∷ 8 * w ∷ []
-  bits-stored w h =
-      let high : 8 * w / 256 ≡ 0 = omega arith in
-      let low : 8 * w % 256 ≡ 8 * w = omega arith in
-      rw (high, low) refl
-
-  pub sample-stored : (at w : ℕ) → w ≡ widthOf (number32 m at) → w < 5 → sampleRecord (shownSample m at) ≡ (0 ∷ 8 * w ∷ []) ++ bytesFrom m (at + 4) 4
-  sample-stored at w e h = rw (← e) (ap (λ (l : List ℕ). l ++ bytes32 (number32 m (at + 4))) (bits-stored w h) ∙ ap (λ (l : List ℕ). 0 ∷ 8 * w ∷ l) (sym (four-bytes (at + 4))))
-
   -- What stands before the points of an envelope.
   head-stored : (at : ℕ) → bytesFrom m at 8 ≡ bytes16 (number16 m at) ++ (byteAt m (at + 2) ∷ byteAt m (at + 3) ∷ byteAt m (at + 4) ∷ byteAt m (at + 5) ∷ byteAt m (at + 6) ∷ byteAt m (at + 7) ∷ [])
   head-stored at =

@@ -1,28 +1,29 @@
 -- What the writers of records leave: each writes its record to the front of an output.
 use Prim.Native.Nat.{ℕ, _+_, _-_, _*_, _≤_, _<_}
 use mathlib.Core.Path.{_≡_, refl, sym, ap, _∙_}
-use mathlib.Core.List.{List, [], _∷_, _++_, append-nil}
+use mathlib.Core.List.{List, [], _∷_, _++_, flatten}
 use native.Mathlib.Omega.{arith}
 use lib.ListN.{length, take, drop, set, length-set, length-append, drop-of-length-le}
 use lib.Seq.{length-take-le, sets-eq}
 use borrow.Rule.Slice.PartMut.{midOf, putMid, mid-len}
-use Rattle.numbers.specs.Numbers.{number32, bytesFrom, bytes16}
+use Rattle.numbers.specs.Numbers.{number32, bytesFrom, bytes16, bytes32, putAt}
+use Rattle.numbers.proofs.PutBytes.{putEach, put-each}
 use Rattle.layout.specs.declared.Layout.{Layout}
 use Rattle.blocks.specs.Sizes.{widthOf, sizeOf, envelopeCount}
 use Rattle.blocks.specs.declared.Kind.the-variants.{Song as SongKind}
 use Rattle.queries.specs.declared.Thing.{Thing}
 use Rattle.queries.specs.declared.Thing.the-variants.{Song, Instrument, Pattern, Sample}
-use Rattle.summary.specs.Shown.{nameOf}
+use Rattle.summary.specs.Shown.{nameOf, shownInfo}
 use Rattle.samples.specs.Shown.{shownSample}
 use Rattle.envelopes.specs.Shown.{thingOf}
 use Rattle.envelopes.specs.declared.EnvelopeKind.{EnvelopeKind}
 use Rattle.grammar.specs.Rules.{Bytes}
 use Rattle.grammar.proofs.Ends.{put-next, copied}
-use Rattle.records.specs.Records.{sampleRecord, summaryRecord, recordAt}
+use Rattle.records.specs.Records.{infoRecord, countsRecord, sampleRecord, summaryRecord, recordAt}
 use Rattle.records.specs.Steps.{pointRecord, pointsFrom}
-use Rattle.records.proofs.Ahead.{Ahead, ahead-second, ahead-last, second-inside, second-part, third-inside, third-part, three-written, AheadBlocks, blocks-last}
+use Rattle.records.proofs.Ahead.{Ahead, ahead-second, ahead-last, front-put, second-inside, second-part, third-length, third-put, AheadBlocks, blocks-last}
 use Rattle.records.proofs.RecordLengths.{name-length, song-length, instrument-length, pattern-length, sample-length, equal-lengths}
-use Rattle.records.proofs.StoredRecords.{two-bytes, song-stored, instrument-stored, sample-stored, envelope-stored}
+use Rattle.records.proofs.StoredRecords.{two-bytes, song-stored, instrument-stored, envelope-stored}
 
 -- A copy of so many bytes.
 pub stored-written : (m : List ℕ) (at n : ℕ) (out copied : List ℕ) → copied ≡ bytesFrom m at (length (take n out)) → n ≤ length out → copied ++ drop n out ≡ bytesFrom m at n ++ drop n out
@@ -63,20 +64,10 @@ module _ (m : List ℕ) (bytes : Bytes m) (version at : ℕ) (thing : Thing) whe
     pub envelope-written : {kind : Thing} → thing ≡ kind → length (recordAt m version kind at) ≡ 136 → (r ≡ 136) × (out′ ≡ recordAt m version kind at ++ drop 136 out) → RecordWritten m version thing at out out′ r
     envelope-written {kind} e size w = written-as out kind (recordAt m version kind at) e refl size w
 
--- A sample's record: the bits of a frame by two stores, the frames by a copy.
-module _ (m : List ℕ) (bytes : Bytes m) (at w : ℕ) (out mid : List ℕ) where
-  abbrev stored : List ℕ
-  stored = set (set out 0 0) 1 (8 * w)
-
-  pub bits-frames : w ≡ widthOf (number32 m at) → w < 5 → 6 ≤ length out → mid ≡ bytesFrom m (at + 4) (length (midOf 2 (6 - 2) stored)) → putMid 2 (6 - 2) stored mid ≡ sampleRecord (shownSample m at) ++ drop 6 out
-  bits-frames e small room is =
-      let long : length stored ≡ length out = length-set (set out 0 0) 1 (8 * w) ∙ length-set out 0 0 in
-      let lent : length (midOf 2 (6 - 2) stored) ≡ 4 = mid-len 2 6 stored (omega (arith, long)) in
-      let frames : mid ≡ bytesFrom m (at + 4) 4 = is ∙ ap (bytesFrom m (at + 4)) lent in
-      let none : drop 4 (midOf 2 (6 - 2) stored) ≡ [] = drop-of-length-le (midOf 2 (6 - 2) stored) {i = 4} (omega (arith, lent)) in
-      let whole : mid ≡ bytesFrom m (at + 4) 4 ++ drop 4 (midOf 2 (6 - 2) stored) = frames ∙ sym (ap (λ (rest : List ℕ). bytesFrom m (at + 4) 4 ++ rest) none ∙ append-nil (bytesFrom m (at + 4) 4)) in
-      put-next (0 ∷ 8 * w ∷ []) (bytesFrom m (at + 4) 4) out stored mid 2 6 (sets-eq (0 ∷ 8 * w ∷ []) out 0 (omega (arith, room))) refl (omega arith) room whole
-      ∙ ap (λ (l : List ℕ). l ++ drop 6 out) (sym (sample-stored m bytes at w e small))
+-- A sample's record: two numbers.
+pub bits-frames : (m : List ℕ) (at w frames : ℕ) (out : List ℕ) → w ≡ widthOf (number32 m at) → frames ≡ number32 m (at + 4) → 6 ≤ length out → putAt (bytes32 frames) 2 (putAt (bytes16 (8 * w)) 0 out) ≡ sampleRecord (shownSample m at) ++ drop 6 out
+unfolding flatten
+bits-frames m at w frames out e f room = front-put (bytes16 (8 * w) ∷ bytes32 frames ∷ []) out room ∙ rw (e, f) refl
 
 -- The points of an envelope.
 module _ (m : List ℕ) (kind : EnvelopeKind) (version at : ℕ) where
@@ -103,14 +94,20 @@ module _ (m : List ℕ) (bytes : Bytes m) (kind : EnvelopeKind) (version at : �
       let fits : length (bytesFrom m at 8 ++ points) ≤ length out = omega (arith, size, room) in
       ahead-last fits headed points a mid (size, is) .1 ∙ ap (λ (l : List ℕ). l ++ drop 136 out) (sym (envelope-stored m bytes kind version at))
 
--- What a module says of itself: version and revision by two stores, the name by a copy, and seven numbers.
-module _ (m : List ℕ) (l : Layout) (out name : List ℕ) (volume panning : ℕ) (room : 60 ≤ length out) (same : name ≡ nameOf m l) where
+-- The numbers of INFO and how many envelopes there are: seven numbers, one after the other.
+module _ (m : List ℕ) (l : Layout) where
+  abbrev numbers : List ℕ
+  numbers = infoRecord (shownInfo l) ++ countsRecord m l
+
+  pub counts-written : (out : List ℕ) (volume panning : ℕ) → 60 ≤ length out → volume ≡ envelopeCount m (l .places .venv) → panning ≡ envelopeCount m (l .places .penv) → putEach (bytes16 (l .instruments) ∷ bytes16 (l .samples) ∷ bytes16 (l .songs) ∷ bytes16 (l .patterns) ∷ bytes16 (l .tracks) ∷ bytes16 volume ∷ bytes16 panning ∷ []) 46 out ≡ putAt numbers 46 out
+  unfolding flatten
+  counts-written out volume panning room v p =
+      put-each (bytes16 (l .instruments) ∷ bytes16 (l .samples) ∷ bytes16 (l .songs) ∷ bytes16 (l .patterns) ∷ bytes16 (l .tracks) ∷ bytes16 volume ∷ bytes16 panning ∷ []) 46 out room ∙ rw (v, p) refl
+
+-- What a module says of itself: version and revision by two stores, the name by a copy, and the numbers.
+module _ (m : List ℕ) (l : Layout) (out name : List ℕ) (room : 60 ≤ length out) (same : name ≡ nameOf m l) where
   abbrev front : List ℕ
   front = l .version ∷ l .revision ∷ []
-
-  abbrev numbers : List ℕ
-  numbers =
-      bytes16 (l .instruments) ++ (bytes16 (l .samples) ++ (bytes16 (l .songs) ++ (bytes16 (l .patterns) ++ (bytes16 (l .tracks) ++ (bytes16 volume ++ bytes16 panning)))))
 
   abbrev versioned : List ℕ
   versioned = set (set out 0 (l .version)) 1 (l .revision)
@@ -118,17 +115,17 @@ module _ (m : List ℕ) (l : Layout) (out name : List ℕ) (volume panning : ℕ
   size : 44 ≡ length (nameOf m l)
   size = sym (name-length m l)
 
-  fits : length (front ++ (nameOf m l ++ numbers)) ≤ length out
-  fits = omega (arith, length-append (nameOf m l) numbers, size, room)
+  fits : length (front ++ (nameOf m l ++ (numbers m l))) ≤ length out
+  fits = omega (arith, length-append (nameOf m l) (numbers m l), size, room)
 
   first : (2 ≡ length front) × (versioned ≡ front ++ drop 2 out)
   first = (refl, sets-eq front out 0 (omega (arith, room)))
 
   pub name-inside : 2 ≤ length versioned
-  name-inside = second-inside front (nameOf m l) numbers out fits versioned first
+  name-inside = second-inside front (nameOf m l) (numbers m l) out fits versioned first
 
   pub name-part : length name ≤ length (midOf 2 (length versioned - 2) versioned)
-  name-part = rw same (second-part front (nameOf m l) numbers out fits versioned first)
+  name-part = rw same (second-part front (nameOf m l) (numbers m l) out fits versioned first)
 
   module _ (mid₂ : List ℕ) (is₂ : mid₂ ≡ take (length name) name ++ drop (length name) (midOf 2 (length versioned - 2) versioned)) where
     abbrev named : List ℕ
@@ -137,11 +134,8 @@ module _ (m : List ℕ) (l : Layout) (out name : List ℕ) (volume panning : ℕ
     second : (44 ≡ length (nameOf m l)) × (mid₂ ≡ nameOf m l ++ drop 44 (midOf 2 (length versioned - 2) versioned))
     second = (size, copied name (nameOf m l) (midOf 2 (length versioned - 2) versioned) mid₂ same is₂ ∙ ap (λ (k : ℕ). nameOf m l ++ drop k (midOf 2 (length versioned - 2) versioned)) (sym size))
 
-    pub numbers-inside : 46 ≤ length named
-    numbers-inside = third-inside front (nameOf m l) numbers out fits versioned first mid₂ second
+    pub numbers-room : 60 ≤ length named
+    numbers-room = omega (arith, third-length front (nameOf m l) (numbers m l) out fits versioned first mid₂ second, room)
 
-    pub numbers-part : 14 ≤ length (midOf 46 (length named - 46) named)
-    numbers-part = third-part front (nameOf m l) numbers out fits versioned first mid₂ second
-
-    pub summary-written : volume ≡ envelopeCount m (l .places .venv) → panning ≡ envelopeCount m (l .places .penv) → (mid₃ : List ℕ) → mid₃ ≡ numbers ++ drop 14 (midOf 46 (length named - 46) named) → putMid 46 (length named - 46) named mid₃ ≡ summaryRecord m l ++ drop 60 out
-    summary-written v p mid₃ is₃ = three-written front (nameOf m l) numbers out fits versioned first mid₂ second mid₃ (refl, is₃) .1 ∙ rw (v, p) refl
+    pub summary-written : putAt (numbers m l) 46 named ≡ summaryRecord m l ++ drop 60 out
+    summary-written = third-put front (nameOf m l) (numbers m l) out fits versioned first mid₂ second

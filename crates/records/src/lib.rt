@@ -12,6 +12,8 @@ use numbers::byte;
 use numbers::copy;
 use numbers::number16;
 use numbers::number32;
+use numbers::put16;
+use numbers::put32;
 use queries::LengthAnswer;
 use queries::Thing;
 use queries::chunk_of;
@@ -27,35 +29,32 @@ ghost use mathlib.Core.List.{_++_};
 ghost use Prim.Native.Nat.{_+_, _*_, _<_, _≤_};
 ghost use lib.ListN.{length, drop};
 ghost use lib.IntN.{pos, _-ℤ_};
-ghost use Rattle.numbers.specs.Numbers.{byteAt, bytes16, bytesFrom, unsigned16};
+ghost use Rattle.numbers.specs.Numbers.{byteAt, bytesFrom, unsigned16, putAt};
 ghost use Rattle.layout.specs.declared.Outline.the-variants.{Found};
 ghost use Rattle.blocks.specs.Sizes.{sizeOf, placesFrom};
 ghost use Rattle.module.specs.Verdicts.{opened};
+ghost use Rattle.summary.specs.Shown.{shownInfo};
 ghost use Rattle.samples.specs.Shown.{shownSample};
 ghost use Rattle.envelopes.specs.Shown.{thingOf, positionShown, valueShown, valueOf};
 ghost use Rattle.grammar.specs.Rules.{Every};
-ghost use Rattle.records.specs.Records.{summaryRecord, sampleRecord, recordAt, recordsOf, allRecords, allAnswerIf, allAnswer, allOutputIf, allOutput};
+ghost use Rattle.records.specs.Records.{infoRecord, countsRecord, summaryRecord, sampleRecord, recordAt, recordsOf, allRecords, allAnswerIf, allAnswer, allOutputIf, allOutput};
 ghost use Rattle.records.specs.Steps.{pointRecord, pointsFrom, recordsFrom, recordsOfThree, ValueFits, ValuesFit};
 
-// Writes seven numbers to the front of an output, 2 bytes each.
-fn put_seven(a: u16, b: u16, c: u16, d: u16, e: u16, f: u16, g: u16, out: &mut [u8])
-    requires { ⌜ 14 ≤ length (now out) ⌝ }
-    ensures { λ r. ⌜ now (out .exit) ≡ (bytes16 a ++ (bytes16 b ++ (bytes16 c ++ (bytes16 d ++ (bytes16 e ++ (bytes16 f ++ bytes16 g)))))) ++ drop 14 (now (out .entry)) ⌝ }
+// Writes the numbers of INFO and how many volume and panning envelopes there are: 14 bytes from 46 on.
+fn write_counts(m: &[u8], l: Layout, out: &mut [u8])
+    requires { ⌜ 60 ≤ length (now out) ⌝ }
+    ensures { λ r. ⌜ now (out .exit) ≡ putAt (infoRecord (shownInfo l) ++ countsRecord (now (m .entry)) l) 46 (now (out .entry)) ⌝ }
 {
-    out[0] = (a / 256) as u8;
-    out[1] = (a % 256) as u8;
-    out[2] = (b / 256) as u8;
-    out[3] = (b % 256) as u8;
-    out[4] = (c / 256) as u8;
-    out[5] = (c % 256) as u8;
-    out[6] = (d / 256) as u8;
-    out[7] = (d % 256) as u8;
-    out[8] = (e / 256) as u8;
-    out[9] = (e % 256) as u8;
-    out[10] = (f / 256) as u8;
-    out[11] = (f % 256) as u8;
-    out[12] = (g / 256) as u8;
-    out[13] = (g % 256) as u8;
+    let p = l.places;
+    let volume = envelope_count(m, p.venv);
+    let panning = envelope_count(m, p.penv);
+    put16(l.instruments, 46, out);
+    put16(l.samples, 48, out);
+    put16(l.songs, 50, out);
+    put16(l.patterns, 52, out);
+    put16(l.tracks, 54, out);
+    put16(volume, 56, out);
+    put16(panning, 58, out);
 }
 
 // Writes what a module says of itself to the front of an output: 60 bytes.
@@ -63,23 +62,11 @@ fn write_summary(m: &[u8], l: Layout, out: &mut [u8])
     requires { ⌜ 60 ≤ length (now out) ⌝ }
     ensures { λ r. ⌜ now (out .exit) ≡ summaryRecord (now (m .entry)) l ++ drop 60 (now (out .entry)) ⌝ }
 {
-    let p = l.places;
     let name = name_of(m, l);
-    let volume = envelope_count(m, p.venv);
-    let panning = envelope_count(m, p.penv);
     out[0] = l.version;
     out[1] = l.revision;
     bytes::copy(&name, &mut out[2..]);
-    put_seven(
-        l.instruments,
-        l.samples,
-        l.songs,
-        l.patterns,
-        l.tracks,
-        volume,
-        panning,
-        &mut out[46..],
-    );
+    write_counts(m, l, out);
 }
 
 // Writes so many bytes of the module to the front of an output, and answers how many.
@@ -97,9 +84,8 @@ fn write_sample(m: &[u8], at: usize, out: &mut [u8]) -> usize
     ensures { λ r. ⌜ (r ≡ 6) × (now (out .exit) ≡ sampleRecord (shownSample (now (m .entry)) at) ++ drop 6 (now (out .entry))) ⌝ }
 {
     let bits = 8 * width(number32(m, at));
-    out[0] = 0;
-    out[1] = bits as u8;
-    copy(m, at + 4, &mut out[2..6]);
+    put16(bits as u16, 0, out);
+    put32(number32(m, at + 4), 2, out);
     6
 }
 
@@ -149,17 +135,6 @@ fn value(m: &[u8], kind: EnvelopeKind, version: u8, at: usize, sections: u8, poi
     0
 }
 
-// Writes a position and a value to the front of an output, 2 bytes each.
-fn put_point(position: u16, value: u16, out: &mut [u8])
-    requires { ⌜ 4 ≤ length (now out) ⌝ }
-    ensures { λ r. ⌜ now (out .exit) ≡ (bytes16 position ++ bytes16 value) ++ drop 4 (now (out .entry)) ⌝ }
-{
-    out[0] = (position / 256) as u8;
-    out[1] = (position % 256) as u8;
-    out[2] = (value / 256) as u8;
-    out[3] = (value % 256) as u8;
-}
-
 // Writes a point of the envelope at a place to the front of an output.
 fn write_point(
     m: &[u8],
@@ -175,7 +150,8 @@ fn write_point(
 {
     let p = position(m, at, sections, point);
     let v = value(m, kind, version, at, sections, point);
-    put_point(p, v, out);
+    put16(p, 0, out);
+    put16(v, 2, out);
 }
 
 // Writes the points of the envelope at a place to the front of an output.
