@@ -6,7 +6,8 @@ use native.Mathlib.Omega.{arith}
 use lib.ListN.{length, take, drop, length-append, length-drop}
 use lib.Seq.{take-take, take-append-le, take-at, drop-at, drop-drop, length-take-le}
 use borrow.Rule.Slice.PartMut.{midOf, putMid}
-use Rattle.numbers.specs.Numbers.{bytes32}
+use Rattle.numbers.specs.Numbers.{bytes32, putAt}
+use Rattle.numbers.proofs.PutBytes.{put-there}
 use Rattle.grammar.proofs.Ends.{mid-end, put-end}
 
 -- The output once it is written up to the place of the length.
@@ -47,13 +48,12 @@ module _ (front out first : List ℕ) (a : ℕ) (size : length front ≡ a) (roo
         ∙ ap (take a) e₁
         ∙ take-at front (drop a out) a size
 
-    -- Once the length is written.
-    module _ (last : List ℕ) (e₃ : last ≡ bytes32 n ++ drop 4 (midOf a (length second - a) second)) where
-      abbrev third : List ℕ
-      third = putMid a (length second - a) second last
+    place-inside : a + 4 ≤ length second
+    place-inside = omega (arith, ap length second-is, length-append (take (a + 4) first) (xs ++ drop (a + 4 + n) out), four-more)
 
-      pub third-is : third ≡ front ++ (bytes32 n ++ (xs ++ drop (a + 4 + n) out))
-      third-is =
-          put-end a second last
-          ∙ ap (λ (l : List ℕ). l ++ last) front-stays
-          ∙ ap (λ (rest : List ℕ). front ++ rest) (e₃ ∙ ap (λ (rest : List ℕ). bytes32 n ++ drop 4 rest) (mid-end a second) ∙ ap (λ (rest : List ℕ). bytes32 n ++ rest) (drop-drop 4 a second ∙ behind-length))
+    -- Once the length is written.
+    pub third-is : putAt (bytes32 n) a second ≡ front ++ (bytes32 n ++ (xs ++ drop (a + 4 + n) out))
+    third-is =
+        put-there (bytes32 n) a second place-inside
+        ∙ ap (λ (l : List ℕ). l ++ (bytes32 n ++ drop (a + 4) second)) front-stays
+        ∙ ap (λ (rest : List ℕ). front ++ (bytes32 n ++ rest)) behind-length

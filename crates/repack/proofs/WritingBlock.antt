@@ -9,7 +9,7 @@ use lib.ListN.{length, getD, take, drop, set, replicate, length-append}
 use lib.Seq.{drop-cons, set-at}
 use borrow.Rule.Slice.PartMut.{midOf, putMid}
 use Rattle.refusal.specs.declared.Verdict.the-variants.{Accepted}
-use Rattle.numbers.specs.Numbers.{number32, partOf, bytes32}
+use Rattle.numbers.specs.Numbers.{number32, partOf, bytes32, putAt}
 use Rattle.module.specs.Streams.{streamVerdict}
 use Rattle.grammar.proofs.Locating.{part-length}
 use Rattle.repack.specs.Repacked.{packed, repackedStream, repackedBlock}
@@ -63,12 +63,9 @@ module _ (m : List ℕ) (tracks at : ℕ) (inside : at + 6 ≤ length m) (sound 
       abbrev behind : List ℕ
       behind = putMid 6 (length first - 6) first mid
 
-      module _ {last : List ℕ} (put : last ≡ bytes32 n ++ drop 4 (midOf 2 (length behind - 2) behind)) where
-        abbrev whole : List ℕ
-        whole = putMid 2 (length behind - 2) behind last
-
+      module _ {whole : List ℕ} (put : whole ≡ putAt (bytes32 n) 2 behind) where
         whole-is : whole ≡ partOf m at 2 ++ (bytes32 n ++ (repackedStream m tracks at ++ drop (6 + n) out))
-        whole-is = third-is (partOf m at 2) out first 2 two six-fit rows-first (repackedStream m tracks at) mid n (told .0) enough stream-next last put
+        whole-is = put ∙ third-is (partOf m at 2) out first 2 two six-fit rows-first (repackedStream m tracks at) mid n (told .0) enough stream-next
 
         pub even-block : n % 2 ≡ 0 → (6 + n ≡ length (repackedBlock m tracks at)) × (whole ≡ repackedBlock m tracks at ++ drop (6 + n) out)
         even-block = even-written (partOf m at 2) (repackedStream m tracks at) out whole n two (told .0) whole-is

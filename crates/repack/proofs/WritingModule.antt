@@ -9,7 +9,7 @@ use lib.Seq.{length-take-le}
 use borrow.Rule.Slice.PartMut.{midOf, putMid}
 use Rattle.layout.specs.declared.Place.{Place}
 use Rattle.blocks.specs.Filling.{dataEnd}
-use Rattle.numbers.specs.Numbers.{bytes32}
+use Rattle.numbers.specs.Numbers.{bytes32, putAt}
 use Rattle.repack.specs.Steps.{frontAnew, replaced}
 use Rattle.grammar.proofs.Ends.{mid-end, copied, put-next, written-length}
 use Rattle.repack.proofs.LengthBefore.{third-is}
@@ -58,14 +58,12 @@ module _ (m : List ℕ) (chunk : Place) (anew : List ℕ) (whole : dataEnd chunk
         abbrev out₂ : List ℕ
         out₂ = putMid start (length out₁ - start) out₁ mid₂
 
-        module _ {mid₃ : List ℕ} (e₃ : mid₃ ≡ bytes32 n ++ drop 4 (midOf (chunk .at + 4) (length out₂ - (chunk .at + 4)) out₂)) where
-          abbrev out₃ : List ℕ
-          out₃ = putMid (chunk .at + 4) (length out₂ - (chunk .at + 4)) out₂ mid₃
-
+        module _ {out₃ : List ℕ} (e₃ : out₃ ≡ putAt (bytes32 n) (chunk .at + 4) out₂) where
           pub front-written : (start + n ≡ length (frontAnew m chunk anew)) × (out₃ ≡ frontAnew m chunk anew ++ drop (start + n) out₀)
           front-written = (
             omega (arith, front-length, done .0),
-            third-is front out₀ out₁ (chunk .at + 4) front-size (omega (arith, start-room)) first anew mid₂ n (done .0) (omega (arith, start-room, done .0)) (done .1) mid₃ e₃
+            e₃
+                ∙ third-is front out₀ out₁ (chunk .at + 4) front-size (omega (arith, start-room)) first anew mid₂ n (done .0) (omega (arith, start-room, done .0)) (done .1)
                 ∙ ap (λ (k : ℕ). front ++ (bytes32 k ++ (anew ++ drop (start + n) out₀))) (done .0)
                 ∙ sym (append-assoc front (bytes32 (length anew) ++ anew) (drop (start + n) out₀)),
           )

@@ -10,6 +10,7 @@ use layout::Place;
 use numbers::number16;
 use numbers::number32;
 use numbers::part;
+use numbers::put32;
 use packed_rows::Packing;
 use queries::LengthAnswer;
 use queries::refused;
@@ -21,7 +22,7 @@ ghost use mathlib.Core.List.{_++_};
 ghost use Prim.Native.Nat.{_+_, _<_, _≤_};
 ghost use lib.ListN.{length, drop};
 ghost use Rattle.refusal.specs.declared.Verdict.the-variants.{Accepted};
-ghost use Rattle.numbers.specs.Numbers.{number32 as number32At, bytes32};
+ghost use Rattle.numbers.specs.Numbers.{number32 as number32At};
 ghost use Rattle.layout.specs.declared.Outline.the-variants.{Found};
 ghost use Rattle.blocks.specs.Sizes.{firstBlock};
 ghost use Rattle.blocks.specs.declared.Kind.the-variants.{Pattern};
@@ -70,17 +71,6 @@ fn data_length(m: &[u8], chunk: Place, patterns: u16, tracks: u16) -> usize
     length
 }
 
-// Writes a number in 4 bytes to the front of an output.
-fn put32(n: u32, out: &mut [u8])
-    requires { ⌜ 4 ≤ length (now out) ⌝ }
-    ensures { λ r. ⌜ now (out .exit) ≡ bytes32 n ++ drop 4 (now (out .entry)) ⌝ }
-{
-    out[0] = (n / 16777216) as u8;
-    out[1] = (n / 65536 % 256) as u8;
-    out[2] = (n / 256 % 256) as u8;
-    out[3] = (n % 256) as u8;
-}
-
 // Writes a pattern's block anew to the front of an output, and answers its length.
 fn write_block(m: &[u8], tracks: u16, at: usize, out: &mut [u8]) -> usize
     requires { ⌜ (at + 6 ≤ length (now m)) × (streamVerdict (now m) tracks at ≡ Accepted) × (length (repackedBlock (now m) tracks at) ≤ length (now out)) ⌝ }
@@ -88,7 +78,7 @@ fn write_block(m: &[u8], tracks: u16, at: usize, out: &mut [u8]) -> usize
 {
     bytes::copy(part(m, at, 2), out);
     let n = repack_stream(m, tracks, at, &mut out[6..]);
-    put32(n as u32, &mut out[2..]);
+    put32(n as u32, 2, out);
     let end = 6 + n;
     if n % 2 == 0 {
         return end;
@@ -123,7 +113,7 @@ fn write_front(m: &[u8], chunk: Place, patterns: u16, tracks: u16, out: &mut [u8
     let start = front + 4;
     bytes::copy(&m[..front], out);
     let anew = write_data(m, chunk, patterns, tracks, &mut out[start..]);
-    put32(anew as u32, &mut out[front..]);
+    put32(anew as u32, front, out);
     start + anew
 }
 

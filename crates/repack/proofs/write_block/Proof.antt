@@ -14,15 +14,6 @@ sub-repack-stream c = let long = block-long (c .before .before .before .before .
 part-repack-stream-start : tie.Need-part-repack-stream-start
 part-repack-stream-start c = let long = block-long (c .before .before .before .before .before .before .before .args .m .now) (c .before .before .before .before .before .before .before .args .tracks) (c .before .before .before .before .before .before .before .args .at) (c .before .before .before .before .before .before .before .pre .0) (c .before .before .before .before .before .before .before .pre .1) in search needs
 
-sub-put32 : tie.Need-sub-put32
-sub-put32 c = let long = block-long (c .before .before .before .before .before .before .before .before .before .before .before .args .m .now) (c .before .before .before .before .before .before .before .before .before .before .before .args .tracks) (c .before .before .before .before .before .before .before .before .before .before .before .args .at) (c .before .before .before .before .before .before .before .before .before .before .before .pre .0) (c .before .before .before .before .before .before .before .before .before .before .before .pre .1) in search needs
-
-part-put32-start : tie.Need-part-put32-start
-part-put32-start c = let long = block-long (c .before .before .before .before .before .before .before .before .before .before .before .args .m .now) (c .before .before .before .before .before .before .before .before .before .before .before .args .tracks) (c .before .before .before .before .before .before .before .before .before .before .before .args .at) (c .before .before .before .before .before .before .before .before .before .before .before .pre .0) (c .before .before .before .before .before .before .before .before .before .before .before .pre .1) in search needs
-
-put32-requires : tie.Need-put32-requires
-put32-requires c κs = let long = block-long (c .before .before .before .before .before .before .before .before .before .before .before .before .args .m .now) (c .before .before .before .before .before .before .before .before .before .before .before .before .args .tracks) (c .before .before .before .before .before .before .before .before .before .before .before .before .args .at) (c .before .before .before .before .before .before .before .before .before .before .before .before .pre .0) (c .before .before .before .before .before .before .before .before .before .before .before .before .pre .1) in search needs
-
 returns : tie.Need-returns
 returns c = even-block (c .before .before .before .before .before .before .before .before .before .before .before .before .before .before .before .before .args .m .now) (c .before .before .before .before .before .before .before .before .before .before .before .before .before .before .before .before .args .tracks) (c .before .before .before .before .before .before .before .before .before .before .before .before .before .before .before .before .args .at) (c .before .before .before .before .before .before .before .before .before .before .before .before .before .before .before .before .pre .0) (c .before .before .before .before .before .before .before .before .before .before .before .before .before .before .before .before .pre .1) (c .before .before .before .before .before .before .before .before .before .before .before .before .before .before .before .before .args .out .now) (c .before .before .before .before .before .before .before .before .before .before .before .before .before .before .before .before .pre .2) (c .before .before .before .before .before .before .before .before .before .before .before .before .before .part .ensures .0) (c .before .before .before .before .before .before .before .before .before .before .before .copy .ensures .1) (c .before .before .before .before .before .before .before .repack-stream .ensures) (c .before .before .before .put32 .ensures) (c .if1 .taken)
 
@@ -30,7 +21,7 @@ slice-write-out : tie.Need-slice-write-out
 slice-write-out c = let long = block-long (c .before .before .before .before .before .before .before .before .before .before .before .before .before .before .before .before .args .m .now) (c .before .before .before .before .before .before .before .before .before .before .before .before .before .before .before .before .args .tracks) (c .before .before .before .before .before .before .before .before .before .before .before .before .before .before .before .before .args .at) (c .before .before .before .before .before .before .before .before .before .before .before .before .before .before .before .before .pre .0) (c .before .before .before .before .before .before .before .before .before .before .before .before .before .before .before .before .pre .1) in search needs
 
 same-length-2 : tie.Need-same-length-2
-same-length-2 c = simp length-set (c .before .before .out3 .given .1 ∙ c .before .before .before .before .before .before .out2 .given .1 ∙ c .before .before .before .before .before .before .before .before .before .before .out .given)
+same-length-2 c = simp length-set (c .before .before .out3 .given ∙ c .before .before .before .before .before .before .out2 .given .1 ∙ c .before .before .before .before .before .before .before .before .before .before .out .given)
 
 returns-2 : tie.Need-returns-2
 returns-2 c = odd-block (c .before .before .before .before .before .before .before .before .before .before .before .before .before .before .before .before .args .m .now) (c .before .before .before .before .before .before .before .before .before .before .before .before .before .before .before .before .args .tracks) (c .before .before .before .before .before .before .before .before .before .before .before .before .before .before .before .before .args .at) (c .before .before .before .before .before .before .before .before .before .before .before .before .before .before .before .before .pre .0) (c .before .before .before .before .before .before .before .before .before .before .before .before .before .before .before .before .pre .1) (c .before .before .before .before .before .before .before .before .before .before .before .before .before .before .before .before .args .out .now) (c .before .before .before .before .before .before .before .before .before .before .before .before .before .before .before .before .pre .2) (c .before .before .before .before .before .before .before .before .before .before .before .before .before .part .ensures .0) (c .before .before .before .before .before .before .before .before .before .before .before .copy .ensures .1) (c .before .before .before .before .before .before .before .repack-stream .ensures) (c .before .before .before .put32 .ensures) (c .if1 .left)
@@ -38,4 +29,4 @@ returns-2 c = odd-block (c .before .before .before .before .before .before .befo
 pub write-block-spec : {M : Type 1} → statement M
 write-block-spec =
     tie.close
-    (tie.spec (λ c κs. search needs) copy-requires sub-repack-stream part-repack-stream-start (λ c. search needs) (λ c κs. search needs) (λ c. search needs) sub-put32 part-put32-start (λ c. search needs) put32-requires (λ c. search needs) (λ c. search needs) returns slice-write-out (λ c. search needs) same-length-2 returns-2)
+    (tie.spec (λ c κs. search needs) copy-requires sub-repack-stream part-repack-stream-start (λ c. search needs) (λ c κs. search needs) (λ c. search needs) (λ c κs. search needs) (λ c. search needs) (λ c. search needs) returns slice-write-out (λ c. search needs) same-length-2 returns-2)

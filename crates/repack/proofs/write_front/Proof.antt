@@ -27,20 +27,11 @@ write-data-requires c κs = (c .before .before .before .before .before .before .
 cast-put32 : tie.Need-cast-put32
 cast-put32 c = let shorter = data-shorter (c .before .before .before .before .before .before .before .before .before .before .before .before .args .chunk) (c .before .before .before .before .before .before .before .before .before .before .before .before .pre .0) refl in omega (arith, c .before .before .write-data .ensures .0)
 
-sub-put32 : tie.Need-sub-put32
-sub-put32 c = let room = start-room (c .before .before .before .before .before .before .before .before .before .before .before .before .args .m .now) (c .before .before .before .before .before .before .before .before .before .before .before .before .args .chunk) (blocksAnew (c .before .before .before .before .before .before .before .before .before .before .before .before .args .m .now) (c .before .before .before .before .before .before .before .before .before .before .before .before .args .tracks) (c .before .before .before .before .before .before .before .before .before .before .before .before .args .patterns) (firstBlock Pattern (c .before .before .before .before .before .before .before .before .before .before .before .before .args .chunk))) (c .before .before .before .before .before .before .before .before .before .before .before .before .pre .0 .inside) (c .before .before .before .before .before .before .before .before .before .before .before .before .args .out .now) (c .before .before .before .before .before .before .before .before .before .before .before .before .pre .1) in search needs
-
-part-put32-start : tie.Need-part-put32-start
-part-put32-start c = let room = start-room (c .before .before .before .before .before .before .before .before .before .before .before .before .args .m .now) (c .before .before .before .before .before .before .before .before .before .before .before .before .args .chunk) (blocksAnew (c .before .before .before .before .before .before .before .before .before .before .before .before .args .m .now) (c .before .before .before .before .before .before .before .before .before .before .before .before .args .tracks) (c .before .before .before .before .before .before .before .before .before .before .before .before .args .patterns) (firstBlock Pattern (c .before .before .before .before .before .before .before .before .before .before .before .before .args .chunk))) (c .before .before .before .before .before .before .before .before .before .before .before .before .pre .0 .inside) (c .before .before .before .before .before .before .before .before .before .before .before .before .args .out .now) (c .before .before .before .before .before .before .before .before .before .before .before .before .pre .1) in search needs
-
-put32-requires : tie.Need-put32-requires
-put32-requires c κs = let room = start-room (c .before .before .before .before .before .before .before .before .before .before .before .before .before .args .m .now) (c .before .before .before .before .before .before .before .before .before .before .before .before .before .args .chunk) (blocksAnew (c .before .before .before .before .before .before .before .before .before .before .before .before .before .args .m .now) (c .before .before .before .before .before .before .before .before .before .before .before .before .before .args .tracks) (c .before .before .before .before .before .before .before .before .before .before .before .before .before .args .patterns) (firstBlock Pattern (c .before .before .before .before .before .before .before .before .before .before .before .before .before .args .chunk))) (c .before .before .before .before .before .before .before .before .before .before .before .before .before .pre .0 .inside) (c .before .before .before .before .before .before .before .before .before .before .before .before .before .args .out .now) (c .before .before .before .before .before .before .before .before .before .before .before .before .before .pre .1) in search needs
-
 add-result : tie.Need-add-result
 add-result c = let room = start-room (c .before .before .before .before .before .before .before .before .before .before .before .before .before .before .before .before .args .m .now) (c .before .before .before .before .before .before .before .before .before .before .before .before .before .before .before .before .args .chunk) (blocksAnew (c .before .before .before .before .before .before .before .before .before .before .before .before .before .before .before .before .args .m .now) (c .before .before .before .before .before .before .before .before .before .before .before .before .before .before .before .before .args .tracks) (c .before .before .before .before .before .before .before .before .before .before .before .before .before .before .before .before .args .patterns) (firstBlock Pattern (c .before .before .before .before .before .before .before .before .before .before .before .before .before .before .before .before .args .chunk))) (c .before .before .before .before .before .before .before .before .before .before .before .before .before .before .before .before .pre .0 .inside) (c .before .before .before .before .before .before .before .before .before .before .before .before .before .before .before .before .args .out .now) (c .before .before .before .before .before .before .before .before .before .before .before .before .before .before .before .before .pre .1) in omega (arith, c .before .before .before .before .before .before .write-data .ensures .0)
 
 same-length : tie.Need-same-length
-same-length c = c .before .out3 .given .1 ∙ c .before .before .before .before .before .out2 .given .1 ∙ c .before .before .before .before .before .before .before .before .before .out .given
+same-length c = c .before .out3 .given ∙ c .before .before .before .before .before .out2 .given .1 ∙ c .before .before .before .before .before .before .before .before .before .out .given
 
 returns : tie.Need-returns
 returns c = front-written (c .before .before .before .before .before .before .before .before .before .before .before .before .before .before .before .before .args .m .now) (c .before .before .before .before .before .before .before .before .before .before .before .before .before .before .before .before .args .chunk) (blocksAnew (c .before .before .before .before .before .before .before .before .before .before .before .before .before .before .before .before .args .m .now) (c .before .before .before .before .before .before .before .before .before .before .before .before .before .before .before .before .args .tracks) (c .before .before .before .before .before .before .before .before .before .before .before .before .before .before .before .before .args .patterns) (firstBlock Pattern (c .before .before .before .before .before .before .before .before .before .before .before .before .before .before .before .before .args .chunk))) (c .before .before .before .before .before .before .before .before .before .before .before .before .before .before .before .before .pre .0 .inside) (c .before .before .before .before .before .before .before .before .before .before .before .before .before .before .before .before .args .out .now) (c .before .before .before .before .before .before .before .before .before .before .before .before .before .before .before .before .pre .1) (c .before .before .before .before .before .before .before .before .before .before .copy .ensures .1) (c .before .before .before .before .before .before .write-data .ensures) (c .before .before .put32 .ensures)
@@ -48,4 +39,4 @@ returns c = front-written (c .before .before .before .before .before .before .be
 pub write-front-spec : {M : Type 1} → statement M
 write-front-spec =
     tie.close
-    (tie.spec (λ c. search needs) (λ c. search needs) (λ c. search needs) slice-aggregate-copy copy-requires sub-write-data part-write-data-start (λ c. search needs) write-data-requires cast-put32 sub-put32 part-put32-start (λ c. search needs) put32-requires add-result same-length returns)
+    (tie.spec (λ c. search needs) (λ c. search needs) (λ c. search needs) slice-aggregate-copy copy-requires sub-write-data part-write-data-start (λ c. search needs) write-data-requires cast-put32 (λ c κs. search needs) add-result same-length returns)
