@@ -5,6 +5,7 @@
 --     put-behind  the output is written up to the place
 --     put-both    two lists put one after the other are both put at once
 --     put-each    so are several
+--     put-front   so are several from the front on
 --     put-sets    the stores of the code
 use Prim.Native.Nat.{ℕ, _+_, _<_, _≤_}
 use mathlib.Core.Path.{_≡_, refl, sym, ap, _∙_}
@@ -59,21 +60,24 @@ module _ (front xs : List ℕ) (at : ℕ) (place : length front ≡ at) where
       ∙ ap (λ (l : List ℕ). l ++ (xs ++ drop (at + length xs) (front ++ rest))) (take-at front rest at place)
       ∙ ap (λ (l : List ℕ). front ++ (xs ++ l)) behind
 
-pub put-both : (xs ys : List ℕ) (at to : ℕ) (out : List ℕ) → at + length xs ≡ to → to + length ys ≤ length out → putAt ys to (putAt xs at out) ≡ putAt (xs ++ ys) at out
-put-both xs ys at to out e h =
-    let inside : at + length xs ≤ length out = omega (arith, h) in
-    let before : length (take at out ++ xs) ≡ to = omega (arith, length-append (take at out) xs, length-take-le at out (omega arith)) in
-    let first : putAt xs at out ≡ (take at out ++ xs) ++ drop to out =
-    put-there xs at out inside ∙ sym (append-assoc (take at out) xs (drop (at + length xs) out)) ∙ ap (λ (k : ℕ). (take at out ++ xs) ++ drop k out) e in
-    let end : to + length ys ≡ at + length (xs ++ ys) = omega (arith, length-append xs ys) in
-    let last : drop (length ys) (drop to out) ≡ drop (at + length (xs ++ ys)) out =
-    drop-drop (length ys) to out ∙ ap (λ (k : ℕ). drop k out) end in
-    ap (putAt ys to) first
-    ∙ put-behind (take at out ++ xs) ys to before (drop to out) (omega (arith, length-drop to out))
-    ∙ ap (λ (l : List ℕ). (take at out ++ xs) ++ (ys ++ l)) last
-    ∙ append-assoc (take at out) xs (ys ++ drop (at + length (xs ++ ys)) out)
-    ∙ ap (λ (l : List ℕ). take at out ++ l) (sym (append-assoc xs ys (drop (at + length (xs ++ ys)) out)))
-    ∙ sym (put-there (xs ++ ys) at out (omega (arith, end)))
+module _ (xs ys : List ℕ) (at to : ℕ) (out : List ℕ) (e : at + length xs ≡ to) (h : to + length ys ≤ length out) where
+  pub put-both : putAt ys to (putAt xs at out) ≡ putAt (xs ++ ys) at out
+  put-both =
+      let inside : at + length xs ≤ length out = omega (arith, h) in
+      let before : length (take at out ++ xs) ≡ to = omega (arith, length-append (take at out) xs, length-take-le at out (omega arith)) in
+      let first : putAt xs at out ≡ (take at out ++ xs) ++ drop to out =
+      put-there xs at out inside
+      ∙ sym (append-assoc (take at out) xs (drop (at + length xs) out))
+      ∙ ap (λ (k : ℕ). (take at out ++ xs) ++ drop k out) e in
+      let end : to + length ys ≡ at + length (xs ++ ys) = omega (arith, length-append xs ys) in
+      let last : drop (length ys) (drop to out) ≡ drop (at + length (xs ++ ys)) out =
+      drop-drop (length ys) to out ∙ ap (λ (k : ℕ). drop k out) end in
+      ap (putAt ys to) first
+      ∙ put-behind (take at out ++ xs) ys to before (drop to out) (omega (arith, length-drop to out))
+      ∙ ap (λ (l : List ℕ). (take at out ++ xs) ++ (ys ++ l)) last
+      ∙ append-assoc (take at out) xs (ys ++ drop (at + length (xs ++ ys)) out)
+      ∙ ap (λ (l : List ℕ). take at out ++ l) (sym (append-assoc xs ys (drop (at + length (xs ++ ys)) out)))
+      ∙ sym (put-there (xs ++ ys) at out (omega (arith, end)))
 
 -- Lists put one after the other, as calls leave them.
 abbrev pub putEach : List (List ℕ) → ℕ → List ℕ → List ℕ
@@ -85,4 +89,8 @@ unfolding flatten
 put-each [] at out h = sym (put-there [] at out h ∙ ap (λ (k : ℕ). take at out ++ drop k out) (add-zero at) ∙ take-append-drop at out)
 put-each (xs ∷ more) at out h =
     let room : at + length xs + length (flatten more) ≤ length out = omega (arith, length-append xs (flatten more)) in
-    put-each more (at + length xs) (putAt xs at out) (omega (arith, put-length xs at out)) ∙ put-both xs (flatten more) at (at + length xs) out refl room
+    put-each more (at + length xs) (putAt xs at out) (omega (arith, put-length xs at out))
+    ∙ put-both xs (flatten more) at (at + length xs) out refl room
+
+pub put-front : (all : List (List ℕ)) (out : List ℕ) → length (flatten all) ≤ length out → putEach all 0 out ≡ flatten all ++ drop (length (flatten all)) out
+put-front all out h = put-each all 0 out (omega arith) ∙ put-behind [] (flatten all) 0 refl out h

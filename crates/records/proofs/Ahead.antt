@@ -2,14 +2,14 @@
 -- is lent the output from a place on.
 use Prim.Native.Nat.{ℕ, zero, suc, _+_, _-_, _≤_, _<_}
 use mathlib.Core.Path.{_≡_, refl, sym, ap, _∙_}
-use mathlib.Core.List.{List, [], _∷_, _++_, map, append-assoc, append-nil, flatten}
+use mathlib.Core.List.{List, [], _∷_, _++_, map, append-assoc, append-nil}
 use native.Mathlib.Omega.{arith}
 use lib.ListN.{length, drop, length-append, length-drop}
 use lib.Seq.{drop-drop}
 use borrow.Rule.Slice.PartMut.{midOf, putMid}
 use Rattle.cells.specs.Cells.{joined}
 use Rattle.numbers.specs.Numbers.{putAt}
-use Rattle.numbers.proofs.PutBytes.{put-behind, putEach, put-each}
+use Rattle.numbers.proofs.PutBytes.{put-behind}
 use Rattle.blocks.specs.Sizes.{placesFrom}
 use Rattle.grammar.specs.Rules.{Every, none, also}
 use Rattle.grammar.proofs.Holding.{every-first, every-rest}
@@ -83,10 +83,6 @@ module _ {out₀ all : List ℕ} (room : length all ≤ length out₀) (out : Li
       ∙ sym (append-assoc (a .done) xs (drop (length xs) rest))
       ∙ ap (λ (l : List ℕ). l ++ drop (length xs) rest) (a .whole)
       ∙ ap (λ (l : List ℕ). all ++ l) (drop-drop (length xs) (length (a .done)) out₀ ∙ ap (λ (k : ℕ). drop (k + length xs) out₀) (a .place))
-
--- Numbers put one after the other from the front on.
-pub front-put : (all : List (List ℕ)) (out : List ℕ) → length (flatten all) ≤ length out → putEach all 0 out ≡ flatten all ++ drop (length (flatten all)) out
-front-put all out h = put-each all 0 out (omega arith) ∙ put-behind [] (flatten all) 0 refl out h
 
 -- Three lists: the first by a call that is lent the whole output, the others behind it.
 module _ (xs ys zs out₀ : List ℕ) (room : length (xs ++ (ys ++ zs)) ≤ length out₀) where

@@ -10,12 +10,12 @@ use lib.Dec.{ltb}
 use lib.IntN.{pos, negsuc, _-ℤ_}
 use borrow.Author.Tests.{ltb-true, ltb-false, eq-eqb, ne-eqb}
 use Rattle.numbers.specs.Numbers.{byteAt, number16, bytes16, unsigned16, putAt}
+use Rattle.numbers.proofs.PutBytes.{put-front}
 use Rattle.samples.proofs.SixteenBits.{stored-again}
 use Rattle.envelopes.specs.Shown.{thingOf, positionShown, valueOf, valueShown}
 use Rattle.envelopes.specs.declared.EnvelopeKind.{EnvelopeKind}
 use Rattle.envelopes.specs.declared.EnvelopeKind.the-variants.{Volume, Panning}
 use Rattle.records.specs.Steps.{pointRecord, ValueFits, ValuesFit}
-use Rattle.records.proofs.Ahead.{front-put}
 
 -- A number less 128 in 2 bytes, as the code counts.
 below-zero : (n : ℕ) → n < 128 → (65408 + n) % 65536 ≡ 65535 - (128 - suc n)
@@ -45,6 +45,13 @@ value-ready m Volume version at fits point h = tt
 value-ready m Panning version at fits point h = fits point h
 
 -- A point: two numbers.
-pub point-written : (m : List ℕ) (kind : EnvelopeKind) (version at point sections p v : ℕ) (out : List ℕ) → sections ≡ byteAt m (at + 3) → p ≡ positionShown m at sections point → v ≡ unsigned16 (valueShown m kind version at sections point) → 4 ≤ length out → putAt (bytes16 v) 2 (putAt (bytes16 p) 0 out) ≡ pointRecord m kind version at point ++ drop 4 out
-unfolding flatten
-point-written m kind version at point sections p v out s e f room = front-put (bytes16 p ∷ bytes16 v ∷ []) out room ∙ rw (e, f, s) refl
+module _ (m : List ℕ) (kind : EnvelopeKind) (version at point sections p v : ℕ) (out : List ℕ) (s : sections ≡ byteAt m (at + 3)) where
+  abbrev is-position : Type 0
+  is-position = p ≡ positionShown m at sections point
+
+  abbrev is-value : Type 0
+  is-value = v ≡ unsigned16 (valueShown m kind version at sections point)
+
+  pub point-written : is-position → is-value → 4 ≤ length out → putAt (bytes16 v) 2 (putAt (bytes16 p) 0 out) ≡ pointRecord m kind version at point ++ drop 4 out
+  unfolding flatten
+  point-written e f room = put-front (bytes16 p ∷ bytes16 v ∷ []) out room ∙ rw (e, f, s) refl

@@ -7,7 +7,7 @@ use lib.ListN.{length, take, drop, set, length-set, length-append, drop-of-lengt
 use lib.Seq.{length-take-le, sets-eq}
 use borrow.Rule.Slice.PartMut.{midOf, putMid, mid-len}
 use Rattle.numbers.specs.Numbers.{number32, bytesFrom, bytes16, bytes32, putAt}
-use Rattle.numbers.proofs.PutBytes.{putEach, put-each}
+use Rattle.numbers.proofs.PutBytes.{putEach, put-each, put-front}
 use Rattle.layout.specs.declared.Layout.{Layout}
 use Rattle.blocks.specs.Sizes.{widthOf, sizeOf, envelopeCount}
 use Rattle.blocks.specs.declared.Kind.the-variants.{Song as SongKind}
@@ -21,7 +21,7 @@ use Rattle.grammar.specs.Rules.{Bytes}
 use Rattle.grammar.proofs.Ends.{put-next, copied}
 use Rattle.records.specs.Records.{infoRecord, countsRecord, sampleRecord, summaryRecord, recordAt}
 use Rattle.records.specs.Steps.{pointRecord, pointsFrom}
-use Rattle.records.proofs.Ahead.{Ahead, ahead-second, ahead-last, front-put, second-inside, second-part, third-length, third-put, AheadBlocks, blocks-last}
+use Rattle.records.proofs.Ahead.{Ahead, ahead-second, ahead-last, second-inside, second-part, third-length, third-put, AheadBlocks, blocks-last}
 use Rattle.records.proofs.RecordLengths.{name-length, song-length, instrument-length, pattern-length, sample-length, equal-lengths}
 use Rattle.records.proofs.StoredRecords.{two-bytes, song-stored, instrument-stored, envelope-stored}
 
@@ -65,9 +65,10 @@ module _ (m : List ℕ) (bytes : Bytes m) (version at : ℕ) (thing : Thing) whe
     envelope-written {kind} e size w = written-as out kind (recordAt m version kind at) e refl size w
 
 -- A sample's record: two numbers.
-pub bits-frames : (m : List ℕ) (at w frames : ℕ) (out : List ℕ) → w ≡ widthOf (number32 m at) → frames ≡ number32 m (at + 4) → 6 ≤ length out → putAt (bytes32 frames) 2 (putAt (bytes16 (8 * w)) 0 out) ≡ sampleRecord (shownSample m at) ++ drop 6 out
-unfolding flatten
-bits-frames m at w frames out e f room = front-put (bytes16 (8 * w) ∷ bytes32 frames ∷ []) out room ∙ rw (e, f) refl
+module _ (m : List ℕ) (at w frames : ℕ) (out : List ℕ) (e : w ≡ widthOf (number32 m at)) (f : frames ≡ number32 m (at + 4)) where
+  pub bits-frames : 6 ≤ length out → putAt (bytes32 frames) 2 (putAt (bytes16 (8 * w)) 0 out) ≡ sampleRecord (shownSample m at) ++ drop 6 out
+  unfolding flatten
+  bits-frames room = put-front (bytes16 (8 * w) ∷ bytes32 frames ∷ []) out room ∙ rw (e, f) refl
 
 -- The points of an envelope.
 module _ (m : List ℕ) (kind : EnvelopeKind) (version at : ℕ) where
@@ -99,10 +100,21 @@ module _ (m : List ℕ) (l : Layout) where
   abbrev numbers : List ℕ
   numbers = infoRecord (shownInfo l) ++ countsRecord m l
 
-  pub counts-written : (out : List ℕ) (volume panning : ℕ) → 60 ≤ length out → volume ≡ envelopeCount m (l .places .venv) → panning ≡ envelopeCount m (l .places .penv) → putEach (bytes16 (l .instruments) ∷ bytes16 (l .samples) ∷ bytes16 (l .songs) ∷ bytes16 (l .patterns) ∷ bytes16 (l .tracks) ∷ bytes16 volume ∷ bytes16 panning ∷ []) 46 out ≡ putAt numbers 46 out
-  unfolding flatten
-  counts-written out volume panning room v p =
-      put-each (bytes16 (l .instruments) ∷ bytes16 (l .samples) ∷ bytes16 (l .songs) ∷ bytes16 (l .patterns) ∷ bytes16 (l .tracks) ∷ bytes16 volume ∷ bytes16 panning ∷ []) 46 out room ∙ rw (v, p) refl
+  module _ (out : List ℕ) (volume panning : ℕ) (v : volume ≡ envelopeCount m (l .places .venv)) (p : panning ≡ envelopeCount m (l .places .penv)) where
+    abbrev seven : List (List ℕ)
+    seven =
+        bytes16 (l .instruments)
+        ∷ bytes16 (l .samples)
+        ∷ bytes16 (l .songs)
+        ∷ bytes16 (l .patterns)
+        ∷ bytes16 (l .tracks)
+        ∷ bytes16 volume
+        ∷ bytes16 panning
+        ∷ []
+
+    pub counts-written : 60 ≤ length out → putEach seven 46 out ≡ putAt numbers 46 out
+    unfolding flatten
+    counts-written room = put-each seven 46 out room ∙ rw (v, p) refl
 
 -- What a module says of itself: version and revision by two stores, the name by a copy, and the numbers.
 module _ (m : List ℕ) (l : Layout) (out name : List ℕ) (room : 60 ≤ length out) (same : name ≡ nameOf m l) where

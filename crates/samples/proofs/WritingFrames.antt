@@ -51,7 +51,8 @@ module _ (f : ℕ → ℤ) (n : ℕ) where
       let front : List ℕ = pairs f 0 i in
       let two : 2 ≤ length (h .rest) = omega (arith, h .room) in
       let inside : 2 * i + 2 ≤ length out = omega (arith, writing-length out i h) in
-      let stores : set (set out (2 * i) (v / 256)) (2 * i + 1) (v % 256) ≡ putAt (bytes16 v) (2 * i) out = simp unary-clauses (put-sets (bytes16 v) (2 * i) out inside) in
+      let stores : set (set out (2 * i) (v / 256)) (2 * i + 1) (v % 256) ≡ putAt (bytes16 v) (2 * i) out =
+      simp unary-clauses (put-sets (bytes16 v) (2 * i) out inside) in
       let same : v ≡ unsigned16 (f (0 + i)) = sym (stored-again v small) ∙ ap unsigned16 e ∙ ap (λ (k : ℕ). unsigned16 (f k)) (omega arith) in
       record {
         rest = drop 2 (h .rest);

@@ -6,7 +6,15 @@ use Rattle.records.proofs.write_point.Statement.{statement}
 use Rattle.records.proofs.write_point.Tie as tie
 
 returns : tie.Need-returns
-returns c = c .before .before .put162 .ensures ∙ ap (putAt _ 2) (c .before .before .before .before .before .before .put16 .ensures) ∙ point-written (c .before .before .before .before .before .before .before .before .before .before .before .before .args .m .now) (c .before .before .before .before .before .before .before .before .before .before .before .before .args .kind) (c .before .before .before .before .before .before .before .before .before .before .before .before .args .version) (c .before .before .before .before .before .before .before .before .before .before .before .before .args .at) (c .before .before .before .before .before .before .before .before .before .before .before .before .args .point) (c .before .before .before .before .before .before .before .before .before .before .before .before .args .sections) _ _ (c .before .before .before .before .before .before .before .before .before .before .before .before .args .out .now) (c .before .before .before .before .before .before .before .before .before .before .before .before .pre .2) (c .before .before .before .before .before .before .before .before .before .position .ensures) (c .before .before .before .before .before .before .before .before .value .ensures) (c .before .before .before .before .before .before .before .before .before .before .before .before .pre .4)
+returns c =
+    let first = c .before .before .before .before .before .before in
+    let counted = first .before .before in
+    let begin = counted .before .before .before .before in
+    let args = begin .args in
+    c .before .before .put162 .ensures
+    ∙ ap (putAt _ 2) (first .put16 .ensures)
+    ∙ point-written (args .m .now) (args .kind) (args .version) (args .at) (args .point) (args .sections) _ _ (args .out .now)
+    (begin .pre .2) (counted .before .position .ensures) (counted .value .ensures) (begin .pre .4)
 
 pub write-point-spec : {M : Type 1} → statement M
 write-point-spec =

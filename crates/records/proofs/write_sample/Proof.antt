@@ -6,7 +6,14 @@ use Rattle.records.proofs.write_sample.Statement.{statement}
 use Rattle.records.proofs.write_sample.Tie as tie
 
 returns : tie.Need-returns
-returns c = (refl, c .before .before .put32 .ensures ∙ ap (putAt _ 2) (c .before .before .before .before .before .before .before .put16 .ensures) ∙ bits-frames (c .before .before .before .before .before .before .before .before .before .before .before .before .before .args .m .now) (c .before .before .before .before .before .before .before .before .before .before .before .before .before .args .at) (c .before .before .before .before .before .before .before .before .before .width .result) (c .before .before .before .before .number322 .result) (c .before .before .before .before .before .before .before .before .before .before .before .before .before .args .out .now) (rw (c .before .before .before .before .before .before .before .before .before .before .number32 .ensures) at (c .before .before .before .before .before .before .before .before .before .width .ensures .0)) (c .before .before .before .before .number322 .ensures) (c .before .before .before .before .before .before .before .before .before .before .before .before .before .pre .1))
+returns c =
+    let frames = c .before .before .before .before in
+    let first = frames .before .before .before in
+    let bits = first .before .before in
+    let begin = bits .before .before .before .before in
+    let width = rw (bits .before .number32 .ensures) at (bits .width .ensures .0) in
+    let written = bits-frames (begin .args .m .now) (begin .args .at) (bits .width .result) (frames .number322 .result) (begin .args .out .now) in
+    (refl, c .before .before .put32 .ensures ∙ ap (putAt _ 2) (first .put16 .ensures) ∙ written width (frames .number322 .ensures) (begin .pre .1))
 
 pub write-sample-spec : {M : Type 1} → statement M
 write-sample-spec =

@@ -10,22 +10,43 @@ slice-write-out-2 : tie.Need-slice-write-out-2
 slice-write-out-2 c = simp length-set (omega (arith, c .before .before .before .pre))
 
 sub-copy : tie.Need-sub-copy
-sub-copy c = name-inside (c .before .before .before .before .args .m .now) (c .before .before .before .before .args .l) (c .before .before .before .before .args .out .now) (c .before .name-of .result) (c .before .before .before .before .pre) (c .before .name-of .ensures)
+sub-copy c =
+    let begin = c .before .before .before .before in
+    let args = begin .args in
+    let name = c .before .name-of in
+    name-inside (args .m .now) (args .l) (args .out .now) (name .result) (begin .pre) (name .ensures)
 
 part-copy-start : tie.Need-part-copy-start
-part-copy-start c = name-inside (c .before .before .before .before .args .m .now) (c .before .before .before .before .args .l) (c .before .before .before .before .args .out .now) (c .before .name-of .result) (c .before .before .before .before .pre) (c .before .name-of .ensures)
+part-copy-start c = sub-copy c
 
 copy-requires : tie.Need-copy-requires
-copy-requires c κs = name-part (c .before .before .before .before .before .args .m .now) (c .before .before .before .before .before .args .l) (c .before .before .before .before .before .args .out .now) (c .before .before .name-of .result) (c .before .before .before .before .before .pre) (c .before .before .name-of .ensures)
+copy-requires c κs =
+    let begin = c .before .before .before .before .before in
+    let args = begin .args in
+    let name = c .before .before .name-of in
+    name-part (args .m .now) (args .l) (args .out .now) (name .result) (begin .pre) (name .ensures)
 
 write-counts-requires : tie.Need-write-counts-requires
-write-counts-requires c κs = numbers-room (c .before .before .before .before .before .before .before .before .before .args .m .now) (c .before .before .before .before .before .before .before .before .before .args .l) (c .before .before .before .before .before .before .before .before .before .args .out .now) (c .before .before .before .before .before .before .name-of .result) (c .before .before .before .before .before .before .before .before .before .pre) (c .before .before .before .before .before .before .name-of .ensures) _ (c .before .before .before .copy .ensures .1)
+write-counts-requires c κs =
+    let begin = c .before .before .before .before .before .before .before .before .before in
+    let args = begin .args in
+    let name = c .before .before .before .before .before .before .name-of in
+    numbers-room (args .m .now) (args .l) (args .out .now) (name .result) (begin .pre) (name .ensures) _ (c .before .before .before .copy .ensures .1)
 
 same-length : tie.Need-same-length
-same-length c = c .before .out2 .given ∙ c .before .before .before .before .before .out .given .1 ∙ length-set (set (c .before .before .before .before .before .before .before .before .before .before .before .before .args .out .now) 0 (c .before .before .before .before .before .before .before .before .before .before .before .before .args .l .version)) 1 (c .before .before .before .before .before .before .before .before .before .before .before .before .args .l .revision) ∙ length-set (c .before .before .before .before .before .before .before .before .before .before .before .before .args .out .now) 0 (c .before .before .before .before .before .before .before .before .before .before .before .before .args .l .version)
+same-length c =
+    let args = c .before .before .before .before .before .before .before .before .before .before .before .before .args in
+    c .before .out2 .given
+    ∙ c .before .before .before .before .before .out .given .1
+    ∙ length-set (set (args .out .now) 0 (args .l .version)) 1 (args .l .revision)
+    ∙ length-set (args .out .now) 0 (args .l .version)
 
 returns : tie.Need-returns
-returns c = c .before .before .write-counts .ensures ∙ summary-written (c .before .before .before .before .before .before .before .before .before .before .before .before .args .m .now) (c .before .before .before .before .before .before .before .before .before .before .before .before .args .l) (c .before .before .before .before .before .before .before .before .before .before .before .before .args .out .now) (c .before .before .before .before .before .before .before .before .before .name-of .result) (c .before .before .before .before .before .before .before .before .before .before .before .before .pre) (c .before .before .before .before .before .before .before .before .before .name-of .ensures) _ (c .before .before .before .before .before .before .copy .ensures .1)
+returns c =
+    let begin = c .before .before .before .before .before .before .before .before .before .before .before .before in
+    let args = begin .args in
+    let name = c .before .before .before .before .before .before .before .before .before .name-of in
+    c .before .before .write-counts .ensures ∙ summary-written (args .m .now) (args .l) (args .out .now) (name .result) (begin .pre) (name .ensures) _ (c .before .before .before .before .before .before .copy .ensures .1)
 
 pub write-summary-spec : {M : Type 1} → statement M
 write-summary-spec =
