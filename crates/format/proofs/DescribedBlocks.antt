@@ -17,7 +17,7 @@ use Rattle.numbers.proofs.Each.{each-length}
 use Rattle.numbers.proofs.Stored.{number16-stored, number32-stored}
 use Rattle.grammar.specs.Rules.{Bytes, Every, none, also, InfoRules, SongRules, InstrumentRules, PatternRules, SampleRules, EnvelopeRules}
 use Rattle.grammar.proofs.Holding.{every-of, every-first, every-rest}
-use Rattle.repacking.proofs.AllBytes.{bytes-rest, bytes-take, bytes-front, bytes-behind}
+use Rattle.grammar.proofs.AllBytes.{bytes-rest, bytes-take, bytes-front, bytes-behind}
 use Rattle.repacking.proofs.PackedBytes.{stream-bytes}
 use Rattle.format.specs.Description.{Info, Song, Instrument, Pattern, Width, eight, sixteen, thirtyTwo, Sample, Point, Envelope}
 use Rattle.format.specs.Encoding.{infoBytes, songBytes, instrumentBytes, patternBytes, flagsOf, frameBytes, sampleBytes, pointBytes, envelopeBytes}

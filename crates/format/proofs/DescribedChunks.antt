@@ -11,7 +11,8 @@ use Rattle.packed_rows.proofs.Shapes.{none as no-block, one as one-block, Block
 use Rattle.numbers.specs.Numbers.{number16, number32, bytes16, bytes32}
 use Rattle.grammar.specs.Rules.{Bytes, Every, none, also, ChunkBytes, Filled, EnvelopeRules, EnvelopesRules}
 use Rattle.grammar.proofs.Holding.{every-of, every-both}
-use Rattle.repacking.proofs.AllBytes.{every-map, bytes-drop, bytes-joined}
+use Rattle.grammar.proofs.AllBytes.{bytes-drop, bytes-joined}
+use Rattle.grammar.proofs.MappedLists.{every-map}
 use Rattle.format.specs.Description.{sixteen, thirtyTwo, Envelope}
 use Rattle.format.specs.Encoding.{envelopeBytes, envelopesBytes}
 use Rattle.format.specs.WellFormed.{EnvelopeFits, EnvelopesFit, Fits32}

@@ -18,8 +18,8 @@ use Rattle.grammar.specs.Rules.{Bytes, Every, ChunkBytes, Among, Covered, Fille
 use Rattle.grammar.proofs.Holding.{false-never, every-append, every-of, every-both}
 use Rattle.grammar.proofs.Identifiers.{identifierOf, chunk-named, covered-holds, covered-letters}
 use Rattle.grammar.proofs.Acceptance.{accepted-exactly}
-use Rattle.repack.proofs.ChunksAnew.{map-append}
-use Rattle.repacking.proofs.AllBytes.{every-map, bytes-drop, bytes-front, bytes-behind, bytes-joined}
+use Rattle.grammar.proofs.AllBytes.{bytes-drop, bytes-front, bytes-behind, bytes-joined}
+use Rattle.grammar.proofs.MappedLists.{map-append, every-map}
 use Rattle.format.specs.Description.{Info, Song, Instrument, Pattern, eight, sixteen, Sample, Chunk, NAME, INFO, SONG, INST, PATT, SMPL, VENV, PENV, Other, Description}
 use Rattle.format.specs.Encoding.{songBytes, instrumentBytes, patternBytes, sampleBytes, identifier, contents, chunkBytes, headerBytes, encoded}
 use Rattle.format.specs.WellFormed.{ManyBytes, EnvelopesFit, OtherFits, In, Once, InfoFirst, WellFormed}

@@ -18,8 +18,9 @@ use Rattle.numbers.specs.Numbers.{byteAt, number16, number32, bytes16, bytes32}
 use Rattle.numbers.proofs.Stored.{bytes16-again, bytes32-again}
 use Rattle.grammar.specs.Rules.{Bytes, Every, none, also, Filled, InfoRules, SongRules, InstrumentRules, PatternRules, SampleRules, EnvelopeRules, EnvelopesRules, infoLetters}
 use Rattle.grammar.proofs.Holding.{every-at, every-of}
-use Rattle.repacking.proofs.AllBytes.{bytes-nil, bytes-cons, bytes-append, bytes-joined, every-map}
-use Rattle.repacking.proofs.PackedBytes.{bytes32-bytes, EntriesBytes, stream-bytes}
+use Rattle.grammar.proofs.AllBytes.{bytes-nil, bytes-cons, bytes-append, bytes-joined, bytes32-bytes}
+use Rattle.grammar.proofs.MappedLists.{every-map}
+use Rattle.repacking.proofs.PackedBytes.{EntriesBytes, stream-bytes}
 use Rattle.format.specs.Description.{Info, Song, Instrument, Pattern, Width, eight, sixteen, thirtyTwo, Sample, Point, Envelope, INFO}
 use Rattle.format.specs.Encoding.{infoBytes, songBytes, instrumentBytes, patternBytes, flagsOf, frameBytes, sampleBytes, pointBytes, envelopeBytes, envelopesBytes, chunkBytes}
 use Rattle.format.specs.WellFormed.{InfoFits, SongFits, InstrumentFits, PatternFits, FrameFits, SampleFits, PointFits, EnvelopeFits, EnvelopesFit, noSample, framesOf}

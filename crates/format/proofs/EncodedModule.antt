@@ -18,10 +18,8 @@ use Rattle.grammar.specs.Rules.{Bytes, Every, none, also, ChunkBytes, Covered, 
 use Rattle.grammar.proofs.Locating.{byteAt-front}
 use Rattle.grammar.proofs.Holding.{leb-says, and-says, every-at, every-of}
 use Rattle.grammar.proofs.Acceptance.{accepted-exactly}
-use Rattle.repack.proofs.ChunksAnew.{map-append}
-use Rattle.repacking.proofs.AllBytes.{bytes-nil, bytes-cons, bytes-append, bytes-every, bytes-joined, every-map}
-use Rattle.repacking.proofs.PackedBytes.{bytes32-bytes, bytes32-number}
-use Rattle.repacking.proofs.MappedChunks.{map-split}
+use Rattle.grammar.proofs.AllBytes.{bytes-nil, bytes-cons, bytes-append, bytes-every, bytes-joined, bytes32-bytes, bytes32-number}
+use Rattle.grammar.proofs.MappedLists.{map-append, every-map, map-split}
 use Rattle.format.specs.Description.{Info, Song, Instrument, Pattern, Sample, Envelope, Chunk, NAME, INFO, SONG, INST, PATT, SMPL, VENV, PENV, Other, Description}
 use Rattle.format.specs.Encoding.{songBytes, instrumentBytes, patternBytes, sampleBytes, envelopesBytes, identifier, contents, chunkBytes, headerBytes, encoded}
 use Rattle.format.specs.WellFormed.{In, Fits32, WellFormed}

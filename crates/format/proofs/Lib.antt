@@ -9,6 +9,7 @@ pub mod DescribedModule
 pub mod Delimited
 pub mod ChunksIn
 pub mod ChunkKinds
+pub mod ChangedDescriptions
 pub mod Unique
 pub mod Placed
 pub mod ShownBlocks

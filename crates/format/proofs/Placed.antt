@@ -24,7 +24,7 @@ use Rattle.grammar.proofs.Holding.{and-says, ltb-says, every-at, every-of}
 use Rattle.grammar.proofs.Cutting.{Sized, part-rest, block-there}
 use Rattle.grammar.proofs.ChunkHalf.{Mandatory, stands-part, chunks-outline}
 use Rattle.grammar.proofs.FoundBlocks.{accepted-opens, module-opens}
-use Rattle.repacking.proofs.AllBytes.{every-map}
+use Rattle.grammar.proofs.MappedLists.{every-map}
 use Rattle.format.specs.Description.{Info, INFO, SONG, INST, PATT, SMPL, Description}
 use Rattle.format.specs.Encoding.{infoBytes, chunkBytes, headerBytes, encoded}
 use Rattle.format.specs.WellFormed.{In, WellFormed}

@@ -21,7 +21,7 @@ use Rattle.module.specs.Streams.{packedBytes}
 use Rattle.grammar.specs.Rules.{Every}
 use Rattle.grammar.proofs.Holding.{every-of}
 use Rattle.repack.specs.Repacked.{packed}
-use Rattle.repacking.proofs.AllBytes.{bytes-rest, bytes-front, bytes-behind, bytes-replicate}
+use Rattle.grammar.proofs.AllBytes.{bytes-rest, bytes-front, bytes-behind, bytes-replicate}
 use Rattle.repacking.proofs.PackedBytes.{EntriesBytes, stream-bytes, repacked-bytes}
 use Rattle.repacking.proofs.BlockAnew.{blockAnew}
 use Rattle.format.specs.Description.{Pattern}

@@ -6,7 +6,7 @@ use mathlib.Core.Logic.{_⊎_, inl, inr}
 use mathlib.Core.List.{List, [], _∷_, _++_, map}
 use Rattle.grammar.specs.Rules.{Every, none, also, Among}
 use Rattle.grammar.proofs.Holding.{every-append, every-first}
-use Rattle.repack.proofs.ChunksAnew.{map-append}
+use Rattle.grammar.proofs.MappedLists.{map-append}
 use Rattle.format.specs.Description.{Chunk}
 use Rattle.format.specs.WellFormed.{In}
 

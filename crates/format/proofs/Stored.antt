@@ -12,9 +12,9 @@ use Rattle.numbers.proofs.Stored.{bytes16-again}
 use Rattle.grammar.specs.Rules.{Bytes}
 use Rattle.grammar.proofs.Locating.{PartAt, number16-behind, number32-behind, number16-part}
 use Rattle.grammar.proofs.Cutting.{part-first, part-rest}
-use Rattle.repacking.proofs.AllBytes.{bytes-nil, bytes-cons}
+use Rattle.grammar.proofs.AllBytes.{bytes-nil, bytes-cons}
 
--- A number as two bytes; as four bytes, repacking/proofs/PackedBytes.antt has it.
+-- A number as two bytes; as four bytes, grammar/proofs/AllBytes.antt has it.
 pub bytes16-bytes : (n : ℕ) → n < 65536 → Bytes (bytes16 n)
 bytes16-bytes n h =
     bytes-cons _ _ (div-lt-iff-lt-mul {k = 256} {x = n} {y = 256} (omega arith) .1 h) (bytes-cons _ _ (mod-lt n (omega arith)) bytes-nil)

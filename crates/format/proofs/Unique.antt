@@ -10,7 +10,7 @@ use Rattle.numbers.specs.Numbers.{number32}
 use Rattle.grammar.specs.Rules.{Every, also, ChunkBytes, Covered, infoLetters}
 use Rattle.grammar.proofs.Locating.{number32-front}
 use Rattle.grammar.proofs.Holding.{every-of}
-use Rattle.repacking.proofs.AllBytes.{every-map}
+use Rattle.grammar.proofs.MappedLists.{every-map}
 use Rattle.format.specs.Description.{Info, Chunk, NAME, INFO, SONG, INST, PATT, SMPL, VENV, PENV, Other, Description}
 use Rattle.format.specs.Encoding.{infoBytes, chunkBytes, headerBytes, encoded}
 use Rattle.format.specs.WellFormed.{PatternFits, In, WellFormed}

@@ -1,7 +1,7 @@
 -- Theorem 8 put together: the check accepts where the outline is found, which is the rules of the chunks, and where the rules for the
 -- content all hold, which is the rest of the rules.
 use Prim.Native.Nat.{ℕ}
-use mathlib.Core.Path.{_≡_, refl}
+use mathlib.Core.Path.{_≡_, refl, ap}
 use mathlib.Core.Logic.{_↔_}
 use mathlib.Core.List.{List}
 use native.Mathlib.Omega.{arith}
@@ -12,8 +12,9 @@ use Rattle.layout.specs.Outlines.{outlineIf, outline}
 use Rattle.layout.specs.declared.Layout.{Layout}
 use Rattle.layout.specs.declared.Outline.{Outline}
 use Rattle.layout.specs.declared.Outline.the-variants.{Found, Refused}
-use Rattle.module.specs.Verdicts.{contentRules, contentIf, verdictOf, moduleVerdict}
+use Rattle.module.specs.Verdicts.{contentRules, contentIf, opened, verdictOf, moduleVerdict}
 use Rattle.grammar.specs.Rules.{Bytes, infoLetters, Rules}
+use Rattle.grammar.proofs.Standing.{LayoutOf}
 use Rattle.grammar.proofs.Recorded.{There}
 use Rattle.grammar.proofs.ChunkHalf.{Outlined, outline-chunks, chunks-outline}
 use Rattle.grammar.proofs.ContentHalf.{content-exactly}
@@ -52,11 +53,15 @@ module _ (m : List ℕ) (bytes : Bytes m) where
       go (Found l) h e = rules-follow l (outline-chunks m l bytes h) (rw (verdict-found l (firstBroken (contentRules m l))) at e)
       go (Refused r) h e = let z : _≡_ {A = ℕ} 0 1 = cc in absurd (omega arith)
 
-  rules-accepted : Rules m → moduleVerdict m ≡ Accepted
-  rules-accepted r =
+  -- A module of which the rules hold opens, with a layout of its chunks.
+  pub rules-open : (r : Rules m) → (l : Layout) × (opened m ≡ Found l) × LayoutOf m (r .header) (r .chunks) l
+  rules-open r =
       let found = chunks-outline m (r .header) (r .chunks) (r .chunkRules) (record { info = (r .info, r .infoThere); song = (r .song, r .songThere); inst = (r .inst, r .instThere); patt = (r .patt, r .pattThere); smpl = (r .smpl, r .smplThere) }) in
       let accepted = content-exactly (found .2) (r .chunkRules .version) (r .infoThere) (r .songThere) (r .instThere) (r .pattThere) (r .smplThere) (r .chunkRules .info (r .info) (r .infoThere) .tracks) bytes .1 (r .content) in
-      rw (found .1, accepted)
+      (found .0, rw (found .1, accepted) refl, found .2)
+
+  rules-accepted : Rules m → moduleVerdict m ≡ Accepted
+  rules-accepted r = ap verdictOf (rules-open r .1)
 
   pub accepted-exactly : (moduleVerdict m ≡ Accepted) ↔ Rules m
   accepted-exactly = (accepted-follows, rules-accepted)

@@ -52,7 +52,7 @@ module _ {m header : List ℕ} {all : List (List ℕ)} (rules : ChunkRules m hea
     pub bytes-split : m ≡ (header ++ joined (a .before)) ++ (chunk ++ joined (a .after))
     bytes-split = rules .bytes ∙ rw (a .splits, joined-append (a .before) (chunk ∷ a .after)) (sym (append-assoc header (joined (a .before)) (chunk ++ joined (a .after))))
 
-    not-before : Covered letters → There (a .before) letters → ⊥
+    pub not-before : Covered letters → There (a .before) letters → ⊥
     not-before covers (other, b) =
         rules .once letters covers (b .before) (b .after) (a .after) other chunk
         (a .splits ∙ rw (b .splits) (append-assoc (b .before) (other ∷ b .after) (chunk ∷ a .after))) (b .named) (a .named)

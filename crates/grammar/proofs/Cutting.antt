@@ -6,13 +6,14 @@ use mathlib.Core.Path.{_≡_, refl, sym, ap, _∙_}
 use mathlib.Core.List.{List, [], _∷_, _++_, append-assoc}
 use native.Mathlib.Omega.{arith}
 use lib.ListN.{length, getD, take, drop, length-append, length-drop, take-append-drop}
-use lib.Seq.{length-take-le}
+use lib.Seq.{length-take-le, take-at, take-append-add, take-append-le}
 use Rattle.cells.specs.Cells.{joined}
+use Rattle.numbers.specs.Numbers.{partOf}
 use Rattle.blocks.specs.Sizes.{sizeOf, placesFrom, placeAfter}
 use Rattle.blocks.specs.declared.Kind.{Kind}
 use Rattle.blocks.specs.declared.Kind.the-variants.{Song, Instrument, Pattern, Sample, Envelope}
 use Rattle.grammar.specs.Rules.{Every, none, also}
-use Rattle.grammar.proofs.Locating.{PartAt, number16-at, number32-at, number32-start}
+use Rattle.grammar.proofs.Locating.{PartAt, number16-at, number32-at, number32-start, part-is}
 
 -- A part of two parts.
 module _ {m : List ℕ} {at : ℕ} (first rest : List ℕ) (p : PartAt m at (first ++ rest)) where
@@ -21,6 +22,23 @@ module _ {m : List ℕ} {at : ℕ} (first rest : List ℕ) (p : PartAt m at (fir
 
   pub part-rest : PartAt m (at + length first) rest
   part-rest = record { before = p .before ++ first; after = p .after; bytes = p .bytes ∙ simp append-assoc; starts = rw (length-append, p .starts) }
+
+-- The front of a part, and the module up to the front's end.
+module _ {m part : List ℕ} {at : ℕ} (p : PartAt m at part) (k : ℕ) (h : k ≤ length part) where
+  pub part-front : partOf m at k ≡ take k part
+  part-front =
+      let front : PartAt m at (take k part) = part-first (take k part) (drop k part) (rw (take-append-drop k part) p) in
+      ap (partOf m at) (sym (length-take-le k part h)) ∙ part-is front
+
+  pub front-taken : take (at + k) m ≡ take at m ++ take k part
+  front-taken =
+      let rest : List ℕ = part ++ p .after in
+      let before : take at m ≡ p .before = ap (take at) (p .bytes) ∙ take-at (p .before) rest at (p .starts) in
+      ap (take (at + k)) (p .bytes)
+      ∙ ap (λ (n : ℕ). take (n + k) (p .before ++ rest)) (sym (p .starts))
+      ∙ take-append-add (p .before) rest k
+      ∙ ap (λ (l : List ℕ). p .before ++ l) (take-append-le k part (p .after) h)
+      ∙ ap (λ (l : List ℕ). l ++ take k part) (sym before)
 
 -- The bytes that every block of a kind has.
 abbrev pub least : Kind → ℕ

@@ -2,6 +2,8 @@ pub mod Standing
 pub mod Locating
 pub mod Ends
 pub mod Holding
+pub mod AllBytes
+pub mod MappedLists
 pub mod Cutting
 pub mod FillingChunks
 pub mod BlockFields
@@ -15,6 +17,8 @@ pub mod Chunking
 pub mod Heading
 pub mod Turns
 pub mod ChunkHalf
+pub mod ChangedChunks
+pub mod ChangedData
 pub mod Outlining
 pub mod WholeChunks
 pub mod FirstBroken

@@ -17,14 +17,15 @@ use Rattle.module.specs.Streams.{patternStreamRules}
 use Rattle.module.specs.Verdicts.{opened}
 use Rattle.queries.specs.Lengths.{refusedLength, writtenLength}
 use Rattle.queries.specs.declared.LengthAnswer.{LengthAnswer}
-use Rattle.grammar.specs.Rules.{Bytes, Every}
+use Rattle.grammar.specs.Rules.{Bytes, Every, Covered}
 use Rattle.grammar.proofs.Holding.{AllHold, every-first, every-rest}
 use Rattle.grammar.proofs.BlockStreams.{accepted-says}
 use Rattle.grammar.proofs.ChunkHalf.{Outlined, outline-chunks}
+use Rattle.grammar.proofs.ChangedData.{data-at}
 use Rattle.grammar.proofs.FoundBlocks.{Opens, module-opens}
 use Rattle.repack.specs.Repacked.{repackedPatterns, repackedModule, repackAnswerIf, repackAnswer, repackOutputIf, repackOutput}
 use Rattle.repack.specs.Steps.{replaced, AllSound, PatternsIn}
-use Rattle.repack.proofs.ChunksAnew.{module-anew, replaced-anew}
+use Rattle.repack.proofs.ChunksAnew.{module-anew}
 
 all-sound : (m : List ℕ) (tracks n at : ℕ) → Every (λ place. AllHold (patternStreamRules m tracks place)) (placesFrom (sizeOf Pattern m) n at) → AllSound m tracks n at
 all-sound m tracks zero at e = tt
@@ -46,7 +47,7 @@ module _ (m : List ℕ) (bytes : Bytes m) (l : Layout) (o : opened m ≡ Found l
 
   pub module-replaced : repackedModule m l ≡ replaced m (l .places .patt) (repackedPatterns m l)
   module-replaced =
-      module-anew (outlined .rules) l ∙ replaced-anew (outlined .rules) (outlined .mandatory .patt .1) (l .places .patt) (outlined .layout .patt) (repackedPatterns m l)
+      module-anew (outlined .rules) l ∙ data-at Covered.patt (outlined .rules) (outlined .mandatory .patt .1) (l .places .patt) (outlined .layout .patt) (repackedPatterns m l)
 
   -- 17, and what is written, by the length of the module with PATT's data anew.
   module _ (out : List ℕ) where

@@ -1,26 +1,23 @@
 -- The module repacked, repacked again, is itself.
 use Prim.Native.Nat.{ℕ, _+_}
 use mathlib.Core.Path.{_≡_, refl, sym, ap, subst, _∙_}
-use mathlib.Core.List.{List, _∷_, _++_, map}
+use mathlib.Core.List.{List, _++_, map}
 use Rattle.cells.specs.Cells.{joined}
+use Rattle.layout.specs.Chunks.{PATT}
 use Rattle.layout.specs.declared.Layout.{Layout}
 use Rattle.layout.specs.declared.Outline.the-variants.{Found}
 use Rattle.blocks.specs.Sizes.{sizeOf, placesFrom}
 use Rattle.blocks.specs.declared.Kind.the-variants.{Pattern}
 use Rattle.module.specs.Verdicts.{opened}
-use Rattle.grammar.specs.Rules.{Bytes, Every, none, also}
+use Rattle.grammar.specs.Rules.{Bytes}
 use Rattle.grammar.proofs.Holding.{every-of}
+use Rattle.grammar.proofs.MappedLists.{every-map, map-stays}
+use Rattle.grammar.proofs.ChangedData.{no-change, data-twice}
 use Rattle.repack.specs.Repacked.{repackedBlock, repackedPatterns, repackedModule, repackedIf, repacked}
 use Rattle.repack.proofs.ChunksAnew.{chunkAnew, module-anew}
 use Rattle.repacking.proofs.BlockAnew.{blockAnew, blocks-anew, anew-again}
-use Rattle.repacking.proofs.PattAlone.{anew-twice}
-use Rattle.repacking.proofs.ModuleAnew.{header, chunks, anew, sound-blocks, changed, rules, data-is, repacked-bytes, rules-anew}
+use Rattle.repacking.proofs.ModuleAnew.{header, chunks, blocks, anew, sound-blocks, changed, rules, data-is, repacked-bytes, rules-anew}
 use Rattle.repacking.proofs.AlikeAnew.{n, k, otherOpens, counts, patterns-there}
-
--- What is changed no more by changing it once more.
-map-twice : (f : List ℕ → List ℕ) {list : List (List ℕ)} → Every (λ x. f (f x) ≡ f x) list → map f (map f list) ≡ map f list
-map-twice f none = refl
-map-twice f (also {x = x} {xs = list} h e) = ap (λ (first : List ℕ). first ∷ map f (map f list)) h ∙ ap (λ (rest : List (List ℕ)). f x ∷ rest) (map-twice f e)
 
 module _ (m : List ℕ) (bytes : Bytes m) (l : Layout) (o : opened m ≡ Found l) where
   -- The patterns anew of the module repacked are those that it has.
@@ -31,7 +28,7 @@ module _ (m : List ℕ) (bytes : Bytes m) (l : Layout) (o : opened m ≡ Found l
       let again : map (repackedBlock (n m bytes l o) (l .tracks)) (placesFrom (sizeOf Pattern (n m bytes l o)) (k m bytes l o .patterns) start) ≡ map (blockAnew (l .tracks)) (anew m bytes l o) =
       subst (λ (count : ℕ). map (repackedBlock (n m bytes l o) (l .tracks)) (placesFrom (sizeOf Pattern (n m bytes l o)) count start) ≡ map (blockAnew (l .tracks)) (anew m bytes l o)) (there .filled .number) (blocks-anew (l .tracks) start (anew m bytes l o) (there .there) (there .sized)) in
       ap (λ (tracks : ℕ). joined (map (repackedBlock (n m bytes l o) tracks) (placesFrom (sizeOf Pattern (n m bytes l o)) (k m bytes l o .patterns) start))) (counts m bytes l o .4)
-      ∙ ap joined (again ∙ map-twice (blockAnew (l .tracks)) (every-of (anew-again (l .tracks)) (sound-blocks m bytes l o)))
+      ∙ ap joined (again ∙ map-stays (blockAnew (l .tracks)) (every-map (blockAnew (l .tracks)) (blocks m bytes l o) .1 (every-of (anew-again (l .tracks)) (sound-blocks m bytes l o))))
       ∙ sym (data-is m bytes l o)
 
   pub repacked-again : repacked (repackedModule m l) ≡ repackedModule m l
@@ -39,5 +36,5 @@ module _ (m : List ℕ) (bytes : Bytes m) (l : Layout) (o : opened m ≡ Found l
       ap (repackedIf (n m bytes l o)) (otherOpens m bytes l o)
       ∙ module-anew (rules-anew m bytes l o) (k m bytes l o)
       ∙ ap (λ (content : List ℕ). header m bytes l o ++ joined (map (chunkAnew content) (map (changed m bytes l o) (chunks m bytes l o)))) data-again
-      ∙ ap (λ (list : List (List ℕ)). header m bytes l o ++ joined list) (map-twice (changed m bytes l o) (every-of (anew-twice (repackedPatterns m l)) (rules m bytes l o .whole)))
+      ∙ ap (λ (list : List (List ℕ)). header m bytes l o ++ joined list) (map-stays (changed m bytes l o) (every-map (changed m bytes l o) (chunks m bytes l o) .1 (every-of (λ chunk c. data-twice PATT (repackedPatterns m l) (λ one. one) no-change chunk c refl) (rules m bytes l o .whole))))
       ∙ sym (repacked-bytes m bytes l o)

@@ -3,16 +3,17 @@
 use Prim.Native.Nat.{ℕ, _+_, _-_, _<_}
 use mathlib.Core.Path.{_≡_, refl, sym, ap, _∙_}
 use mathlib.Core.List.{List, [], map}
-use mathlib.Core.Bool.{Bool, true, false, cond, _&&_}
+use mathlib.Core.Bool.{Bool, true, false, cond, _&&_, _||_}
 use native.Mathlib.Omega.{arith}
 use lib.ListN.{length, getD, take, drop, replicate, length-drop, length-map, take-append-drop}
-use lib.Dec.{leb, ltb}
+use lib.Dec.{eqb, leb, ltb}
 use lib.Seq.{length-take-le}
 use Rattle.refusal.specs.Numbers.{refusal}
 use Rattle.refusal.specs.declared.Cause.the-variants.{NotThere}
 use Rattle.packed_rows.proofs.Shapes.{getD-mapped}
 use Rattle.numbers.specs.Numbers.{number16, partOf, bytesFrom}
 use Rattle.numbers.proofs.Parts.{bytes-part}
+use Rattle.layout.specs.Chunks.{PATT}
 use Rattle.layout.specs.declared.Place.{Place}
 use Rattle.layout.specs.declared.Layout.{Layout}
 use Rattle.layout.specs.declared.Outline.the-variants.{Found as Opened}
@@ -25,11 +26,12 @@ use Rattle.queries.specs.declared.Found.the-variants.{At, Refused}
 use Rattle.queries.specs.declared.Thing.{Thing}
 use Rattle.queries.specs.declared.Thing.the-variants.{Song, Instrument, Pattern, Sample, VolumeEnvelope, PanningEnvelope}
 use Rattle.summary.specs.Shown.{nameOf}
-use Rattle.grammar.specs.Rules.{Bytes, Every, Among, EnvelopesRules, Filled, nameLetters, infoLetters, pattLetters, venvLetters, penvLetters}
+use Rattle.grammar.specs.Rules.{Bytes, Every, Among, EnvelopesRules, Filled, Covered, nameLetters, infoLetters, venvLetters, penvLetters}
 use Rattle.grammar.proofs.Standing.{Stands, Found as Standing, LayoutOf}
 use Rattle.grammar.proofs.Locating.{PartAt, part-inside, part-is}
 use Rattle.grammar.proofs.Holding.{and-says, ltb-says, false-never, every-of, every-at}
 use Rattle.grammar.proofs.Cutting.{Sized, part-rest, block-there}
+use Rattle.grammar.proofs.Identifiers.{identifierOf}
 use Rattle.grammar.proofs.ChunkHalf.{stands-part}
 use Rattle.grammar.proofs.FillingChunks.{BlocksIn, filled-blocks}
 use Rattle.grammar.proofs.BlockFields.{song-sized, instrument-sized, sample-sized, envelope-sized}
@@ -38,7 +40,6 @@ use Rattle.showing.proofs.Alike.{SameBlock, SamePattern, SameThing, FoundAlike,
 use Rattle.repack.specs.Repacked.{repackedModule}
 use Rattle.repacking.proofs.BlockAnew.{blockAnew, packed-same, rows-same, SoundBlock, anew-sound, anew-rows, anew-cells}
 use Rattle.repacking.proofs.ModuleAnew.{outline-of, chunks, patt, content-of, blocks, anew, blocks-in, sound-blocks, sound-anew, changed, rules, stays-among, was-among, patt-among, filled-anew, opens-anew}
-use Rattle.repacking.proofs.PattAlone.{name-other, info-other, song-other, inst-other, smpl-other, venv-other, penv-other}
 
 -- The same blocks in two modules.
 same-block : {kind : Kind} {m n : List ℕ} {start from front other : ℕ} {chunk chunk′ : List ℕ} {count count′ : ℕ} {list : List (List ℕ)} → BlocksIn kind m start front chunk count list → BlocksIn kind n from other chunk′ count′ list → (i : ℕ) → i < count → SameBlock kind m n (placeAfter (sizeOf kind m) i start) (placeAfter (sizeOf kind n) i from)
@@ -94,16 +95,16 @@ module _ (m : List ℕ) (bytes : Bytes m) (l : Layout) (o : opened m ≡ Opened 
   counts =
       let a = outline-of m bytes l o .mandatory .info .1 in
       let here = first .counts (outline-of m bytes l o .mandatory .info .0) a in
-      let there = second .counts (outline-of m bytes l o .mandatory .info .0) (stays-among m bytes l o info-other a) in
+      let there = second .counts (outline-of m bytes l o .mandatory .info .0) (stays-among m bytes l o Covered.info refl a) in
       (there .0 ∙ sym (here .0), there .1 ∙ sym (here .1), there .2 ∙ sym (here .2), there .3 ∙ sym (here .3), there .4 ∙ sym (here .4))
 
   -- A chunk other than PATT.
-  same-chunk : {letters : List ℕ} → (letters ≡ pattLetters → ⊥) → (p q : Place) → Standing m (chunks m bytes l o) letters p → Standing n (map (changed m bytes l o) (chunks m bytes l o)) letters q → SameChunk m n (chunks m bytes l o) letters p q
-  same-chunk {letters} other p q f g = go (p .present) refl (q .present) refl
+  same-chunk : {letters : List ℕ} → (covers : Covered letters) → eqb (identifierOf covers) PATT || false ≡ false → (p q : Place) → Standing m (chunks m bytes l o) letters p → Standing n (map (changed m bytes l o) (chunks m bytes l o)) letters q → SameChunk m n (chunks m bytes l o) letters p q
+  same-chunk {letters} covers other p q f g = go (p .present) refl (q .present) refl
     where
       go : (b : Bool) → p .present ≡ b → (c : Bool) → q .present ≡ c → SameChunk m n (chunks m bytes l o) letters p q
-      go true e c d = let (chunk, a) = f .chunk e in standing chunk a (f .stands chunk a) (g .stands chunk (stays-among m bytes l o other a))
-      go false e true d = let (chunk, a) = g .chunk d in false-never (sym e ∙ f .stands chunk (was-among m bytes l o other a) .there)
+      go true e c d = let (chunk, a) = f .chunk e in standing chunk a (f .stands chunk a) (g .stands chunk (stays-among m bytes l o covers other a))
+      go false e true d = let (chunk, a) = g .chunk d in false-never (sym e ∙ f .stands chunk (was-among m bytes l o covers other a) .there)
       go false e false d = missing e d
 
   -- NAME.
@@ -115,7 +116,7 @@ module _ (m : List ℕ) (bytes : Bytes m) (l : Layout) (o : opened m ≡ Opened 
       bytes-part m 44 (p .at + 8) (omega (arith, part-inside rest, size)) ∙ ap (partOf m (p .at + 8)) (sym size) ∙ part-is rest
 
   same-name : nameOf n k ≡ nameOf m l
-  same-name = go (same-chunk name-other (l .places .name) (k .places .name) (first .name) (second .name))
+  same-name = go (same-chunk Covered.name refl (l .places .name) (k .places .name) (first .name) (second .name))
     where
       go : SameChunk m n (chunks m bytes l o) nameLetters (l .places .name) (k .places .name) → nameOf n k ≡ nameOf m l
       go (missing e d) = name-missing n k d ∙ sym (name-missing m l e)
@@ -139,24 +140,24 @@ module _ (m : List ℕ) (bytes : Bytes m) (l : Layout) (o : opened m ≡ Opened 
         same-block here there i (rw (count-same s (r .filled .fronts)) at h)
 
   volume : SameChunk m n (chunks m bytes l o) venvLetters (l .places .venv) (k .places .venv)
-  volume = same-chunk venv-other (l .places .venv) (k .places .venv) (first .venv) (second .venv)
+  volume = same-chunk Covered.venv refl (l .places .venv) (k .places .venv) (first .venv) (second .venv)
 
   panning : SameChunk m n (chunks m bytes l o) penvLetters (l .places .penv) (k .places .penv)
-  panning = same-chunk penv-other (l .places .penv) (k .places .penv) (first .penv) (second .penv)
+  panning = same-chunk Covered.penv refl (l .places .penv) (k .places .penv) (first .penv) (second .penv)
 
   -- The counts as INFO has them.
   info-there : Among (chunks m bytes l o) infoLetters (outline-of m bytes l o .mandatory .info .0)
   info-there = outline-of m bytes l o .mandatory .info .1
 
   -- The blocks of a chunk that stands in both.
-  same-blocks : (kind : Kind) (front : ℕ) {letters : List ℕ} → (letters ≡ pattLetters → ⊥) → (p q : Place) → Standing m (chunks m bytes l o) letters p → Standing n (map (changed m bytes l o) (chunks m bytes l o)) letters q → {chunk : List ℕ} → Among (chunks m bytes l o) letters chunk → {number count others : ℕ} → count ≡ number → others ≡ number → (list : List (List ℕ)) → Filled front chunk number list → Every (Sized kind) list → (i : ℕ) → i < count → SameBlock kind m n (placeAfter (sizeOf kind m) i (p .at + front)) (placeAfter (sizeOf kind n) i (q .at + front))
-  same-blocks kind front other p q f g {chunk} a {number} {count} {others} e d list filled sized i h =
+  same-blocks : (kind : Kind) (front : ℕ) {letters : List ℕ} → (covers : Covered letters) → eqb (identifierOf covers) PATT || false ≡ false → (p q : Place) → Standing m (chunks m bytes l o) letters p → Standing n (map (changed m bytes l o) (chunks m bytes l o)) letters q → {chunk : List ℕ} → Among (chunks m bytes l o) letters chunk → {number count others : ℕ} → count ≡ number → others ≡ number → (list : List (List ℕ)) → Filled front chunk number list → Every (Sized kind) list → (i : ℕ) → i < count → SameBlock kind m n (placeAfter (sizeOf kind m) i (p .at + front)) (placeAfter (sizeOf kind n) i (q .at + front))
+  same-blocks kind front covers other p q f g {chunk} a {number} {count} {others} e d list filled sized i h =
       same-block
       (filled-blocks (f .stands chunk a) kind front count list (counted (sym e) filled) sized)
-      (filled-blocks (g .stands chunk (stays-among m bytes l o other a)) kind front others list (counted (sym d) filled) sized) i h
+      (filled-blocks (g .stands chunk (stays-among m bytes l o covers other a)) kind front others list (counted (sym d) filled) sized) i h
 
   pub patterns-there : BlocksIn PatternKind n (k .places .patt .at + 8) 8 (changed m bytes l o (patt m bytes l o)) (k .patterns) (anew m bytes l o)
-  patterns-there = filled-blocks (second .patt .stands (changed m bytes l o (patt m bytes l o)) (patt-among m bytes l o)) PatternKind 8 (k .patterns) (anew m bytes l o) (counted (sym (second .counts (outline-of m bytes l o .mandatory .info .0) (stays-among m bytes l o info-other (outline-of m bytes l o .mandatory .info .1)) .3)) (filled-anew m bytes l o)) (every-of (λ block b. b .sized) (sound-anew m bytes l o))
+  patterns-there = filled-blocks (second .patt .stands (changed m bytes l o (patt m bytes l o)) (patt-among m bytes l o)) PatternKind 8 (k .patterns) (anew m bytes l o) (counted (sym (second .counts (outline-of m bytes l o .mandatory .info .0) (stays-among m bytes l o Covered.info refl (outline-of m bytes l o .mandatory .info .1)) .3)) (filled-anew m bytes l o)) (every-of (λ block b. b .sized) (sound-anew m bytes l o))
 
   -- What is asked for is there in both, or in neither.
   same-countOf : (thing : Thing) → countOf n k thing ≡ countOf m l thing
@@ -169,8 +170,8 @@ module _ (m : List ℕ) (bytes : Bytes m) (l : Layout) (o : opened m ≡ Opened 
 
   -- Its block in both.
   same-thing : (thing : Thing) (i : ℕ) → i < countOf m l thing → SameThing thing (l .tracks) m n (blockAt m (kindOf thing) (chunkOf l thing) i) (blockAt n (kindOf thing) (chunkOf k thing) i)
-  same-thing Song i h = same-blocks SongKind 8 song-other (l .places .song) (k .places .song) (first .song) (second .song) (outline-of m bytes l o .mandatory .song .1) (first .counts _ info-there .2) (second .counts _ (stays-among m bytes l o info-other info-there) .2) (content-of m bytes l o .songs) (content-of m bytes l o .songsFill) (every-of (song-sized (length (blocks m bytes l o))) (content-of m bytes l o .songRules)) i h
-  same-thing Instrument i h = same-blocks InstrumentKind 8 inst-other (l .places .inst) (k .places .inst) (first .inst) (second .inst) (outline-of m bytes l o .mandatory .inst .1) (first .counts _ info-there .0) (second .counts _ (stays-among m bytes l o info-other info-there) .0) (content-of m bytes l o .instruments) (content-of m bytes l o .instrumentsFill) (every-of (instrument-sized (content-of m bytes l o .samples)) (content-of m bytes l o .instrumentRules)) i h
+  same-thing Song i h = same-blocks SongKind 8 Covered.song refl (l .places .song) (k .places .song) (first .song) (second .song) (outline-of m bytes l o .mandatory .song .1) (first .counts _ info-there .2) (second .counts _ (stays-among m bytes l o Covered.info refl info-there) .2) (content-of m bytes l o .songs) (content-of m bytes l o .songsFill) (every-of (song-sized (length (blocks m bytes l o))) (content-of m bytes l o .songRules)) i h
+  same-thing Instrument i h = same-blocks InstrumentKind 8 Covered.inst refl (l .places .inst) (k .places .inst) (first .inst) (second .inst) (outline-of m bytes l o .mandatory .inst .1) (first .counts _ info-there .0) (second .counts _ (stays-among m bytes l o Covered.info refl info-there) .0) (content-of m bytes l o .instruments) (content-of m bytes l o .instrumentsFill) (every-of (instrument-sized (content-of m bytes l o .samples)) (content-of m bytes l o .instrumentRules)) i h
   same-thing Pattern i h =
       let list : List (List ℕ) = blocks m bytes l o in
       let inside : i < length list = omega (arith, blocks-in m bytes l o .filled .number) in
@@ -180,7 +181,7 @@ module _ (m : List ℕ) (bytes : Bytes m) (l : Layout) (o : opened m ≡ Opened 
       let there = block-there PatternKind (anew m bytes l o) i (omega (arith, size)) (patterns-there .there) (patterns-there .sized) in
       let same : getD (anew m bytes l o) i [] ≡ blockAnew (l .tracks) block = getD-mapped (blockAnew (l .tracks)) list i [] [] inside in
       same-pattern (l .tracks) block (every-at i [] inside (sound-blocks m bytes l o)) here (rw same at there)
-  same-thing Sample i h = same-blocks SampleKind 8 smpl-other (l .places .smpl) (k .places .smpl) (first .smpl) (second .smpl) (outline-of m bytes l o .mandatory .smpl .1) (first .counts _ info-there .1) (second .counts _ (stays-among m bytes l o info-other info-there) .1) (content-of m bytes l o .samples) (content-of m bytes l o .samplesFill) (every-of sample-sized (content-of m bytes l o .sampleRules)) i h
+  same-thing Sample i h = same-blocks SampleKind 8 Covered.smpl refl (l .places .smpl) (k .places .smpl) (first .smpl) (second .smpl) (outline-of m bytes l o .mandatory .smpl .1) (first .counts _ info-there .1) (second .counts _ (stays-among m bytes l o Covered.info refl info-there) .1) (content-of m bytes l o .samples) (content-of m bytes l o .samplesFill) (every-of sample-sized (content-of m bytes l o .sampleRules)) i h
   same-thing VolumeEnvelope i h = same-envelope (l .places .venv) (k .places .venv) (content-of m bytes l o .volumeEnvelopes) volume i h
   same-thing PanningEnvelope i h = same-envelope (l .places .penv) (k .places .penv) (content-of m bytes l o .panningEnvelopes) panning i h
 

@@ -15,13 +15,12 @@ use Rattle.blocks.specs.declared.Kind.the-variants.{Pattern}
 use Rattle.module.specs.Streams.{packedBytes, streamVerdict}
 use Rattle.grammar.specs.Rules.{Every, none, also}
 use Rattle.grammar.proofs.Locating.{PartAt, number16-start, number16-front, number16-take, part-length, part-there, part-is}
-use Rattle.grammar.proofs.Cutting.{Sized, sized-least, part-first, part-rest, part-size}
+use Rattle.grammar.proofs.AllBytes.{bytes32-number}
+use Rattle.grammar.proofs.Cutting.{Sized, sized-least, part-first, part-rest, part-front, part-size}
 use Rattle.grammar.proofs.BlockStreams.{stream-same}
 use Rattle.repack.specs.Repacked.{packed, repackedStream, repackedBlock}
 use Rattle.repack.proofs.Anew.{block-size, block-shorter}
-use Rattle.repack.proofs.ChunksAnew.{part-front}
 use Rattle.repacking.proofs.PackedAgain.{rowsHeld, packed-accepted, packed-rows}
-use Rattle.repacking.proofs.PackedBytes.{bytes32-number}
 
 -- A block anew, by the block alone.
 abbrev pub blockAnew : ℕ → List ℕ → List ℕ

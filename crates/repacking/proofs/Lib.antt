@@ -1,9 +1,6 @@
-pub mod AllBytes
 pub mod PackedBytes
 pub mod PackedAgain
-pub mod MappedChunks
 pub mod BlockAnew
-pub mod PattAlone
 pub mod ModuleAnew
 pub mod AlikeAnew
 pub mod AgainAnew

@@ -1,41 +1,45 @@
 -- An accepted module and the module repacked: the chunks and blocks of both, and that the rules hold of the module repacked.
 use Prim.Native.Nat.{ℕ, _+_, _%_, _≤_, _<_}
 use mathlib.Core.Path.{_≡_, refl, sym, ap, subst, _∙_}
-use mathlib.Core.List.{List, [], _∷_, _++_, map, append-assoc, append-nil}
+use mathlib.Core.List.{List, [], _∷_, _++_, map, append-nil}
+use mathlib.Core.Bool.{false, _||_}
 use native.Mathlib.Omega.{arith}
-use lib.ListN.{length, take, drop, replicate, length-append, length-map, length-drop}
-use lib.Seq.{take-at, length-take-le}
+use lib.ListN.{length, take, replicate, length-append, length-map}
+use lib.Seq.{length-take-le}
+use lib.Dec.{eqb}
 use Rattle.refusal.specs.declared.Verdict.the-variants.{Accepted}
 use Rattle.cells.specs.Cells.{joined}
 use Rattle.numbers.specs.Numbers.{number16, number32, bytes32}
-use Rattle.layout.specs.declared.Place.{Place}
+use Rattle.layout.specs.Chunks.{PATT}
 use Rattle.layout.specs.declared.Layout.{Layout}
 use Rattle.layout.specs.declared.Outline.the-variants.{Found}
 use Rattle.blocks.specs.Sizes.{sizeOf, placesFrom}
 use Rattle.blocks.specs.declared.Kind.the-variants.{Pattern}
 use Rattle.module.specs.Streams.{packedBytes, patternStreamRules, streamVerdict}
 use Rattle.module.specs.Verdicts.{opened}
-use Rattle.grammar.specs.Rules.{Bytes, Every, none, also, ChunkBytes, Among, ChunkRules, Filled, PatternRules, Content, pattLetters}
+use Rattle.grammar.specs.Rules.{Bytes, Every, none, also, ChunkBytes, Among, Covered, ChunkRules, Filled, PatternRules, Content, Rules, pattLetters}
 use Rattle.grammar.proofs.Standing.{LayoutOf}
 use Rattle.grammar.proofs.Locating.{PartAt, part-inside}
 use Rattle.grammar.proofs.Holding.{AllHold, every-of, every-both, every-first, every-one}
+use Rattle.grammar.proofs.AllBytes.{bytes-append, bytes-front, bytes-behind, bytes-take, bytes-of-part, bytes-joined, bytes-replicate, bytes32-bytes}
+use Rattle.grammar.proofs.MappedLists.{every-map}
 use Rattle.grammar.proofs.Cutting.{Sized, part-first, part-rest, places-blocks}
+use Rattle.grammar.proofs.Identifiers.{identifierOf}
 use Rattle.grammar.proofs.Recorded.{every-among}
-use Rattle.grammar.proofs.Turns.{ChunksFit}
-use Rattle.grammar.proofs.ChunkHalf.{Outlined, Mandatory, bytes-split, chunks-part, chunks-outline}
+use Rattle.grammar.proofs.ChunkHalf.{Outlined, bytes-split}
+use Rattle.grammar.proofs.ChangedChunks.{Change, among-changed, among-left, left-among, rules-changed, info-left, bytes-changed, alone-length}
+use Rattle.grammar.proofs.ChangedData.{withData, data-size, data-filled, data-bytes, data-alike, data-there}
 use Rattle.grammar.proofs.FillingChunks.{BlocksIn, filled-blocks}
 use Rattle.grammar.proofs.BlockStreams.{TracksFit, accepted-says, pattern-sized, pattern-holds}
-use Rattle.grammar.proofs.ContentHalf.{counted, content-follows, content-exactly}
+use Rattle.grammar.proofs.ContentHalf.{counted, content-follows}
+use Rattle.grammar.proofs.Acceptance.{rules-open}
 use Rattle.grammar.proofs.FoundBlocks.{Opens, module-opens}
 use Rattle.repack.specs.Repacked.{packed, repackedStream, repackedBlock, repackedPatterns, repackedModule}
 use Rattle.repack.proofs.Anew.{packed-size}
-use Rattle.repack.proofs.ChunksAnew.{pattAnew, chunkAnew, module-anew}
-use Rattle.repack.proofs.Accepting.{patterns-in, outlined, module-replaced}
-use Rattle.repacking.proofs.AllBytes.{bytes-append, bytes-front, bytes-behind, bytes-take, bytes-of-part, bytes-joined, bytes-replicate, every-map}
-use Rattle.repacking.proofs.PackedBytes.{bytes32-bytes, packed-bytes}
-use Rattle.repacking.proofs.MappedChunks.{among-mapped, among-left, left-among, fits-mapped}
+use Rattle.repack.proofs.ChunksAnew.{chunkAnew, patt-change, module-anew}
+use Rattle.repack.proofs.Accepting.{outlined}
+use Rattle.repacking.proofs.PackedBytes.{packed-bytes}
 use Rattle.repacking.proofs.BlockAnew.{blockAnew, packed-same, rows-same, blocks-anew, SoundBlock, anew-sound, anew-shorter}
-use Rattle.repacking.proofs.PattAlone.{by-chunk, anew-bytes, anew-keeps, anew-leaves, anew-patt, name-other, info-other, song-other, inst-other, smpl-other, venv-other, penv-other}
 
 -- Blocks that become no longer, one behind the other.
 pub joined-shorter : (g : List ℕ → List ℕ) {blocks : List (List ℕ)} → Every (λ block. length (g block) ≤ length block) blocks → length (joined (map g blocks)) ≤ length (joined blocks)
@@ -116,6 +120,9 @@ module _ (m : List ℕ) (bytes : Bytes m) (l : Layout) (o : opened m ≡ Found l
   abbrev pub changed : List ℕ → List ℕ
   changed = chunkAnew (repackedPatterns m l)
 
+  change : Change (λ n. eqb n PATT || false) changed
+  change = patt-change (repackedPatterns m l)
+
   pub repacked-bytes : repackedModule m l ≡ header ++ joined (map changed chunks)
   repacked-bytes = module-anew rules l
 
@@ -129,86 +136,38 @@ module _ (m : List ℕ) (bytes : Bytes m) (l : Layout) (o : opened m ≡ Found l
   pub patt-size : length patt ≡ 8 + length (joined blocks)
   patt-size = ap length (content-of .patternsFill .bytes) ∙ length-append (take 8 patt) (joined blocks) ∙ ap (λ (k : ℕ). k + length (joined blocks)) (length-take-le 8 patt (content-of .patternsFill .fronts))
 
-  patt-changed : changed patt ≡ pattAnew (repackedPatterns m l) patt
-  patt-changed = anew-patt (repackedPatterns m l) patt-bytes (pattThere .named)
-
-  four : length (take 4 patt) ≡ 4
-  four = length-take-le 4 patt (omega (arith, patt-size))
+  pub patt-changed : changed patt ≡ withData (repackedPatterns m l) patt
+  patt-changed = data-there Covered.patt (repackedPatterns m l) (λ c. c) patt-bytes (pattThere .named)
 
   pub repacked-size : length (repackedModule m l) + length (joined blocks) ≡ length m + length (repackedPatterns m l)
   repacked-size =
-      let place : Place = l .places .patt in
-      let content : List ℕ = repackedPatterns m l in
-      let inside : place .at + 8 + place .length ≤ length m = patterns-in m bytes l o .inside in
-      omega (
-        arith,
-        ap length (module-replaced m bytes l o),
-        length-append (take (place .at + 4) m) (bytes32 (length content) ++ (content ++ drop (place .at + 8 + place .length) m)),
-        length-take-le (place .at + 4) m (omega (arith, inside)),
-        length-append content (drop (place .at + 8 + place .length) m),
-        length-drop (place .at + 8 + place .length) m,
-        outline-of .layout .patt .stands patt pattThere .size,
-        patt-size,
-        inside,
-      )
+      let alone = alone-length Covered.patt (data-alike PATT (repackedPatterns m l) (λ c. c)) rules pattThere in
+      omega (arith, ap length repacked-bytes, alone, ap length patt-changed, data-size (repackedPatterns m l) patt patt-bytes, patt-size)
 
   pub no-longer : length (repackedModule m l) ≤ length m
   no-longer = omega (arith, repacked-size, data-shorter)
 
   -- M2 to M9 of the module repacked.
-  pub whole-anew : Every ChunkBytes (map changed chunks)
-  whole-anew = every-map changed chunks .1 (every-of (anew-bytes (repackedPatterns m l)) (rules .whole))
-
-  fits-anew : ChunksFit (map changed chunks)
-  fits-anew = fits-mapped changed (anew-keeps (repackedPatterns m l)) (chunks-part rules) whole-anew (anew-leaves (repackedPatterns m l) name-other) (anew-leaves (repackedPatterns m l) info-other)
-
   pub rules-anew : ChunkRules (repackedModule m l) header (map changed chunks)
-  rules-anew = record {
-    bytes = repacked-bytes;
-    limit = omega (arith, no-longer, rules .limit);
-    headerSize = rules .headerSize;
-    begins = rules .begins;
-    version = rules .version;
-    revision = rules .revision;
-    whole = fits-anew .whole;
-    once = fits-anew .once;
-    behindInfo = fits-anew .behindInfo;
-    name = fits-anew .name;
-    info = fits-anew .info;
-  }
+  rules-anew = rules-changed change rules repacked-bytes (omega (arith, no-longer, rules .limit)) refl (info-left change rules refl)
 
-  -- A chunk other than PATT stands among the chunks of both.
-  module _ {letters : List ℕ} (other : letters ≡ pattLetters → ⊥) {chunk : List ℕ} where
+  -- A chunk other than PATT is among the chunks of both.
+  module _ {letters : List ℕ} (covers : Covered letters) (other : eqb (identifierOf covers) PATT || false ≡ false) {chunk : List ℕ} where
     pub stays-among : Among chunks letters chunk → Among (map changed chunks) letters chunk
-    stays-among = among-left changed (anew-keeps (repackedPatterns m l)) (anew-leaves (repackedPatterns m l) other) (rules .whole)
+    stays-among = among-left change covers other (rules .whole)
 
     pub was-among : Among (map changed chunks) letters chunk → Among chunks letters chunk
-    was-among = left-among changed (anew-keeps (repackedPatterns m l)) (anew-leaves (repackedPatterns m l) other) (rules .whole)
+    was-among = left-among change covers other (rules .whole)
 
   pub patt-among : Among (map changed chunks) pattLetters (changed patt)
-  patt-among = among-mapped changed (anew-keeps (repackedPatterns m l)) (rules .whole) pattThere
-
-  pub mandatory-anew : Mandatory (map changed chunks)
-  mandatory-anew = record {
-    info = (outline-of .mandatory .info .0, stays-among info-other (outline-of .mandatory .info .1));
-    song = (outline-of .mandatory .song .0, stays-among song-other (outline-of .mandatory .song .1));
-    inst = (outline-of .mandatory .inst .0, stays-among inst-other (outline-of .mandatory .inst .1));
-    patt = (changed patt, patt-among);
-    smpl = (outline-of .mandatory .smpl .0, stays-among smpl-other (outline-of .mandatory .smpl .1));
-  }
+  patt-among = among-changed change (rules .whole) pattThere
 
   -- B1 to B6 and V1 to V7 of it.
   pub filled-anew : Filled 8 (changed patt) (number16 (outline-of .mandatory .info .0) 14) anew
   filled-anew =
-      let front : List ℕ = take 4 patt ++ bytes32 (length (repackedPatterns m l)) in
-      let eight : length front ≡ 8 = omega (arith, length-append (take 4 patt) (bytes32 (length (repackedPatterns m l))), four) in
-      let parts : changed patt ≡ front ++ joined anew = patt-changed ∙ sym (append-assoc (take 4 patt) (bytes32 (length (repackedPatterns m l))) (repackedPatterns m l)) ∙ ap (λ (content : List ℕ). front ++ content) data-is in
-      let fronts : take 8 (changed patt) ≡ front = ap (take 8) parts ∙ take-at front (joined anew) 8 eight in
-      record {
-        fronts = omega (arith, ap length parts, length-append front (joined anew), eight);
-        bytes = parts ∙ ap (λ (l : List ℕ). l ++ joined anew) (sym fronts);
-        number = length-map blocks (blockAnew (l .tracks)) ∙ content-of .patternsFill .number;
-      }
+      let many : length anew ≡ number16 (outline-of .mandatory .info .0) 14 = length-map blocks (blockAnew (l .tracks)) ∙ content-of .patternsFill .number in
+      let is : changed patt ≡ withData (joined anew) patt = patt-changed ∙ ap (λ (content : List ℕ). withData content patt) data-is in
+      subst (λ (chunk : List ℕ). Filled 8 chunk (number16 (outline-of .mandatory .info .0) 14) anew) (sym is) (counted many (data-filled anew patt patt-bytes))
 
   pub content-anew : Content header (map changed chunks) (outline-of .mandatory .info .0) (outline-of .mandatory .song .0) (outline-of .mandatory .inst .0) (changed patt) (outline-of .mandatory .smpl .0)
   content-anew = record {
@@ -224,8 +183,8 @@ module _ (m : List ℕ) (bytes : Bytes m) (l : Layout) (o : opened m ≡ Found l
     instrumentRules = content-of .instrumentRules;
     patternRules = rw tracks-are (every-of (sound-rules (l .tracks)) sound-anew);
     sampleRules = content-of .sampleRules;
-    volumeEnvelopes = λ chunk a. content-of .volumeEnvelopes chunk (was-among venv-other a);
-    panningEnvelopes = λ chunk a. content-of .panningEnvelopes chunk (was-among penv-other a);
+    volumeEnvelopes = λ chunk a. content-of .volumeEnvelopes chunk (was-among Covered.venv refl a);
+    panningEnvelopes = λ chunk a. content-of .panningEnvelopes chunk (was-among Covered.penv refl a);
   }
 
   -- It is bytes.
@@ -246,30 +205,37 @@ module _ (m : List ℕ) (bytes : Bytes m) (l : Layout) (o : opened m ≡ Found l
       (bytes-append (bytes32 (length stream)) (stream ++ replicate (length stream % 2) 0) (bytes32-bytes (length stream) short)
       (bytes-append stream (replicate (length stream % 2) 0) (packed-bytes (number16 block 0) (l .tracks) (packedBytes block 0) (sound .accepted) (bytes-of-part block 6 (number32 block 2) below)) (bytes-replicate (length stream % 2))))
 
-  data-bytes : Bytes (repackedPatterns m l)
-  data-bytes = rw data-is (bytes-joined anew .0 (every-map (blockAnew (l .tracks)) blocks .1 (every-of block-bytes (every-both (every-both sound-blocks blocks-bytes) (blocks-inside blocks (blocks-in .there))))))
+  content-bytes : Bytes (repackedPatterns m l)
+  content-bytes = rw data-is (bytes-joined anew .0 (every-map (blockAnew (l .tracks)) blocks .1 (every-of block-bytes (every-both (every-both sound-blocks blocks-bytes) (blocks-inside blocks (blocks-in .there))))))
 
   patt-part : PartAt m (length (header ++ joined (pattThere .before))) patt
   patt-part = record { before = header ++ joined (pattThere .before); after = joined (pattThere .after); bytes = bytes-split rules pattThere; starts = refl }
 
-  chunk-bytes : (chunk : List ℕ) → Bytes chunk → Bytes (changed chunk)
-  chunk-bytes chunk below = by-chunk (repackedPatterns m l) Bytes chunk anew-chunk below
-    where
-      short : length (repackedPatterns m l) < 0x100000000
-      short = omega (arith, data-shorter, patt-size, part-inside patt-part, small)
-
-      anew-chunk : Bytes (pattAnew (repackedPatterns m l) chunk)
-      anew-chunk = bytes-append (take 4 chunk) (bytes32 (length (repackedPatterns m l)) ++ repackedPatterns m l) (bytes-take 4 chunk below) (bytes-append (bytes32 (length (repackedPatterns m l))) (repackedPatterns m l) (bytes32-bytes (length (repackedPatterns m l)) short) data-bytes)
-
   pub bytes-anew : Bytes (repackedModule m l)
   bytes-anew =
-      let split : Bytes (header ++ joined chunks) = subst Bytes (rules .bytes) bytes in
-      subst Bytes (sym repacked-bytes) (bytes-append header (joined (map changed chunks)) (bytes-front header (joined chunks) split)
-      (bytes-joined (map changed chunks) .0 (every-map changed chunks .1 (every-of chunk-bytes (bytes-joined chunks .1 (bytes-behind header (joined chunks) split))))))
+      let content : List ℕ = repackedPatterns m l in
+      let short : length content < 0x100000000 = omega (arith, data-shorter, patt-size, part-inside patt-part, small) in
+      subst Bytes (sym repacked-bytes) (bytes-changed changed header chunks (data-bytes PATT content (λ c. c) short content-bytes (λ chunk b. b)) (subst Bytes (rules .bytes) bytes))
 
   -- It opens, with a layout of its chunks.
+  all-anew : Rules (repackedModule m l)
+  all-anew = record {
+    header = header;
+    chunks = map changed chunks;
+    chunkRules = rules-anew;
+    info = outline-of .mandatory .info .0;
+    song = outline-of .mandatory .song .0;
+    inst = outline-of .mandatory .inst .0;
+    patt = changed patt;
+    smpl = outline-of .mandatory .smpl .0;
+    infoThere = stays-among Covered.info refl (outline-of .mandatory .info .1);
+    songThere = stays-among Covered.song refl (outline-of .mandatory .song .1);
+    instThere = stays-among Covered.inst refl (outline-of .mandatory .inst .1);
+    pattThere = patt-among;
+    smplThere = stays-among Covered.smpl refl (outline-of .mandatory .smpl .1);
+    content = content-anew;
+  }
+
   pub opens-anew : (k : Layout) × (opened (repackedModule m l) ≡ Found k) × LayoutOf (repackedModule m l) header (map changed chunks) k
-  opens-anew =
-      let found = chunks-outline (repackedModule m l) header (map changed chunks) rules-anew mandatory-anew in
-      let accepted = content-exactly (found .2) (rules .version) (stays-among info-other (outline-of .mandatory .info .1)) (stays-among song-other (outline-of .mandatory .song .1)) (stays-among inst-other (outline-of .mandatory .inst .1)) patt-among (stays-among smpl-other (outline-of .mandatory .smpl .1)) tracks-fit bytes-anew .1 content-anew in
-      (found .0, rw (found .1, accepted) refl, found .2)
+  unfolding all-anew
+  opens-anew = rules-open (repackedModule m l) bytes-anew all-anew

@@ -1,13 +1,11 @@
--- What a packed pattern is made of is bytes, where the stream that it was read from is: a length as four bytes, which read again is the
--- length; and the packer's stream, since every field of a cell is 0 or was stored by an entry of the stream read, tracks are at most 254
--- and masks are below 64.
-use Prim.Native.Nat.{ℕ, _+_, _-_, _/_, _<_, _≤_}
-use mathlib.Core.Path.{_≡_, _∙_}
+-- The packer's stream is bytes, where the stream that it was read from is, since every field of a cell is 0 or was stored by an entry of
+-- the stream read, tracks are at most 254 and masks are below 64.
+use Prim.Native.Nat.{ℕ, _+_, _-_, _<_, _≤_}
+use mathlib.Core.Path.{_≡_}
 use mathlib.Core.Logic.{_↔_}
 use mathlib.Core.List.{List, [], _∷_, _++_, map}
 use mathlib.Core.Bool.{Bool, true, false, cond}
 use native.Mathlib.Omega.{arith}
-use native.Mathlib.Nat.{add-zero, mod-lt, div-lt-iff-lt-mul}
 use lib.ListN.{length, getD, drop}
 use lib.Dec.{eqb}
 use Rattle.refusal.specs.declared.Verdict.the-variants.{Accepted}
@@ -21,26 +19,12 @@ use Rattle.packed_rows.proofs.Shapes.{Each, none as no-cell, one as one-cell, B
 use Rattle.packed_rows.proofs.PackedRow.{Packs, done, written, passed, packs}
 use Rattle.packed_rows.proofs.Soundness.{packed-sound}
 use Rattle.packed_rows.proofs.Accepted.{accepted-stream}
-use Rattle.numbers.specs.Numbers.{number32, bytes32}
-use Rattle.numbers.proofs.Stored.{bytes32-again}
 use Rattle.grammar.specs.Rules.{Bytes, Every, none, also}
-use Rattle.grammar.proofs.Locating.{number32-part}
 use Rattle.grammar.proofs.Holding.{every-first, every-rest, every-of}
+use Rattle.grammar.proofs.MappedLists.{every-map}
 use Rattle.grammar.proofs.BlockStreams.{accepted-sizes}
 use Rattle.grammar.proofs.FoundPatterns.{holds}
-use Rattle.repacking.proofs.AllBytes.{every-map, bytes-getD, bytes-nil, bytes-cons, bytes-first, bytes-rest, bytes-append, bytes-front, bytes-drop, bytes-joined, bytes-replicate}
-
--- A number as four bytes.
-pub bytes32-bytes : (n : ℕ) → n < 0x100000000 → Bytes (bytes32 n)
-bytes32-bytes n h =
-    bytes-cons _ _ (div-lt-iff-lt-mul {k = 16777216} {x = n} {y = 256} (omega arith) .1 h)
-    (bytes-cons _ _ (mod-lt (n / 65536) (omega arith))
-    (bytes-cons _ _ (mod-lt (n / 256) (omega arith))
-    (bytes-cons _ _ (mod-lt n (omega arith)) bytes-nil)))
-
--- And read again.
-pub bytes32-number : (n : ℕ) (front rest : List ℕ) → number32 (front ++ (bytes32 n ++ rest)) (length front) ≡ n
-bytes32-number n front rest = rw add-zero at (number32-part front (bytes32 n) rest 0 (omega arith)) ∙ bytes32-again n
+use Rattle.grammar.proofs.AllBytes.{bytes-getD, bytes-nil, bytes-cons, bytes-first, bytes-rest, bytes-append, bytes-front, bytes-drop, bytes-joined, bytes-replicate}
 
 -- A stream is bytes exactly when its entries are.
 abbrev pub EntriesBytes : List Entry → Type 0

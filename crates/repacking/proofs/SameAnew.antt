@@ -9,6 +9,7 @@ use lib.ListN.{length, getD, take, drop, replicate, length-append, length-drop, 
 use lib.Seq.{take-at, drop-at, drop-drop, take-all, length-take-le}
 use Rattle.cells.specs.Cells.{joined}
 use Rattle.numbers.specs.Numbers.{number16, number32, partOf, bytes32}
+use Rattle.layout.specs.Chunks.{PATT}
 use Rattle.layout.specs.declared.Layout.{Layout}
 use Rattle.layout.specs.declared.Outline.the-variants.{Found}
 use Rattle.blocks.specs.Sizes.{sizeOf, placeAfter}
@@ -19,21 +20,22 @@ use Rattle.queries.specs.Finding.{found, blockOf}
 use Rattle.queries.specs.declared.Block.{Block}
 use Rattle.queries.specs.declared.Found.the-variants.{At}
 use Rattle.queries.specs.declared.Thing.the-variants.{Pattern}
-use Rattle.grammar.specs.Rules.{Bytes, Every, none, also}
+use Rattle.grammar.specs.Rules.{Bytes, Every, none, also, Covered}
 use Rattle.grammar.proofs.Locating.{PartAt, number32-at, number32-drop, part-length, part-there, part-is, part-of-part}
 use Rattle.grammar.proofs.Holding.{every-at, every-of}
+use Rattle.grammar.proofs.AllBytes.{bytes-drop, bytes32-bytes}
+use Rattle.grammar.proofs.MappedLists.{map-stays}
 use Rattle.grammar.proofs.Cutting.{Sized, sized-least, block-there}
 use Rattle.grammar.proofs.Identifiers.{number-letters}
+use Rattle.grammar.proofs.ChangedChunks.{split-alone}
+use Rattle.grammar.proofs.ChangedData.{withData, data-alike}
 use Rattle.grammar.proofs.FoundBlocks.{found-numbered, counted-found}
 use Rattle.repack.specs.Repacked.{packed, repackedStream, repackedPatterns, repackedModule}
-use Rattle.repack.proofs.ChunksAnew.{pattAnew, split-anew}
 use Rattle.repack.proofs.Accepting.{patterns-in, module-replaced}
 use Rattle.repacking.specs.Packed.{fillerOf, PackedAt}
-use Rattle.repacking.proofs.AllBytes.{bytes-drop}
 use Rattle.numbers.proofs.Stored.{bytes32-again}
-use Rattle.repacking.proofs.PackedBytes.{bytes32-bytes}
 use Rattle.repacking.proofs.BlockAnew.{blockAnew, packed-same, rows-same, SoundBlock, anew-length, anew-stream, filler-part, anew-shorter}
-use Rattle.repacking.proofs.ModuleAnew.{header, patt, pattThere, content-of, blocks, blocks-in, blocks-bytes, sound-blocks, rules, data-is, joined-shorter, patt-bytes, patt-below, patt-size, repacked-size, repacked-bytes}
+use Rattle.repacking.proofs.ModuleAnew.{header, patt, pattThere, content-of, blocks, blocks-in, blocks-bytes, sound-blocks, rules, data-is, joined-shorter, patt-bytes, patt-changed, patt-below, patt-size, repacked-size, repacked-bytes}
 
 -- The 4 bytes at a place are those of their number.
 number-small : (xs : List ℕ) (at : ℕ) → Bytes xs → number32 xs at < 0x100000000
@@ -125,10 +127,6 @@ each-same g (also {x = block} {xs = list} h hs) e =
     let rest : joined (map g list) ≡ joined list = sym (drop-at (g block) (joined (map g list)) (length block) long) ∙ ap (drop (length block)) e ∙ drop-at block (joined list) (length block) refl in
     also front (each-same g hs rest)
 
-all-same : (g : List ℕ → List ℕ) {list : List (List ℕ)} → Every (λ block. g block ≡ block) list → map g list ≡ list
-all-same g none = refl
-all-same g (also {x = block} {xs = list} h hs) = ap (λ (first : List ℕ). first ∷ map g list) h ∙ ap (λ (rest : List (List ℕ)). block ∷ rest) (all-same g hs)
-
 every-index : {P : List ℕ → Type 0} (list : List (List ℕ)) → ((i : ℕ) → i < length list → P (getD list i [])) → Every P list
 every-index [] h = none
 every-index (block ∷ list) h = also (h 0 (omega arith)) (every-index list (λ i l. h (suc i) (omega arith)))
@@ -163,9 +161,9 @@ module _ (m : List ℕ) (bytes : Bytes m) (l : Layout) (o : opened m ≡ Found l
 
   -- PATT's data are the blocks.
   data-same : Every (λ block. blockAnew (l .tracks) block ≡ block) (blocks m bytes l o) → repackedPatterns m l ≡ joined (blocks m bytes l o)
-  data-same e = data-is m bytes l o ∙ ap joined (all-same (blockAnew (l .tracks)) e)
+  data-same e = data-is m bytes l o ∙ ap joined (map-stays (blockAnew (l .tracks)) e)
 
-  patt-same : repackedPatterns m l ≡ joined (blocks m bytes l o) → pattAnew (repackedPatterns m l) (patt m bytes l o) ≡ patt m bytes l o
+  patt-same : repackedPatterns m l ≡ joined (blocks m bytes l o) → withData (repackedPatterns m l) (patt m bytes l o) ≡ patt m bytes l o
   patt-same e =
       let chunk : List ℕ = patt m bytes l o in
       let size = patt-size m bytes l o in
@@ -186,7 +184,7 @@ module _ (m : List ℕ) (bytes : Bytes m) (l : Layout) (o : opened m ≡ Found l
   module-same e =
       let a = pattThere m bytes l o in
       repacked-bytes m bytes l o
-      ∙ ap (λ (list : List (List ℕ)). header m bytes l o ++ joined list) (split-anew (rules m bytes l o) a (repackedPatterns m l) ∙ ap (λ (chunk : List ℕ). a .before ++ (chunk ∷ a .after)) (patt-same e) ∙ sym (a .splits))
+      ∙ ap (λ (list : List (List ℕ)). header m bytes l o ++ joined list) (split-alone Covered.patt (data-alike PATT (repackedPatterns m l) (λ c. c)) (rules m bytes l o) a ∙ ap (λ (chunk : List ℕ). a .before ++ (chunk ∷ a .after)) (patt-changed m bytes l o ∙ patt-same e) ∙ sym (a .splits))
       ∙ sym (rules m bytes l o .bytes)
 
   -- Where the module repacked is the module, PATT's data stayed.

@@ -1,14 +1,18 @@
 -- Lists of bytes: each number is below 256. It holds of a list exactly when it holds of each of its parts: of the first byte and the rest,
 -- of two lists one behind the other, of the lists that are joined; and so of what `take` and `drop` leave.
-use Prim.Native.Nat.{ℕ, zero, suc, _<_}
+use Prim.Native.Nat.{ℕ, zero, suc, _/_, _<_}
+use mathlib.Core.Path.{_≡_, _∙_}
 use mathlib.Core.Logic.{_↔_}
-use mathlib.Core.List.{List, [], _∷_, _++_, map}
+use mathlib.Core.List.{List, [], _∷_, _++_}
 use native.Mathlib.Omega.{arith}
-use lib.ListN.{getD, take, drop, replicate, take-append-drop}
+use native.Mathlib.Nat.{add-zero, mod-lt, div-lt-iff-lt-mul}
+use lib.ListN.{length, getD, take, drop, replicate, take-append-drop}
 use Rattle.cells.specs.Cells.{joined}
-use Rattle.numbers.specs.Numbers.{byteAt, partOf}
+use Rattle.numbers.specs.Numbers.{byteAt, number32, partOf, bytes32}
+use Rattle.numbers.proofs.Stored.{bytes32-again}
 use Rattle.grammar.specs.Rules.{Bytes, Every, none, also}
+use Rattle.grammar.proofs.Locating.{number32-part}
 use Rattle.grammar.proofs.Holding.{every-first, every-rest, every-append}
 
 -- One of them, or the 0 past the end.
 pub bytes-getD : (xs : List ℕ) (i : ℕ) → Bytes xs → getD xs i 0 < 256
@@ -77,10 +81,14 @@ pub bytes-replicate : (n : ℕ) → Bytes (replicate n 0)
 bytes-replicate zero = bytes-nil
 bytes-replicate (suc n) = bytes-cons 0 (replicate n 0) (omega arith) (bytes-replicate n)
 
--- What holds of every one that a function gives.
-pub every-map : {A B : Type 0} {P : B → Type 0} (f : A → B) (xs : List A) → Every P (map f xs) ↔ Every (λ x. P (f x)) xs
-every-map f [] = (λ e. none, λ e. none)
-every-map f (x ∷ xs) = (
-  λ e. also (every-first e) (every-map f xs .0 (every-rest e)),
-  λ e. also (every-first e) (every-map f xs .1 (every-rest e)),
-)
+-- A number as four bytes.
+pub bytes32-bytes : (n : ℕ) → n < 0x100000000 → Bytes (bytes32 n)
+bytes32-bytes n h =
+    bytes-cons _ _ (div-lt-iff-lt-mul {k = 16777216} {x = n} {y = 256} (omega arith) .1 h)
+    (bytes-cons _ _ (mod-lt (n / 65536) (omega arith))
+    (bytes-cons _ _ (mod-lt (n / 256) (omega arith))
+    (bytes-cons _ _ (mod-lt n (omega arith)) bytes-nil)))
+
+-- And read again.
+pub bytes32-number : (n : ℕ) (front rest : List ℕ) → number32 (front ++ (bytes32 n ++ rest)) (length front) ≡ n
+bytes32-number n front rest = rw add-zero at (number32-part front (bytes32 n) rest 0 (omega arith)) ∙ bytes32-again n

@@ -1,0 +1,190 @@
+-- A description whose chunks are changed one by one, where a chunk stays or holds something else of its kind, and only chunks of certain
+-- kinds change: a chunk is in the changed description exactly where it was before, M5 to M7 stay, and it is well formed where what the
+-- mandatory chunks then hold fits. Its bytes are those of the changed chunks.
+use Prim.Native.Nat.{ℕ, _≤_}
+use mathlib.Core.Path.{_≡_, refl, sym, ap, subst, _∙_}
+use mathlib.Core.List.{List, [], _∷_, _++_, map, map-map}
+use mathlib.Core.Bool.{Bool, true, false}
+use native.Mathlib.Omega.{arith}
+use lib.ListN.{length, length-append}
+use lib.Dec.{eqb}
+use Rattle.cells.specs.Cells.{joined}
+use Rattle.numbers.specs.Numbers.{bytes32}
+use Rattle.grammar.specs.Rules.{Every, none, also, Covered, NeedsInfo, VolumeFits, PanningValueFits}
+use Rattle.grammar.proofs.Holding.{false-never, every-of}
+use Rattle.grammar.proofs.MappedLists.{map-split, map-same}
+use Rattle.format.specs.Description.{Info, Song, Instrument, Pattern, Sample, Envelope, Chunk, NAME, INFO, SONG, INST, PATT, SMPL, VENV, PENV, Other, Description}
+use Rattle.format.specs.Encoding.{identifier, contents, chunkBytes, headerBytes, encoded}
+use Rattle.format.specs.WellFormed.{Fits32, InfoFits, SongFits, InstrumentFits, PatternFits, SampleFits, EnvelopesFit, In, Once, InfoFirst, WellFormed}
+use Rattle.format.proofs.Splits.{within-mapped, in-within, within-in}
+use Rattle.format.proofs.ChunksIn.{every-in}
+use Rattle.format.proofs.ChunkKinds.{Kind, named, counted, songs, instruments, patterns, samples, volumes, pannings, others, kindOf, Holding, holder, held-as}
+
+-- Whether two kinds are the same.
+abbrev kindNumber : Kind → ℕ
+kindNumber named = 0
+kindNumber counted = 1
+kindNumber songs = 2
+kindNumber instruments = 3
+kindNumber patterns = 4
+kindNumber samples = 5
+kindNumber volumes = 6
+kindNumber pannings = 7
+kindNumber others = 8
+
+abbrev pub isKind : Kind → Kind → Bool
+isKind kind k = eqb (kindNumber kind) (kindNumber k)
+
+-- What becomes of a chunk: it stays; or its kind is one that changes, and it holds something else and keeps its identifier.
+pub data Becomes (changes : Kind → Bool) : Chunk → Chunk → Type 0 where
+  stays : (c : Chunk) → Becomes changes c c
+  holds : (k : Kind) → changes k ≡ true → (old new : Holding k) → identifier (holder k new) ≡ identifier (holder k old) → Becomes changes (holder k old) (holder k new)
+
+kind-held : (k : Kind) (h : Holding k) → kindOf (holder k h) ≡ k
+kind-held named h = refl
+kind-held counted h = refl
+kind-held songs h = refl
+kind-held instruments h = refl
+kind-held patterns h = refl
+kind-held samples h = refl
+kind-held volumes h = refl
+kind-held pannings h = refl
+kind-held others h = refl
+
+module _ {changes : Kind → Bool} where
+  becomes-letters : {c new : Chunk} → Becomes changes c new → identifier new ≡ identifier c
+  becomes-letters (stays c) = refl
+  becomes-letters (holds k e old new same) = same
+
+  becomes-kind : {c new : Chunk} → Becomes changes c new → kindOf new ≡ kindOf c
+  becomes-kind (stays c) = refl
+  becomes-kind (holds k e old new same) = kind-held k new ∙ sym (kind-held k old)
+
+  becomes-same : {c new : Chunk} → Becomes changes c new → changes (kindOf new) ≡ false → new ≡ c
+  becomes-same (stays c) left = refl
+  becomes-same (holds k e old new same) left = false-never (sym left ∙ ap changes (kind-held k new) ∙ e)
+
+-- A change of chunks.
+abbrev pub Change : (Kind → Bool) → (Chunk → Chunk) → Type 0
+Change changes f = (c : Chunk) → Becomes changes c (f c)
+
+module _ (f : Chunk → Chunk) where
+  -- The chunk in the changed list is the change of the one before.
+  pub in-changed : {chunks : List Chunk} {c : Chunk} → In chunks c → In (map f chunks) (f c)
+  in-changed i = within-in (within-mapped f (in-within i))
+
+  module _ {changes : Kind → Bool} (change : Change changes f) where
+    letters-were : {c one : Chunk} → c ≡ f one → identifier c ≡ identifier one
+    letters-were {one = one} same = ap identifier same ∙ becomes-letters (change one)
+
+  module _ {changes : Kind → Bool} (change : Change changes f) {chunks : List Chunk} where
+    -- A chunk of a kind that does not change was there.
+    pub was-in : {c : Chunk} → changes (kindOf c) ≡ false → In (map f chunks) c → In chunks c
+    was-in {c} left i =
+        let s = map-split f chunks (i .before) (i .after) c (i .splits) in
+        let same : c ≡ s .one = s .oneIs ∙ becomes-same (change (s .one)) (ap (λ (new : Chunk). changes (kindOf new)) (sym (s .oneIs)) ∙ left) in
+        record { before = s .front; after = s .back; splits = s .splits ∙ ap (λ (e : Chunk). s .front ++ (e ∷ s .back)) (sym same) }
+
+    -- M6 and M7.
+    once-changed : Once chunks → Once (map f chunks)
+    once-changed once before between after one two e covers same =
+        let s = map-split f chunks before (between ++ (two ∷ after)) one e in
+        let t = map-split f (s .back) between after two (sym (s .backIs)) in
+        let first : identifier one ≡ identifier (s .one) = letters-were change (s .oneIs) in
+        let second : identifier two ≡ identifier (t .one) = letters-were change (t .oneIs) in
+        once (s .front) (t .front) (t .back) (s .one) (t .one) (s .splits ∙ ap (λ (l : List Chunk). s .front ++ (s .one ∷ l)) (t .splits)) (subst Covered first covers) (sym first ∙ same ∙ second)
+
+    infoFirst-changed : InfoFirst chunks → InfoFirst (map f chunks)
+    infoFirst-changed first before after c e needs =
+        let s = map-split f chunks before after c e in
+        let (info, there) = first (s .front) (s .back) (s .one) (s .splits) (subst NeedsInfo (letters-were change (s .oneIs)) needs) in
+        let (new, is) = held-as (f (INFO info)) counted (becomes-kind (change (INFO info))) in
+        (new, subst (λ (l : List Chunk). In l (INFO new)) (sym (s .frontIs)) (subst (In (map f (s .front))) is (in-changed there)))
+
+-- M5: in a module that is short enough the length of every chunk's data fits 4 bytes.
+contents-inside : (chunks : List Chunk) → Every (λ c. length (contents c) ≤ length (joined (map chunkBytes chunks))) chunks
+contents-inside [] = none
+contents-inside (c ∷ chunks) =
+    let all = length-append (chunkBytes c) (joined (map chunkBytes chunks)) in
+    let one = length-append (identifier c) (bytes32 (length (contents c)) ++ contents c) in
+    also {x = c} (omega arith) (every-of (λ e h. omega arith) (contents-inside chunks))
+
+lengths-fit : (d : Description) → length (encoded d) ≤ 16777216 → Every (λ c. Fits32 (length (contents c))) (d .chunks)
+lengths-fit d limit = every-of (λ c h. omega (arith, limit)) (contents-inside (d .chunks))
+
+-- A description with its chunks changed.
+abbrev pub changedDescription : (Chunk → Chunk) → Description → Description
+changedDescription f d = record { version = d .version; revision = d .revision; reserved = d .reserved; chunks = map f (d .chunks) }
+
+-- Its bytes, where the bytes of each chunk are changed alike.
+pub encoded-changed : (d : Description) (f : Chunk → Chunk) (g : List ℕ → List ℕ) → ((c : Chunk) → In (d .chunks) c → g (chunkBytes c) ≡ chunkBytes (f c)) → headerBytes d ++ joined (map g (map chunkBytes (d .chunks))) ≡ encoded (changedDescription f d)
+encoded-changed d f g same =
+    let each = map-same (λ c. g (chunkBytes c)) (λ c. chunkBytes (f c)) (every-in (d .chunks) same) in
+    ap (λ (chunks : List (List ℕ)). headerBytes d ++ joined chunks) (map-map g chunkBytes (d .chunks) ∙ each ∙ sym (map-map chunkBytes f (d .chunks)))
+
+-- What the mandatory chunks then hold, and that it fits: M9, B1 to B5, V1, V2, V6 and V7. The instruments are as many as before.
+pub record HeldAfter {d : Description} (w : WellFormed d) (f : Chunk → Chunk) : Type 0 where
+  pub info : Info
+  pub songs : List Song
+  pub instruments : List Instrument
+  pub patterns : List Pattern
+  pub samples : List Sample
+  pub infoIs : f (INFO (w .info)) ≡ INFO info
+  pub songsAre : f (SONG (w .songs)) ≡ SONG songs
+  pub instrumentsAre : f (INST (w .instruments)) ≡ INST instruments
+  pub patternsAre : f (PATT (w .patterns)) ≡ PATT patterns
+  pub samplesAre : f (SMPL (w .samples)) ≡ SMPL samples
+  pub infoFits : InfoFits info
+  pub songCount : length songs ≡ info .songs
+  pub instrumentCount : length instruments ≡ info .instruments
+  pub patternCount : length patterns ≡ info .patterns
+  pub sampleCount : length samples ≡ info .samples
+  pub songsFit : Every (SongFits (length patterns)) songs
+  pub instrumentsFit : Every (InstrumentFits samples) instruments
+  pub patternsFit : Every (PatternFits (info .tracks)) patterns
+  pub samplesFit : Every SampleFits samples
+  pub asMany : length (w .instruments) ≡ length instruments
+
+-- NAME, the envelopes and other chunks do not change.
+pub record LeavesRest (changes : Kind → Bool) : Type 0 where
+  pub name : changes named ≡ false
+  pub volume : changes volumes ≡ false
+  pub panning : changes pannings ≡ false
+  pub other : changes others ≡ false
+
+pub changed-well-formed : {d : Description} (w : WellFormed d) {f : Chunk → Chunk} {changes : Kind → Bool} → Change changes f → LeavesRest changes → length (encoded (changedDescription f d)) ≤ 16777216 → HeldAfter w f → WellFormed (changedDescription f d)
+changed-well-formed {d} w {f} {changes} change rest limit held = record {
+  limit = limit;
+  version = w .version;
+  revision = w .revision;
+  reserved = w .reserved;
+  lengths = lengths-fit (changedDescription f d) limit;
+  once = once-changed f change (w .once);
+  infoFirst = infoFirst-changed f change (w .infoFirst);
+  others = λ letters bytes i. w .others letters bytes (was-in f change (rest .other) i);
+  name = λ name i. w .name name (was-in f change (rest .name) i);
+  info = held .info;
+  songs = held .songs;
+  instruments = held .instruments;
+  patterns = held .patterns;
+  samples = held .samples;
+  infoThere = there (held .infoIs) (w .infoThere);
+  songsThere = there (held .songsAre) (w .songsThere);
+  instrumentsThere = there (held .instrumentsAre) (w .instrumentsThere);
+  patternsThere = there (held .patternsAre) (w .patternsThere);
+  samplesThere = there (held .samplesAre) (w .samplesThere);
+  infoFits = held .infoFits;
+  songCount = held .songCount;
+  instrumentCount = held .instrumentCount;
+  patternCount = held .patternCount;
+  sampleCount = held .sampleCount;
+  songsFit = held .songsFit;
+  instrumentsFit = held .instrumentsFit;
+  patternsFit = held .patternsFit;
+  samplesFit = held .samplesFit;
+  volumeEnvelopes = λ es i. subst (λ (n : ℕ). EnvelopesFit n VolumeFits es) (held .asMany) (w .volumeEnvelopes es (was-in f change (rest .volume) i));
+  panningEnvelopes = λ es i. subst (λ (n : ℕ). EnvelopesFit n (PanningValueFits (d .version)) es) (held .asMany) (w .panningEnvelopes es (was-in f change (rest .panning) i));
+}
+  where
+    there : {c new : Chunk} → f c ≡ new → In (d .chunks) c → In (map f (d .chunks)) new
+    there is i = subst (In (map f (d .chunks))) is (in-changed f i)
