@@ -13,11 +13,11 @@ use Rattle.numbers.specs.Numbers.{bytes32}
 use Rattle.grammar.specs.Rules.{Every, none, also, Covered, NeedsInfo, VolumeFits, PanningValueFits}
 use Rattle.grammar.proofs.Holding.{false-never, every-of}
 use Rattle.grammar.proofs.MappedLists.{map-split, map-same}
+use Rattle.grammar.proofs.Splits.{within-mapped, mapped-within, no-two-mapped}
 use Rattle.format.specs.Description.{Info, Song, Instrument, Pattern, Sample, Envelope, Chunk, NAME, INFO, SONG, INST, PATT, SMPL, VENV, PENV, Other, Description}
 use Rattle.format.specs.Encoding.{identifier, contents, chunkBytes, headerBytes, encoded}
 use Rattle.format.specs.WellFormed.{Fits32, InfoFits, SongFits, InstrumentFits, PatternFits, SampleFits, EnvelopesFit, In, Once, InfoFirst, WellFormed}
-use Rattle.format.proofs.Splits.{within-mapped, in-within, within-in}
-use Rattle.format.proofs.ChunksIn.{every-in}
+use Rattle.format.proofs.ChunksIn.{in-within, within-in, every-in, once-letters, letters-once}
 use Rattle.format.proofs.ChunkKinds.{Kind, named, counted, songs, instruments, patterns, samples, volumes, pannings, others, kindOf, Holding, holder, held-as}
 
 -- Whether two kinds are the same.
@@ -73,31 +73,25 @@ module _ (f : Chunk → Chunk) where
   pub in-changed : {chunks : List Chunk} {c : Chunk} → In chunks c → In (map f chunks) (f c)
   in-changed i = within-in (within-mapped f (in-within i))
 
-  module _ {changes : Kind → Bool} (change : Change changes f) where
-    letters-were : {c one : Chunk} → c ≡ f one → identifier c ≡ identifier one
-    letters-were {one = one} same = ap identifier same ∙ becomes-letters (change one)
-
   module _ {changes : Kind → Bool} (change : Change changes f) {chunks : List Chunk} where
     -- A chunk of a kind that does not change was there.
     pub was-in : {c : Chunk} → changes (kindOf c) ≡ false → In (map f chunks) c → In chunks c
     was-in {c} left i =
-        let s = map-split f chunks (i .before) (i .after) c (i .splits) in
-        let same : c ≡ s .one = s .oneIs ∙ becomes-same (change (s .one)) (ap (λ (new : Chunk). changes (kindOf new)) (sym (s .oneIs)) ∙ left) in
-        record { before = s .front; after = s .back; splits = s .splits ∙ ap (λ (e : Chunk). s .front ++ (e ∷ s .back)) (sym same) }
+        let (one, within, same) = mapped-within f (in-within i) in
+        let stayed : f one ≡ one = becomes-same (change one) (ap (λ (new : Chunk). changes (kindOf new)) (sym same) ∙ left) in
+        subst (In chunks) (sym (same ∙ stayed)) (within-in within)
 
     -- M6 and M7.
     once-changed : Once chunks → Once (map f chunks)
-    once-changed once before between after one two e covers same =
-        let s = map-split f chunks before (between ++ (two ∷ after)) one e in
-        let t = map-split f (s .back) between after two (sym (s .backIs)) in
-        let first : identifier one ≡ identifier (s .one) = letters-were change (s .oneIs) in
-        let second : identifier two ≡ identifier (t .one) = letters-were change (t .oneIs) in
-        once (s .front) (t .front) (t .back) (s .one) (t .one) (s .splits ∙ ap (λ (l : List Chunk). s .front ++ (s .one ∷ l)) (t .splits)) (subst Covered first covers) (sym first ∙ same ∙ second)
+    once-changed once =
+        letters-once (λ letters covers. no-two-mapped f (λ (c : Chunk). identifier c ≡ letters)
+        (λ c within named. sym (becomes-letters (change c)) ∙ named) (once-letters once letters covers))
 
     infoFirst-changed : InfoFirst chunks → InfoFirst (map f chunks)
     infoFirst-changed first before after c e needs =
         let s = map-split f chunks before after c e in
-        let (info, there) = first (s .front) (s .back) (s .one) (s .splits) (subst NeedsInfo (letters-were change (s .oneIs)) needs) in
+        let letters : identifier c ≡ identifier (s .one) = ap identifier (s .oneIs) ∙ becomes-letters (change (s .one)) in
+        let (info, there) = first (s .front) (s .back) (s .one) (s .splits) (subst NeedsInfo letters needs) in
         let (new, is) = held-as (f (INFO info)) counted (becomes-kind (change (INFO info))) in
         (new, subst (λ (l : List Chunk). In l (INFO new)) (sym (s .frontIs)) (subst (In (map f (s .front))) is (in-changed there)))
 

@@ -5,10 +5,16 @@ use mathlib.Core.Path.{_≡_, refl, sym, subst, _∙_}
 use mathlib.Core.List.{List, [], _∷_, _++_, map}
 use native.Mathlib.Omega.{arith}
 use Rattle.grammar.specs.Rules.{Every, also, Covered}
+use Rattle.grammar.proofs.Splits.{Within, within-front, within-behind, within-every, every-within, NoTwo, only-one}
 use Rattle.format.specs.Description.{Chunk}
 use Rattle.format.specs.Encoding.{identifier}
 use Rattle.format.specs.WellFormed.{In, Once}
-use Rattle.format.proofs.Splits.{within-front, within-behind, within-every, every-within, only-one, in-within, within-in}
+
+pub in-within : {chunks : List Chunk} {c : Chunk} → In chunks c → Within chunks c
+in-within i = record { before = i .before; after = i .after; splits = i .splits }
+
+pub within-in : {chunks : List Chunk} {c : Chunk} → Within chunks c → In chunks c
+within-in w = record { before = w .before; after = w .after; splits = w .splits }
 
 pub in-front : (c : Chunk) (chunks : List Chunk) → In (c ∷ chunks) c
 in-front c chunks = within-in (within-front c chunks)
@@ -24,10 +30,17 @@ module _ {P : Chunk → Type 0} where
   pub in-every : {chunks : List Chunk} {c : Chunk} → Every P chunks → In chunks c → P c
   in-every every i = within-every every (in-within i)
 
--- M6: a covered chunk is the only one of its letters.
-pub in-once : {chunks : List Chunk} → Once chunks → {one two : Chunk} → In chunks one → In chunks two → Covered (identifier one) → identifier one ≡ identifier two → one ≡ two
-in-once once {one} i j covers same =
-    only-one (λ (c : Chunk). identifier c ≡ identifier one) (λ before between after c other s p q. once before between after c other s (subst Covered (sym p) covers) (p ∙ sym q)) (in-within i) (in-within j) refl (sym same)
+-- M6 by letters: no two chunks have the same covered ones, and so a covered chunk is the only one of its letters.
+module _ {chunks : List Chunk} where
+  pub once-letters : Once chunks → (letters : List ℕ) → Covered letters → NoTwo (λ (c : Chunk). identifier c ≡ letters) chunks
+  once-letters once letters covers before between after one two e p q = once before between after one two e (subst Covered (sym p) covers) (p ∙ sym q)
+
+  pub letters-once : ((letters : List ℕ) → Covered letters → NoTwo (λ (c : Chunk). identifier c ≡ letters) chunks) → Once chunks
+  letters-once never before between after one two e covers same = never (identifier one) covers before between after one two e refl (sym same)
+
+  pub in-once : Once chunks → {one two : Chunk} → In chunks one → In chunks two → Covered (identifier one) → identifier one ≡ identifier two → one ≡ two
+  in-once once {one} i j covers same =
+      only-one (λ (c : Chunk). identifier c ≡ identifier one) (once-letters once (identifier one) covers) (in-within i) (in-within j) refl (sym same)
 
 -- Chunks of which a function gives the same, one by one.
 module _ {A : Type 0} (f : Chunk → A) where

@@ -20,11 +20,12 @@ use Rattle.grammar.proofs.Identifiers.{identifierOf, chunk-named, covered-holds
 use Rattle.grammar.proofs.Acceptance.{accepted-exactly}
 use Rattle.grammar.proofs.AllBytes.{bytes-drop, bytes-front, bytes-behind, bytes-joined}
 use Rattle.grammar.proofs.MappedLists.{map-append, every-map}
+use Rattle.grammar.proofs.Splits.{Within, among-within, within-every, every-within, within-mapped, only-one, no-two-mapped}
 use Rattle.format.specs.Description.{Info, Song, Instrument, Pattern, eight, sixteen, Sample, Chunk, NAME, INFO, SONG, INST, PATT, SMPL, VENV, PENV, Other, Description}
 use Rattle.format.specs.Encoding.{songBytes, instrumentBytes, patternBytes, sampleBytes, identifier, contents, chunkBytes, headerBytes, encoded}
 use Rattle.format.specs.WellFormed.{ManyBytes, EnvelopesFit, OtherFits, In, Once, InfoFirst, WellFormed}
-use Rattle.format.proofs.Splits.{Within, among-within, in-within, within-in, within-every, every-within, within-mapped, only-one}
 use Rattle.format.proofs.DescribedBlocks.{every-each, number-then, number-fits, infoIn, info-again, info-fits, songIn, song-again, song-fits, instrumentIn, instrument-again, instrument-fits, patternsIn, patterns-again, patterns-fit, sampleIn, sample-again, sample-fits}
+use Rattle.format.proofs.ChunksIn.{in-within, within-in, letters-once}
 use Rattle.format.proofs.DescribedChunks.{map-again, behind-front, blocks-bytes, all-again, all-fit, envelopesIn, envelopes-again, envelopes-fit, data-fits, chunk-again}
 
 module _ (m : List ℕ) (bytes : Bytes m) (r : Rules m) where
@@ -246,12 +247,9 @@ module _ (m : List ℕ) (bytes : Bytes m) (r : Rules m) where
 
   -- M6.
   chunks-once : Once (description .chunks)
-  chunks-once before between after one two e covers same =
-      let first : take 4 (chunkBytes one) ≡ identifier one = within-every all-named (record { before = before; after = between ++ (two ∷ after); splits = e }) in
-      let second : take 4 (chunkBytes two) ≡ identifier two = within-every all-named (record { before = before ++ (one ∷ between); after = after; splits = e ∙ sym (append-assoc before (one ∷ between) (two ∷ after)) }) in
-      rules .once (identifier one) covers (map chunkBytes before) (map chunkBytes between) (map chunkBytes after) (chunkBytes one) (chunkBytes two)
-      (chunks-split before (between ++ (two ∷ after)) one e ∙ ap (λ (l : List (List ℕ)). map chunkBytes before ++ (chunkBytes one ∷ l)) (map-append chunkBytes between (two ∷ after)))
-      first (second ∙ sym same)
+  chunks-once =
+      letters-once (λ letters covers. no-two-mapped describe (λ (c : Chunk). identifier c ≡ letters)
+      (λ chunk within named. sym (within-every all-described within .letters) ∙ named) (rules .once letters covers))
 
   -- M7.
   info-first : InfoFirst (description .chunks)

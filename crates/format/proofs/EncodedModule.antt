@@ -19,13 +19,14 @@ use Rattle.grammar.proofs.Locating.{byteAt-front}
 use Rattle.grammar.proofs.Holding.{leb-says, and-says, every-at, every-of}
 use Rattle.grammar.proofs.Acceptance.{accepted-exactly}
 use Rattle.grammar.proofs.AllBytes.{bytes-nil, bytes-cons, bytes-append, bytes-every, bytes-joined, bytes32-bytes, bytes32-number}
-use Rattle.grammar.proofs.MappedLists.{map-append, every-map, map-split}
+use Rattle.grammar.proofs.MappedLists.{every-map, map-split}
+use Rattle.grammar.proofs.Splits.{among-within, within-among, within-mapped, mapped-within, no-two-mapped}
 use Rattle.format.specs.Description.{Info, Song, Instrument, Pattern, Sample, Envelope, Chunk, NAME, INFO, SONG, INST, PATT, SMPL, VENV, PENV, Other, Description}
 use Rattle.format.specs.Encoding.{songBytes, instrumentBytes, patternBytes, sampleBytes, envelopesBytes, identifier, contents, chunkBytes, headerBytes, encoded}
 use Rattle.format.specs.WellFormed.{In, Fits32, WellFormed}
 use Rattle.format.proofs.Stored.{bytes16-bytes}
 use Rattle.format.proofs.ReadingBlocks.{info-instruments, info-samples, info-songs, info-patterns, info-tracks}
-use Rattle.format.proofs.ChunksIn.{every-in, in-every, in-once}
+use Rattle.format.proofs.ChunksIn.{in-within, within-in, every-in, in-every, once-letters, in-once}
 use Rattle.format.proofs.EncodedBlocks.{all-bytes, filled-by, info-at, info-bytes, info-rules, song-bytes, song-rules, instrument-bytes, instrument-rules, pattern-bytes, pattern-rules, sample-bytes, sample-rules, envelopes-bytes, envelopes-rules}
 
 -- M5: an identifier is four letters A to Z.
@@ -69,12 +70,7 @@ module _ (c : Chunk) (letters : Capitals (identifier c)) where
 
 -- A chunk of the description stands among the encodings. Its identifier has four letters: of a covered chunk that is so by computing.
 pub in-among : (chunks : List Chunk) (c : Chunk) → In chunks c → length (identifier c) ≡ 4 → Among (map chunkBytes chunks) (identifier c) (chunkBytes c)
-in-among chunks c i four = record {
-  before = map chunkBytes (i .before);
-  after = map chunkBytes (i .after);
-  splits = ap (map chunkBytes) (i .splits) ∙ map-append chunkBytes (i .before) (c ∷ i .after);
-  named = take-at (identifier c) _ 4 four;
-}
+in-among chunks c i four = within-among (within-mapped chunkBytes (in-within i)) (take-at (identifier c) _ 4 four)
 
 -- A covered chunk, by its letters.
 pub data Known : List ℕ → Chunk → Type 0 where
@@ -164,9 +160,8 @@ module _ (d : Description) (w : WellFormed d) where
 
   pub among-in : (letters chunk : List ℕ) → Among (map chunkBytes (d .chunks)) letters chunk → (c : Chunk) × In (d .chunks) c × (identifier c ≡ letters) × (chunk ≡ chunkBytes c)
   among-in letters chunk a =
-      let s = map-split chunkBytes (d .chunks) (a .before) (a .after) chunk (a .splits) in
-      let i : In (d .chunks) (s .one) = record { before = s .front; after = s .back; splits = s .splits } in
-      (s .one, i, letters-of (s .one) i (s .oneIs) (a .named), s .oneIs)
+      let (c, within, same) = mapped-within chunkBytes (among-within a) in
+      (c, within-in within, letters-of c (within-in within) same (a .named), same)
 
   -- So a chunk with covered letters is what they name.
   pub known-among : (letters chunk : List ℕ) → Covered letters → Among (map chunkBytes (d .chunks)) letters chunk → (c : Chunk) × In (d .chunks) c × Known letters c × (chunk ≡ chunkBytes c)
@@ -203,15 +198,9 @@ module _ (d : Description) (w : WellFormed d) where
       go (Known.penv held) i same = (held, i, same)
 
   encoded-once : (letters : List ℕ) → Covered letters → AtMostOnce (map chunkBytes (d .chunks)) letters
-  encoded-once letters covers before between after one two e named-one named-two =
-      let s = map-split chunkBytes (d .chunks) before (between ++ (two ∷ after)) one e in
-      let t = map-split chunkBytes (s .back) between after two (sym (s .backIs)) in
-      let both : d .chunks ≡ s .front ++ (s .one ∷ (t .front ++ (t .one ∷ t .back))) = s .splits ∙ ap (λ (l : List Chunk). s .front ++ (s .one ∷ l)) (t .splits) in
-      let i : In (d .chunks) (s .one) = record { before = s .front; after = s .back; splits = s .splits } in
-      let j : In (d .chunks) (t .one) = record { before = s .front ++ (s .one ∷ t .front); after = t .back; splits = both ∙ sym (append-assoc (s .front) (s .one ∷ t .front) (t .one ∷ t .back)) } in
-      let first = letters-of (s .one) i (s .oneIs) named-one in
-      let second = letters-of (t .one) j (t .oneIs) named-two in
-      w .once (s .front) (t .front) (t .back) (s .one) (t .one) both (subst Covered (sym first) covers) (first ∙ sym second)
+  encoded-once letters covers =
+      no-two-mapped chunkBytes (λ (chunk : List ℕ). take 4 chunk ≡ letters)
+      (λ c within named. letters-of c (within-in within) refl named) (once-letters (w .once) letters covers)
 
   encoded-behind : (letters : List ℕ) → NeedsInfo letters → BehindInfo (map chunkBytes (d .chunks)) letters
   encoded-behind letters needs before after chunk e named =

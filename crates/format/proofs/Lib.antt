@@ -2,7 +2,6 @@ pub mod Stored
 pub mod ReadingBlocks
 pub mod EncodedBlocks
 pub mod EncodedModule
-pub mod Splits
 pub mod DescribedBlocks
 pub mod DescribedChunks
 pub mod DescribedModule

@@ -62,8 +62,11 @@ data-filled blocks chunk c =
     record { fronts = omega (arith, data-size content chunk c); bytes = parts ∙ ap (λ (l : List ℕ). l ++ content) (sym fronts); number = refl }
 
 module _ (identifier : ℕ) (content : List ℕ) (others : List ℕ → List ℕ) where
+  abbrev changed : List ℕ → List ℕ
+  changed = dataChanged identifier content others
+
   -- What holds of a chunk with the new data, and of a chunk otherwise changed, holds of the changed chunk.
-  pub by-identifier : (P : List ℕ → Type 0) (chunk : List ℕ) → P (withData content chunk) → P (others chunk) → P (dataChanged identifier content others chunk)
+  by-identifier : (P : List ℕ → Type 0) (chunk : List ℕ) → P (withData content chunk) → P (others chunk) → P (changed chunk)
   by-identifier P chunk new other = go (eqb (number32 chunk 0) identifier)
     where
       go : (b : Bool) → P (cond b (withData content chunk) (others chunk))
@@ -71,45 +74,47 @@ module _ (identifier : ℕ) (content : List ℕ) (others : List ℕ → List ℕ
       go false = other
 
   module _ {changes : ℕ → Bool} (change : Change changes others) where
-    pub data-change : Change (λ n. eqb n identifier || changes n) (dataChanged identifier content others)
+    pub data-change : Change (λ n. eqb n identifier || changes n) changed
     data-change = record {
       letters = λ chunk c. by-identifier (λ new. take 4 new ≡ take 4 chunk) chunk (data-letters content chunk c) (change .letters chunk c);
       whole = λ chunk c. by-identifier ChunkBytes chunk (data-whole content chunk c) (change .whole chunk c);
-      stays = λ chunk c e. left chunk c (eqb (number32 chunk 0) identifier) e;
+      stays = λ chunk c e. go chunk c (eqb (number32 chunk 0) identifier) e;
     }
       where
-        left : (chunk : List ℕ) → ChunkBytes chunk → (b : Bool) → b || changes (number32 chunk 0) ≡ false → cond b (withData content chunk) (others chunk) ≡ chunk
-        left chunk c true e = let z : _≡_ {A = ℕ} 0 1 = cc in absurd (omega arith)
-        left chunk c false e = change .stays chunk c e
+        go : (chunk : List ℕ) → ChunkBytes chunk → (b : Bool) → b || changes (number32 chunk 0) ≡ false → cond b (withData content chunk) (others chunk) ≡ chunk
+        go chunk c true e = let z : _≡_ {A = ℕ} 0 1 = cc in absurd (omega arith)
+        go chunk c false e = change .stays chunk c e
 
     -- Once more changes nothing, where the others then do not change either.
-    pub data-twice : (chunk : List ℕ) → ChunkBytes chunk → others (others chunk) ≡ others chunk → dataChanged identifier content others (dataChanged identifier content others chunk) ≡ dataChanged identifier content others chunk
+    pub data-twice : (chunk : List ℕ) → ChunkBytes chunk → others (others chunk) ≡ others chunk → changed (changed chunk) ≡ changed chunk
     data-twice chunk c again = go (eqb (number32 chunk 0) identifier) refl
       where
         same-number : (new : List ℕ) → take 4 new ≡ take 4 chunk → number32 new 0 ≡ number32 chunk 0
         same-number new same = letters-number new (take 4 chunk) same ∙ sym (letters-number chunk (take 4 chunk) refl)
 
-        go : (b : Bool) → eqb (number32 chunk 0) identifier ≡ b → dataChanged identifier content others (cond b (withData content chunk) (others chunk)) ≡ cond b (withData content chunk) (others chunk)
+        go : (b : Bool) → eqb (number32 chunk 0) identifier ≡ b → changed (cond b (withData content chunk) (others chunk)) ≡ cond b (withData content chunk) (others chunk)
         go true e =
             let letters = data-letters content chunk c in
             rw (same-number (withData content chunk) letters, e) (ap (λ (front : List ℕ). front ++ (bytes32 (length content) ++ content)) letters)
         go false e = rw (same-number (others chunk) (change .letters chunk c), e) again
 
   -- It is bytes.
-  pub data-bytes : length content < 0x100000000 → Bytes content → ((chunk : List ℕ) → Bytes chunk → Bytes (others chunk)) → (chunk : List ℕ) → Bytes chunk → Bytes (dataChanged identifier content others chunk)
-  data-bytes short below each chunk b =
-      by-identifier Bytes chunk
-      (bytes-append (take 4 chunk) _ (bytes-take 4 chunk b) (bytes-append (bytes32 (length content)) content (bytes32-bytes (length content) short) below))
-      (each chunk b)
+  module _ (short : length content < 0x100000000) (below : Bytes content) (each : (chunk : List ℕ) → Bytes chunk → Bytes (others chunk)) where
+    pub data-bytes : (chunk : List ℕ) → Bytes chunk → Bytes (changed chunk)
+    data-bytes chunk b =
+        let new : Bytes (bytes32 (length content) ++ content) = bytes-append (bytes32 (length content)) content (bytes32-bytes (length content) short) below in
+        by-identifier Bytes chunk (bytes-append (take 4 chunk) (bytes32 (length content) ++ content) (bytes-take 4 chunk b) new) (each chunk b)
 
   -- Without the new data it is the other change.
-  pub data-alike : Alike identifier (dataChanged identifier content others) others
+  pub data-alike : Alike identifier changed others
   data-alike chunk c e = ap (λ (b : Bool). cond b (withData content chunk) (others chunk)) e
 
 -- The chunk with covered letters has the new data.
-pub data-there : {letters : List ℕ} (covers : Covered letters) (content : List ℕ) (others : List ℕ → List ℕ) {chunk : List ℕ} → ChunkBytes chunk → take 4 chunk ≡ letters → dataChanged (identifierOf covers) content others chunk ≡ withData content chunk
-data-there covers content others {chunk} c named =
-    ap (λ (b : Bool). cond b (withData content chunk) (others chunk)) (eq-eqb (number32 chunk 0) (identifierOf covers) (chunk-named c covers .1 named))
+module _ {letters : List ℕ} (covers : Covered letters) (content : List ℕ) (others : List ℕ → List ℕ) where
+  pub data-there : {chunk : List ℕ} → ChunkBytes chunk → take 4 chunk ≡ letters → dataChanged (identifierOf covers) content others chunk ≡ withData content chunk
+  data-there {chunk} c named =
+      let named-so = eq-eqb (number32 chunk 0) (identifierOf covers) (chunk-named c covers .1 named) in
+      ap (λ (b : Bool). cond b (withData content chunk) (others chunk)) named-so
 
 -- A chunk by its place, with the new data and as it is.
 module _ {m chunk : List ℕ} {at : ℕ} (p : PartAt m at chunk) (c : ChunkBytes chunk) where
@@ -120,9 +125,14 @@ module _ {m chunk : List ℕ} {at : ℕ} (p : PartAt m at chunk) (c : ChunkBytes
   chunk-read = ap (partOf m at) (sym (c .size)) ∙ part-is p
 
 -- The module with other data in one chunk, by the chunk's place.
-pub data-at : {letters : List ℕ} (covers : Covered letters) {m header : List ℕ} {all : List (List ℕ)} → ChunkRules m header all → {chunk : List ℕ} → Among all letters chunk → (place : Place) → Found m all letters place → (content : List ℕ) → header ++ joined (map (dataChanged (identifierOf covers) content (λ c. c)) all) ≡ take (place .at + 4) m ++ (bytes32 (length content) ++ (content ++ drop (dataEnd place) m))
-data-at covers {m} rules {chunk} a place found content =
-    let c = every-among (rules .whole) a in
-    let front : take (place .at + 4) m ≡ take (place .at) m ++ take 4 chunk = front-taken (stands-part (found .stands chunk a)) 4 (omega (arith, c .size)) in
-    alone-at covers (data-alike (identifierOf covers) content (λ c. c)) rules a place found
-    ∙ rw (data-there covers content (λ c. c) c (a .named), front) (simp append-assoc)
+module _ {letters : List ℕ} (covers : Covered letters) (content : List ℕ) where
+  abbrev alone : List ℕ → List ℕ
+  alone = dataChanged (identifierOf covers) content (λ chunk. chunk)
+
+  module _ {m header : List ℕ} {all : List (List ℕ)} (rules : ChunkRules m header all) {chunk : List ℕ} (a : Among all letters chunk) where
+    pub data-at : (place : Place) → Found m all letters place → header ++ joined (map alone all) ≡ take (place .at + 4) m ++ (bytes32 (length content) ++ (content ++ drop (dataEnd place) m))
+    data-at place found =
+        let c = every-among (rules .whole) a in
+        let front : take (place .at + 4) m ≡ take (place .at) m ++ take 4 chunk = front-taken (stands-part (found .stands chunk a)) 4 (omega (arith, c .size)) in
+        alone-at covers (data-alike (identifierOf covers) content (λ one. one)) rules a place found
+        ∙ rw (data-there covers content (λ one. one) c (a .named), front) (simp append-assoc)

@@ -4,6 +4,7 @@ pub mod Ends
 pub mod Holding
 pub mod AllBytes
 pub mod MappedLists
+pub mod Splits
 pub mod Cutting
 pub mod FillingChunks
 pub mod BlockFields

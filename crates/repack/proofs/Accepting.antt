@@ -47,7 +47,7 @@ module _ (m : List ℕ) (bytes : Bytes m) (l : Layout) (o : opened m ≡ Found l
 
   pub module-replaced : repackedModule m l ≡ replaced m (l .places .patt) (repackedPatterns m l)
   module-replaced =
-      module-anew (outlined .rules) l ∙ data-at Covered.patt (outlined .rules) (outlined .mandatory .patt .1) (l .places .patt) (outlined .layout .patt) (repackedPatterns m l)
+      module-anew (outlined .rules) l ∙ data-at Covered.patt (repackedPatterns m l) (outlined .rules) (outlined .mandatory .patt .1) (l .places .patt) (outlined .layout .patt)
 
   -- 17, and what is written, by the length of the module with PATT's data anew.
   module _ (out : List ℕ) where

@@ -19,6 +19,8 @@ chunkAnew content = dataChanged PATT content (λ chunk. chunk)
 pub patt-change : (content : List ℕ) → Change (λ n. eqb n PATT || false) (chunkAnew content)
 patt-change content = data-change PATT content (λ chunk. chunk) no-change
 
-pub module-anew : {m header : List ℕ} {all : List (List ℕ)} → ChunkRules m header all → (l : Layout) → repackedModule m l ≡ header ++ joined (map (chunkAnew (repackedPatterns m l)) all)
-module-anew {m} rules l =
-    rw (chunks-read rules) (module-changed rules (repackedChunk m l) (chunkAnew (repackedPatterns m l)) (λ at chunk p c. rw (data-read p c (repackedPatterns m l), chunk-read p c) refl))
+module _ {m header : List ℕ} {all : List (List ℕ)} (rules : ChunkRules m header all) (l : Layout) where
+  pub module-anew : repackedModule m l ≡ header ++ joined (map (chunkAnew (repackedPatterns m l)) all)
+  module-anew =
+      let content : List ℕ = repackedPatterns m l in
+      rw (chunks-read rules) (module-changed rules (repackedChunk m l) (chunkAnew content) (λ at chunk p c. rw (data-read p c content, chunk-read p c) refl))

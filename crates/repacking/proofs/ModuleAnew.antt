@@ -149,15 +149,15 @@ module _ (m : List ℕ) (bytes : Bytes m) (l : Layout) (o : opened m ≡ Found l
 
   -- M2 to M9 of the module repacked.
   pub rules-anew : ChunkRules (repackedModule m l) header (map changed chunks)
-  rules-anew = rules-changed change rules repacked-bytes (omega (arith, no-longer, rules .limit)) refl (info-left change rules refl)
+  rules-anew = rules-changed rules change repacked-bytes (omega (arith, no-longer, rules .limit)) refl (info-left rules change refl)
 
   -- A chunk other than PATT is among the chunks of both.
   module _ {letters : List ℕ} (covers : Covered letters) (other : eqb (identifierOf covers) PATT || false ≡ false) {chunk : List ℕ} where
     pub stays-among : Among chunks letters chunk → Among (map changed chunks) letters chunk
-    stays-among = among-left change covers other (rules .whole)
+    stays-among = among-left change (rules .whole) covers other
 
     pub was-among : Among (map changed chunks) letters chunk → Among chunks letters chunk
-    was-among = left-among change covers other (rules .whole)
+    was-among = left-among change (rules .whole) covers other
 
   pub patt-among : Among (map changed chunks) pattLetters (changed patt)
   patt-among = among-changed change (rules .whole) pattThere
@@ -215,7 +215,8 @@ module _ (m : List ℕ) (bytes : Bytes m) (l : Layout) (o : opened m ≡ Found l
   bytes-anew =
       let content : List ℕ = repackedPatterns m l in
       let short : length content < 0x100000000 = omega (arith, data-shorter, patt-size, part-inside patt-part, small) in
-      subst Bytes (sym repacked-bytes) (bytes-changed changed header chunks (data-bytes PATT content (λ c. c) short content-bytes (λ chunk b. b)) (subst Bytes (rules .bytes) bytes))
+      let each = data-bytes PATT content (λ c. c) short content-bytes (λ chunk b. b) in
+      subst Bytes (sym repacked-bytes) (bytes-changed changed each header chunks (subst Bytes (rules .bytes) bytes))
 
   -- It opens, with a layout of its chunks.
   all-anew : Rules (repackedModule m l)

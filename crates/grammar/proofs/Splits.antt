@@ -1,14 +1,13 @@
--- Where one of a list stands, behind some and before others: what holds of each that stands there holds of every one; and where no two of
--- a list have a property, one that has it is the only one.
+-- Where one of a list stands, behind some and before others: what holds of each that stands there holds of every one, also in the list that
+-- a function gives; and where no two of a list have a property, one that has it is the only one.
 use Prim.Native.Nat.{ℕ}
-use mathlib.Core.Path.{_≡_, refl, sym, ap, _∙_}
+use mathlib.Core.Path.{_≡_, refl, sym, ap, subst, _∙_}
 use mathlib.Core.Logic.{_⊎_, inl, inr}
-use mathlib.Core.List.{List, [], _∷_, _++_, map}
+use mathlib.Core.List.{List, [], _∷_, _++_, map, append-assoc}
+use lib.ListN.{take}
 use Rattle.grammar.specs.Rules.{Every, none, also, Among}
 use Rattle.grammar.proofs.Holding.{every-append, every-first}
-use Rattle.grammar.proofs.MappedLists.{map-append}
-use Rattle.format.specs.Description.{Chunk}
-use Rattle.format.specs.WellFormed.{In}
+use Rattle.grammar.proofs.MappedLists.{map-append, map-split}
 
 -- This one stands in the list.
 pub record Within {A : Type 0} (xs : List A) (x : A) : Type 0 where
@@ -16,15 +15,12 @@ pub record Within {A : Type 0} (xs : List A) (x : A) : Type 0 where
   pub after : List A
   pub splits : xs ≡ before ++ (x ∷ after)
 
--- A chunk that stands among the chunks of the rules, or among those of a description.
+-- A chunk that stands among the chunks of the rules.
 pub among-within : {chunks : List (List ℕ)} {letters chunk : List ℕ} → Among chunks letters chunk → Within chunks chunk
 among-within a = record { before = a .before; after = a .after; splits = a .splits }
 
-pub in-within : {chunks : List Chunk} {c : Chunk} → In chunks c → Within chunks c
-in-within i = record { before = i .before; after = i .after; splits = i .splits }
-
-pub within-in : {chunks : List Chunk} {c : Chunk} → Within chunks c → In chunks c
-within-in w = record { before = w .before; after = w .after; splits = w .splits }
+pub within-among : {chunks : List (List ℕ)} {letters chunk : List ℕ} → Within chunks chunk → take 4 chunk ≡ letters → Among chunks letters chunk
+within-among w named = record { before = w .before; after = w .after; splits = w .splits; named = named }
 
 module _ {A : Type 0} where
   pub within-front : (x : A) (xs : List A) → Within (x ∷ xs) x
@@ -46,6 +42,11 @@ module _ {A : Type 0} where
   pub within-mapped : {B : Type 0} (f : A → B) {xs : List A} {x : A} → Within xs x → Within (map f xs) (f x)
   within-mapped f {x = x} w = record { before = map f (w .before); after = map f (w .after); splits = ap (map f) (w .splits) ∙ map-append f (w .before) (x ∷ w .after) }
 
+  pub mapped-within : {B : Type 0} (f : A → B) {xs : List A} {y : B} → Within (map f xs) y → (x : A) × Within xs x × (y ≡ f x)
+  mapped-within f {xs} {y} w =
+      let s = map-split f xs (w .before) (w .after) y (w .splits) in
+      (s .one, record { before = s .front; after = s .back; splits = s .splits }, s .oneIs)
+
   -- Two splits of one list: at the same place, or the one behind the other.
   two-splits : (before others : List A) {after rest : List A} {one two : A} → before ++ (one ∷ after) ≡ others ++ (two ∷ rest) → (one ≡ two) ⊎ (((between : List A) × (after ≡ between ++ (two ∷ rest))) ⊎ ((between : List A) × (rest ≡ between ++ (one ∷ after))))
   two-splits [] [] e = inl (cc)
@@ -64,3 +65,14 @@ module _ {A : Type 0} where
       go (inl same) = same
       go (inr (inl (between, s))) = absurd (never (v .before) between (w .after) one two (v .splits ∙ ap (λ (l : List A). v .before ++ (one ∷ l)) s) p q)
       go (inr (inr (between, s))) = absurd (never (w .before) between (v .after) two one (w .splits ∙ ap (λ (l : List A). w .before ++ (two ∷ l)) s) q p)
+
+-- No two of the list that a function gives have a property, where no two of the list have one that goes with it.
+pub no-two-mapped : {A B : Type 0} (f : A → B) (Q : B → Type 0) {P : A → Type 0} {xs : List A} → ((x : A) → Within xs x → Q (f x) → P x) → NoTwo P xs → NoTwo Q (map f xs)
+no-two-mapped {A} f Q {xs = xs} goes never before between after one two e p q =
+    let s = map-split f xs before (between ++ (two ∷ after)) one e in
+    let t = map-split f (s .back) between after two (sym (s .backIs)) in
+    let both : xs ≡ s .front ++ (s .one ∷ (t .front ++ (t .one ∷ t .back))) = s .splits ∙ ap (λ (l : List A). s .front ++ (s .one ∷ l)) (t .splits) in
+    let joins = append-assoc (s .front) (s .one ∷ t .front) (t .one ∷ t .back) in
+    let first : Within xs (s .one) = record { before = s .front; after = s .back; splits = s .splits } in
+    let second : Within xs (t .one) = record { before = s .front ++ (s .one ∷ t .front); after = t .back; splits = both ∙ sym joins } in
+    never (s .front) (t .front) (t .back) (s .one) (t .one) both (goes (s .one) first (subst Q (s .oneIs) p)) (goes (t .one) second (subst Q (t .oneIs) q))
