@@ -35,10 +35,13 @@ kindNumber others = 8
 abbrev pub isKind : Kind → Kind → Bool
 isKind kind k = eqb (kindNumber kind) (kindNumber k)
 
+abbrev pub SameLetters : (k : Kind) → Holding k → Holding k → Type 0
+SameLetters k old new = identifier (holder k new) ≡ identifier (holder k old)
+
 -- What becomes of a chunk: it stays; or its kind is one that changes, and it holds something else and keeps its identifier.
 pub data Becomes (changes : Kind → Bool) : Chunk → Chunk → Type 0 where
   stays : (c : Chunk) → Becomes changes c c
-  holds : (k : Kind) → changes k ≡ true → (old new : Holding k) → identifier (holder k new) ≡ identifier (holder k old) → Becomes changes (holder k old) (holder k new)
+  holds : (k : Kind) → changes k ≡ true → (old new : Holding k) → SameLetters k old new → Becomes changes (holder k old) (holder k new)
 
 kind-held : (k : Kind) (h : Holding k) → kindOf (holder k h) ≡ k
 kind-held named h = refl
@@ -111,10 +114,12 @@ abbrev pub changedDescription : (Chunk → Chunk) → Description → Descriptio
 changedDescription f d = record { version = d .version; revision = d .revision; reserved = d .reserved; chunks = map f (d .chunks) }
 
 -- Its bytes, where the bytes of each chunk are changed alike.
-pub encoded-changed : (d : Description) (f : Chunk → Chunk) (g : List ℕ → List ℕ) → ((c : Chunk) → In (d .chunks) c → g (chunkBytes c) ≡ chunkBytes (f c)) → headerBytes d ++ joined (map g (map chunkBytes (d .chunks))) ≡ encoded (changedDescription f d)
-encoded-changed d f g same =
-    let each = map-same (λ c. g (chunkBytes c)) (λ c. chunkBytes (f c)) (every-in (d .chunks) same) in
-    ap (λ (chunks : List (List ℕ)). headerBytes d ++ joined chunks) (map-map g chunkBytes (d .chunks) ∙ each ∙ sym (map-map chunkBytes f (d .chunks)))
+module _ (d : Description) (f : Chunk → Chunk) (g : List ℕ → List ℕ) (same : (c : Chunk) → In (d .chunks) c → g (chunkBytes c) ≡ chunkBytes (f c)) where
+  pub encoded-changed : headerBytes d ++ joined (map g (map chunkBytes (d .chunks))) ≡ encoded (changedDescription f d)
+  encoded-changed =
+      let each = map-same (λ c. g (chunkBytes c)) (λ c. chunkBytes (f c)) (every-in (d .chunks) same) in
+      let chunks = map-map g chunkBytes (d .chunks) ∙ each ∙ sym (map-map chunkBytes f (d .chunks)) in
+      ap (λ (list : List (List ℕ)). headerBytes d ++ joined list) chunks
 
 -- What the mandatory chunks then hold, and that it fits: M9, B1 to B5, V1, V2, V6 and V7. The instruments are as many as before.
 pub record HeldAfter {d : Description} (w : WellFormed d) (f : Chunk → Chunk) : Type 0 where
@@ -146,39 +151,43 @@ pub record LeavesRest (changes : Kind → Bool) : Type 0 where
   pub panning : changes pannings ≡ false
   pub other : changes others ≡ false
 
-pub changed-well-formed : {d : Description} (w : WellFormed d) {f : Chunk → Chunk} {changes : Kind → Bool} → Change changes f → LeavesRest changes → length (encoded (changedDescription f d)) ≤ 16777216 → HeldAfter w f → WellFormed (changedDescription f d)
-changed-well-formed {d} w {f} {changes} change rest limit held = record {
-  limit = limit;
-  version = w .version;
-  revision = w .revision;
-  reserved = w .reserved;
-  lengths = lengths-fit (changedDescription f d) limit;
-  once = once-changed f change (w .once);
-  infoFirst = infoFirst-changed f change (w .infoFirst);
-  others = λ letters bytes i. w .others letters bytes (was-in f change (rest .other) i);
-  name = λ name i. w .name name (was-in f change (rest .name) i);
-  info = held .info;
-  songs = held .songs;
-  instruments = held .instruments;
-  patterns = held .patterns;
-  samples = held .samples;
-  infoThere = there (held .infoIs) (w .infoThere);
-  songsThere = there (held .songsAre) (w .songsThere);
-  instrumentsThere = there (held .instrumentsAre) (w .instrumentsThere);
-  patternsThere = there (held .patternsAre) (w .patternsThere);
-  samplesThere = there (held .samplesAre) (w .samplesThere);
-  infoFits = held .infoFits;
-  songCount = held .songCount;
-  instrumentCount = held .instrumentCount;
-  patternCount = held .patternCount;
-  sampleCount = held .sampleCount;
-  songsFit = held .songsFit;
-  instrumentsFit = held .instrumentsFit;
-  patternsFit = held .patternsFit;
-  samplesFit = held .samplesFit;
-  volumeEnvelopes = λ es i. subst (λ (n : ℕ). EnvelopesFit n VolumeFits es) (held .asMany) (w .volumeEnvelopes es (was-in f change (rest .volume) i));
-  panningEnvelopes = λ es i. subst (λ (n : ℕ). EnvelopesFit n (PanningValueFits (d .version)) es) (held .asMany) (w .panningEnvelopes es (was-in f change (rest .panning) i));
-}
-  where
-    there : {c new : Chunk} → f c ≡ new → In (d .chunks) c → In (map f (d .chunks)) new
-    there is i = subst (In (map f (d .chunks))) is (in-changed f i)
+module _ {d : Description} (w : WellFormed d) {f : Chunk → Chunk} {changes : Kind → Bool} (change : Change changes f) (rest : LeavesRest changes) where
+  abbrev values : ℕ → Type 0
+  values = PanningValueFits (d .version)
+
+  pub changed-well-formed : length (encoded (changedDescription f d)) ≤ 16777216 → HeldAfter w f → WellFormed (changedDescription f d)
+  changed-well-formed limit held = record {
+    limit = limit;
+    version = w .version;
+    revision = w .revision;
+    reserved = w .reserved;
+    lengths = lengths-fit (changedDescription f d) limit;
+    once = once-changed f change (w .once);
+    infoFirst = infoFirst-changed f change (w .infoFirst);
+    others = λ letters bytes i. w .others letters bytes (was-in f change (rest .other) i);
+    name = λ name i. w .name name (was-in f change (rest .name) i);
+    info = held .info;
+    songs = held .songs;
+    instruments = held .instruments;
+    patterns = held .patterns;
+    samples = held .samples;
+    infoThere = there (held .infoIs) (w .infoThere);
+    songsThere = there (held .songsAre) (w .songsThere);
+    instrumentsThere = there (held .instrumentsAre) (w .instrumentsThere);
+    patternsThere = there (held .patternsAre) (w .patternsThere);
+    samplesThere = there (held .samplesAre) (w .samplesThere);
+    infoFits = held .infoFits;
+    songCount = held .songCount;
+    instrumentCount = held .instrumentCount;
+    patternCount = held .patternCount;
+    sampleCount = held .sampleCount;
+    songsFit = held .songsFit;
+    instrumentsFit = held .instrumentsFit;
+    patternsFit = held .patternsFit;
+    samplesFit = held .samplesFit;
+    volumeEnvelopes = λ es i. subst (λ (n : ℕ). EnvelopesFit n VolumeFits es) (held .asMany) (w .volumeEnvelopes es (was-in f change (rest .volume) i));
+    panningEnvelopes = λ es i. subst (λ (n : ℕ). EnvelopesFit n values es) (held .asMany) (w .panningEnvelopes es (was-in f change (rest .panning) i));
+  }
+    where
+      there : {c new : Chunk} → f c ≡ new → In (d .chunks) c → In (map f (d .chunks)) new
+      there is i = subst (In (map f (d .chunks))) is (in-changed f i)

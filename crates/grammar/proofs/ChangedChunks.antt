@@ -71,15 +71,18 @@ module _ {changes : ℕ → Bool} {f : List ℕ → List ℕ} (change : Change c
   once-changed {letters} once = no-two-mapped f (λ (chunk : List ℕ). take 4 chunk ≡ letters) letters-were once
 
 -- M7.
-behind-changed : {changes : ℕ → Bool} {f : List ℕ → List ℕ} → Change changes f → {all : List (List ℕ)} {letters : List ℕ} → Every ChunkBytes all → BehindInfo all letters → BehindInfo (map f all) letters
-behind-changed {f = f} change {all} whole behind before after chunk e named =
-    let s = map-split f all before after chunk e in
-    let one : Within all (s .one) = record { before = s .front; after = s .back; splits = s .splits } in
-    let first = every-append (s .front) (s .one ∷ s .back) .0 (rw (s .splits) at whole) .0 in
-    let found = behind (s .front) (s .back) (s .one) (s .splits) (letters-were change whole (s .one) one (ap (take 4) (sym (s .oneIs)) ∙ named)) in
-    (f (found .0), subst (λ (l : List (List ℕ)). Among l infoLetters (f (found .0))) (sym (s .frontIs)) (among-changed change first (found .1)))
+module _ {changes : ℕ → Bool} {f : List ℕ → List ℕ} (change : Change changes f) {all : List (List ℕ)} (whole : Every ChunkBytes all) where
+  behind-changed : {letters : List ℕ} → BehindInfo all letters → BehindInfo (map f all) letters
+  behind-changed behind before after chunk e named =
+      let s = map-split f all before after chunk e in
+      let one : Within all (s .one) = record { before = s .front; after = s .back; splits = s .splits } in
+      let first = every-append (s .front) (s .one ∷ s .back) .0 (rw (s .splits) at whole) .0 in
+      let letters = letters-were change whole (s .one) one (ap (take 4) (sym (s .oneIs)) ∙ named) in
+      let (info, there) = behind (s .front) (s .back) (s .one) (s .splits) letters in
+      (f info, subst (λ (l : List (List ℕ)). Among l infoLetters (f info)) (sym (s .frontIs)) (among-changed change first there))
 
-module _ {m header : List ℕ} {all : List (List ℕ)} (rules : ChunkRules m header all) {changes : ℕ → Bool} {f : List ℕ → List ℕ} (change : Change changes f) where
+module _ {m header : List ℕ} {all : List (List ℕ)} (rules : ChunkRules m header all) {changes : ℕ → Bool} {f : List ℕ → List ℕ}
+    (change : Change changes f) where
   -- M9 of INFO where it does not change.
   pub info-left : changes INFO ≡ false → (info : List ℕ) → Among all infoLetters info → InfoRules (f info)
   info-left left info a = subst InfoRules (sym (stays-as change (rules .whole) Covered.info left a)) (rules .info info a)
@@ -109,17 +112,20 @@ module _ (f : List ℕ → List ℕ) (each : (chunk : List ℕ) → Bytes chunk 
       bytes-append header (joined (map f all)) (bytes-front header (joined all) below) (bytes-joined (map f all) .0 (every-map f all .1 (every-of each old)))
 
 -- Two changes that differ in the chunk with one identifier at most.
-abbrev pub Alike : ℕ → (List ℕ → List ℕ) → (List ℕ → List ℕ) → Type 0
-Alike identifier f g = (chunk : List ℕ) → ChunkBytes chunk → eqb (number32 chunk 0) identifier ≡ false → f chunk ≡ g chunk
+abbrev pub SameBut : ℕ → (List ℕ → List ℕ) → (List ℕ → List ℕ) → Type 0
+SameBut identifier f g = (chunk : List ℕ) → ChunkBytes chunk → eqb (number32 chunk 0) identifier ≡ false → f chunk ≡ g chunk
 
-joined-length : {list : List (List ℕ)} (first : List (List ℕ)) (part : List ℕ) (last : List (List ℕ)) → list ≡ first ++ (part ∷ last) → length (joined list) ≡ length (joined first) + (length part + length (joined last))
-joined-length first part last e = rw (e, joined-append first (part ∷ last)) (omega (arith, length-append (joined first) (part ++ joined last), length-append part (joined last)))
+module _ (first last : List (List ℕ)) (part : List ℕ) {list : List (List ℕ)} (e : list ≡ first ++ (part ∷ last)) where
+  joined-length : length (joined list) ≡ length (joined first) + (length part + length (joined last))
+  joined-length =
+      let rest = length-append part (joined last) in
+      rw (e, joined-append first (part ∷ last)) (omega (arith, length-append (joined first) (part ++ joined last), rest))
 
-module _ {letters : List ℕ} (covers : Covered letters) {f g : List ℕ → List ℕ} (alike : Alike (identifierOf covers) f g) where
+module _ {letters : List ℕ} (covers : Covered letters) {f g : List ℕ → List ℕ} (agree : SameBut (identifierOf covers) f g) where
   others-same : {chunks : List (List ℕ)} → Every ChunkBytes chunks → (There chunks letters → ⊥) → map f chunks ≡ map g chunks
   others-same none absent = refl
   others-same (also {x = chunk} {xs = chunks} c e) absent =
-      let first = alike chunk c (ne-eqb _ _ (λ same. absent (chunk, among-front chunk chunks (chunk-named c covers .0 same)))) in
+      let first = agree chunk c (ne-eqb _ _ (λ same. absent (chunk, among-front chunk chunks (chunk-named c covers .0 same)))) in
       let rest = others-same e (λ there. absent (there .0, among-behind chunk (there .1))) in
       λ i. first i ∷ rest i
 
@@ -139,12 +145,12 @@ module _ {letters : List ℕ} (covers : Covered letters) {f g : List ℕ → Lis
     changed-length =
         let first : List (List ℕ) = map g (a .before) in
         let last : List (List ℕ) = map g (a .after) in
-        let here = joined-length first (f chunk) last split-changed in
-        let there = joined-length first (g chunk) last (ap (map g) (a .splits) ∙ map-append g (a .before) (chunk ∷ a .after)) in
+        let here = joined-length first last (f chunk) split-changed in
+        let there = joined-length first last (g chunk) (ap (map g) (a .splits) ∙ map-append g (a .before) (chunk ∷ a .after)) in
         omega (arith, here, there)
 
 -- One chunk changes and no other.
-module _ {letters : List ℕ} (covers : Covered letters) {f : List ℕ → List ℕ} (alone : Alike (identifierOf covers) f (λ chunk. chunk)) where
+module _ {letters : List ℕ} (covers : Covered letters) {f : List ℕ → List ℕ} (alone : SameBut (identifierOf covers) f (λ chunk. chunk)) where
   module _ {m header : List ℕ} {all : List (List ℕ)} (rules : ChunkRules m header all) {chunk : List ℕ} (a : Among all letters chunk) where
     pub split-alone : map f all ≡ a .before ++ (f chunk ∷ a .after)
     split-alone = split-changed covers alone rules a ∙ rw (map-itself (a .before), map-itself (a .after)) refl
@@ -164,7 +170,8 @@ module _ {letters : List ℕ} (covers : Covered letters) {f : List ℕ → List 
         let end : length (before ++ chunk) ≡ dataEnd place = omega (arith, long, length-append before chunk, found .stands chunk a .size) in
         let split : m ≡ before ++ (chunk ++ after) = bytes-split rules a in
         let front : take (place .at) m ≡ before = ap (take (place .at)) split ∙ take-at before (chunk ++ after) (place .at) long in
-        let rest : drop (dataEnd place) m ≡ after = ap (drop (dataEnd place)) (split ∙ sym (append-assoc before chunk after)) ∙ drop-at (before ++ chunk) after (dataEnd place) end in
+        let parts : m ≡ (before ++ chunk) ++ after = split ∙ sym (append-assoc before chunk after) in
+        let rest : drop (dataEnd place) m ≡ after = ap (drop (dataEnd place)) parts ∙ drop-at (before ++ chunk) after (dataEnd place) end in
         rw (split-alone, joined-append (a .before) (f chunk ∷ a .after), front, rest) (simp append-assoc)
 
 -- Chunks as the check reads them: what is made of each record, by its place, is the change of the chunk that begins there.

@@ -21,7 +21,7 @@ use Rattle.grammar.proofs.Cutting.{part-front, front-taken}
 use Rattle.grammar.proofs.Identifiers.{identifierOf, chunk-named, letters-number}
 use Rattle.grammar.proofs.Recorded.{every-among}
 use Rattle.grammar.proofs.ChunkHalf.{stands-part}
-use Rattle.grammar.proofs.ChangedChunks.{Change, Alike, alone-at}
+use Rattle.grammar.proofs.ChangedChunks.{Change, SameBut, alone-at}
 
 -- A chunk with other data (M5).
 abbrev pub withData : List ℕ → List ℕ → List ℕ
@@ -65,11 +65,14 @@ module _ (identifier : ℕ) (content : List ℕ) (others : List ℕ → List ℕ
   abbrev changed : List ℕ → List ℕ
   changed = dataChanged identifier content others
 
+  abbrev changedIf : Bool → List ℕ → List ℕ
+  changedIf b chunk = cond b (withData content chunk) (others chunk)
+
   -- What holds of a chunk with the new data, and of a chunk otherwise changed, holds of the changed chunk.
   by-identifier : (P : List ℕ → Type 0) (chunk : List ℕ) → P (withData content chunk) → P (others chunk) → P (changed chunk)
   by-identifier P chunk new other = go (eqb (number32 chunk 0) identifier)
     where
-      go : (b : Bool) → P (cond b (withData content chunk) (others chunk))
+      go : (b : Bool) → P (changedIf b chunk)
       go true = new
       go false = other
 
@@ -81,7 +84,7 @@ module _ (identifier : ℕ) (content : List ℕ) (others : List ℕ → List ℕ
       stays = λ chunk c e. go chunk c (eqb (number32 chunk 0) identifier) e;
     }
       where
-        go : (chunk : List ℕ) → ChunkBytes chunk → (b : Bool) → b || changes (number32 chunk 0) ≡ false → cond b (withData content chunk) (others chunk) ≡ chunk
+        go : (chunk : List ℕ) → ChunkBytes chunk → (b : Bool) → b || changes (number32 chunk 0) ≡ false → changedIf b chunk ≡ chunk
         go chunk c true e = let z : _≡_ {A = ℕ} 0 1 = cc in absurd (omega arith)
         go chunk c false e = change .stays chunk c e
 
@@ -92,7 +95,7 @@ module _ (identifier : ℕ) (content : List ℕ) (others : List ℕ → List ℕ
         same-number : (new : List ℕ) → take 4 new ≡ take 4 chunk → number32 new 0 ≡ number32 chunk 0
         same-number new same = letters-number new (take 4 chunk) same ∙ sym (letters-number chunk (take 4 chunk) refl)
 
-        go : (b : Bool) → eqb (number32 chunk 0) identifier ≡ b → changed (cond b (withData content chunk) (others chunk)) ≡ cond b (withData content chunk) (others chunk)
+        go : (b : Bool) → eqb (number32 chunk 0) identifier ≡ b → changed (changedIf b chunk) ≡ changedIf b chunk
         go true e =
             let letters = data-letters content chunk c in
             rw (same-number (withData content chunk) letters, e) (ap (λ (front : List ℕ). front ++ (bytes32 (length content) ++ content)) letters)
@@ -106,15 +109,18 @@ module _ (identifier : ℕ) (content : List ℕ) (others : List ℕ → List ℕ
         by-identifier Bytes chunk (bytes-append (take 4 chunk) (bytes32 (length content) ++ content) (bytes-take 4 chunk b) new) (each chunk b)
 
   -- Without the new data it is the other change.
-  pub data-alike : Alike identifier changed others
-  data-alike chunk c e = ap (λ (b : Bool). cond b (withData content chunk) (others chunk)) e
+  pub data-same-but : SameBut identifier changed others
+  data-same-but chunk c e = ap (λ (b : Bool). changedIf b chunk) e
 
 -- The chunk with covered letters has the new data.
 module _ {letters : List ℕ} (covers : Covered letters) (content : List ℕ) (others : List ℕ → List ℕ) where
-  pub data-there : {chunk : List ℕ} → ChunkBytes chunk → take 4 chunk ≡ letters → dataChanged (identifierOf covers) content others chunk ≡ withData content chunk
+  abbrev given : List ℕ → List ℕ
+  given = dataChanged (identifierOf covers) content others
+
+  pub data-there : {chunk : List ℕ} → ChunkBytes chunk → take 4 chunk ≡ letters → given chunk ≡ withData content chunk
   data-there {chunk} c named =
-      let named-so = eq-eqb (number32 chunk 0) (identifierOf covers) (chunk-named c covers .1 named) in
-      ap (λ (b : Bool). cond b (withData content chunk) (others chunk)) named-so
+      let is = eq-eqb (number32 chunk 0) (identifierOf covers) (chunk-named c covers .1 named) in
+      ap (λ (b : Bool). cond b (withData content chunk) (others chunk)) is
 
 -- A chunk by its place, with the new data and as it is.
 module _ {m chunk : List ℕ} {at : ℕ} (p : PartAt m at chunk) (c : ChunkBytes chunk) where
@@ -129,10 +135,14 @@ module _ {letters : List ℕ} (covers : Covered letters) (content : List ℕ) wh
   abbrev alone : List ℕ → List ℕ
   alone = dataChanged (identifierOf covers) content (λ chunk. chunk)
 
+  -- The same by appending to the module's bytes before the chunk's length and after the chunk.
+  abbrev spliced : List ℕ → Place → List ℕ
+  spliced m place = take (place .at + 4) m ++ (bytes32 (length content) ++ (content ++ drop (dataEnd place) m))
+
   module _ {m header : List ℕ} {all : List (List ℕ)} (rules : ChunkRules m header all) {chunk : List ℕ} (a : Among all letters chunk) where
-    pub data-at : (place : Place) → Found m all letters place → header ++ joined (map alone all) ≡ take (place .at + 4) m ++ (bytes32 (length content) ++ (content ++ drop (dataEnd place) m))
+    pub data-at : (place : Place) → Found m all letters place → header ++ joined (map alone all) ≡ spliced m place
     data-at place found =
         let c = every-among (rules .whole) a in
-        let front : take (place .at + 4) m ≡ take (place .at) m ++ take 4 chunk = front-taken (stands-part (found .stands chunk a)) 4 (omega (arith, c .size)) in
-        alone-at covers (data-alike (identifierOf covers) content (λ one. one)) rules a place found
+        let front = front-taken (stands-part (found .stands chunk a)) 4 (omega (arith, c .size)) in
+        alone-at covers (data-same-but (identifierOf covers) content (λ one. one)) rules a place found
         ∙ rw (data-there covers content (λ one. one) c (a .named), front) (simp append-assoc)

@@ -67,12 +67,13 @@ module _ {A : Type 0} where
       go (inr (inr (between, s))) = absurd (never (w .before) between (v .after) two one (w .splits ∙ ap (λ (l : List A). w .before ++ (two ∷ l)) s) q p)
 
 -- No two of the list that a function gives have a property, where no two of the list have one that goes with it.
-pub no-two-mapped : {A B : Type 0} (f : A → B) (Q : B → Type 0) {P : A → Type 0} {xs : List A} → ((x : A) → Within xs x → Q (f x) → P x) → NoTwo P xs → NoTwo Q (map f xs)
-no-two-mapped {A} f Q {xs = xs} goes never before between after one two e p q =
-    let s = map-split f xs before (between ++ (two ∷ after)) one e in
-    let t = map-split f (s .back) between after two (sym (s .backIs)) in
-    let both : xs ≡ s .front ++ (s .one ∷ (t .front ++ (t .one ∷ t .back))) = s .splits ∙ ap (λ (l : List A). s .front ++ (s .one ∷ l)) (t .splits) in
-    let joins = append-assoc (s .front) (s .one ∷ t .front) (t .one ∷ t .back) in
-    let first : Within xs (s .one) = record { before = s .front; after = s .back; splits = s .splits } in
-    let second : Within xs (t .one) = record { before = s .front ++ (s .one ∷ t .front); after = t .back; splits = both ∙ sym joins } in
-    never (s .front) (t .front) (t .back) (s .one) (t .one) both (goes (s .one) first (subst Q (s .oneIs) p)) (goes (t .one) second (subst Q (t .oneIs) q))
+module _ {A B : Type 0} (f : A → B) (Q : B → Type 0) {P : A → Type 0} {xs : List A} where
+  pub no-two-mapped : ((x : A) → Within xs x → Q (f x) → P x) → NoTwo P xs → NoTwo Q (map f xs)
+  no-two-mapped goes never before between after one two e p q =
+      let s = map-split f xs before (between ++ (two ∷ after)) one e in
+      let t = map-split f (s .back) between after two (sym (s .backIs)) in
+      let both : xs ≡ s .front ++ (s .one ∷ (t .front ++ (t .one ∷ t .back))) = s .splits ∙ ap (λ (l : List A). s .front ++ (s .one ∷ l)) (t .splits) in
+      let joins = append-assoc (s .front) (s .one ∷ t .front) (t .one ∷ t .back) in
+      let first : Within xs (s .one) = record { before = s .front; after = s .back; splits = s .splits } in
+      let second : Within xs (t .one) = record { before = s .front ++ (s .one ∷ t .front); after = t .back; splits = both ∙ sym joins } in
+      never (s .front) (t .front) (t .back) (s .one) (t .one) both (goes (s .one) first (subst Q (s .oneIs) p)) (goes (t .one) second (subst Q (t .oneIs) q))

@@ -28,7 +28,7 @@ use Rattle.grammar.proofs.Identifiers.{identifierOf}
 use Rattle.grammar.proofs.Recorded.{every-among}
 use Rattle.grammar.proofs.ChunkHalf.{Outlined, bytes-split}
 use Rattle.grammar.proofs.ChangedChunks.{Change, among-changed, among-left, left-among, rules-changed, info-left, bytes-changed, alone-length}
-use Rattle.grammar.proofs.ChangedData.{withData, data-size, data-filled, data-bytes, data-alike, data-there}
+use Rattle.grammar.proofs.ChangedData.{withData, data-size, data-filled, data-bytes, data-same-but, data-there}
 use Rattle.grammar.proofs.FillingChunks.{BlocksIn, filled-blocks}
 use Rattle.grammar.proofs.BlockStreams.{TracksFit, accepted-says, pattern-sized, pattern-holds}
 use Rattle.grammar.proofs.ContentHalf.{counted, content-follows}
@@ -141,7 +141,7 @@ module _ (m : List ℕ) (bytes : Bytes m) (l : Layout) (o : opened m ≡ Found l
 
   pub repacked-size : length (repackedModule m l) + length (joined blocks) ≡ length m + length (repackedPatterns m l)
   repacked-size =
-      let alone = alone-length Covered.patt (data-alike PATT (repackedPatterns m l) (λ c. c)) rules pattThere in
+      let alone = alone-length Covered.patt (data-same-but PATT (repackedPatterns m l) (λ c. c)) rules pattThere in
       omega (arith, ap length repacked-bytes, alone, ap length patt-changed, data-size (repackedPatterns m l) patt patt-bytes, patt-size)
 
   pub no-longer : length (repackedModule m l) ≤ length m

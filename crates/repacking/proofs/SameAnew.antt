@@ -28,7 +28,7 @@ use Rattle.grammar.proofs.MappedLists.{map-stays}
 use Rattle.grammar.proofs.Cutting.{Sized, sized-least, block-there}
 use Rattle.grammar.proofs.Identifiers.{number-letters}
 use Rattle.grammar.proofs.ChangedChunks.{split-alone}
-use Rattle.grammar.proofs.ChangedData.{withData, data-alike}
+use Rattle.grammar.proofs.ChangedData.{withData, data-same-but}
 use Rattle.grammar.proofs.FoundBlocks.{found-numbered, counted-found}
 use Rattle.repack.specs.Repacked.{packed, repackedStream, repackedPatterns, repackedModule}
 use Rattle.repack.proofs.Accepting.{patterns-in, module-replaced}
@@ -184,7 +184,7 @@ module _ (m : List ℕ) (bytes : Bytes m) (l : Layout) (o : opened m ≡ Found l
   module-same e =
       let a = pattThere m bytes l o in
       repacked-bytes m bytes l o
-      ∙ ap (λ (list : List (List ℕ)). header m bytes l o ++ joined list) (split-alone Covered.patt (data-alike PATT (repackedPatterns m l) (λ c. c)) (rules m bytes l o) a ∙ ap (λ (chunk : List ℕ). a .before ++ (chunk ∷ a .after)) (patt-changed m bytes l o ∙ patt-same e) ∙ sym (a .splits))
+      ∙ ap (λ (list : List (List ℕ)). header m bytes l o ++ joined list) (split-alone Covered.patt (data-same-but PATT (repackedPatterns m l) (λ c. c)) (rules m bytes l o) a ∙ ap (λ (chunk : List ℕ). a .before ++ (chunk ∷ a .after)) (patt-changed m bytes l o ∙ patt-same e) ∙ sym (a .splits))
       ∙ sym (rules m bytes l o .bytes)
 
   -- Where the module repacked is the module, PATT's data stayed.
