@@ -39,7 +39,7 @@ use Rattle.grammar.proofs.ContentHalf.{counted, count-same}
 use Rattle.showing.proofs.Alike.{SameBlock, SamePattern, SameThing, FoundAlike, neither, both, Alike}
 use Rattle.repack.specs.Repacked.{repackedModule}
 use Rattle.repacking.proofs.BlockAnew.{blockAnew, packed-same, rows-same, SoundBlock, anew-sound, anew-rows, anew-cells}
-use Rattle.repacking.proofs.ModuleAnew.{outline-of, chunks, patt, content-of, blocks, anew, blocks-in, sound-blocks, sound-anew, changed, rules, stays-among, was-among, patt-among, filled-anew, opens-anew}
+use Rattle.repacking.proofs.ModuleAnew.{all-of, layout-of, header, chunks, patt, blocks, anew, blocks-in, sound-blocks, sound-anew, changed, rules, stays-among, was-among, patt-among, filled-anew, opens-anew}
 
 -- The same blocks in two modules.
 same-block : {kind : Kind} {m n : List ℕ} {start from front other : ℕ} {chunk chunk′ : List ℕ} {count count′ : ℕ} {list : List (List ℕ)} → BlocksIn kind m start front chunk count list → BlocksIn kind n from other chunk′ count′ list → (i : ℕ) → i < count → SameBlock kind m n (placeAfter (sizeOf kind m) i start) (placeAfter (sizeOf kind n) i from)
@@ -84,18 +84,18 @@ module _ (m : List ℕ) (bytes : Bytes m) (l : Layout) (o : opened m ≡ Opened 
   pub otherOpens : opened n ≡ Opened k
   otherOpens = opens-anew m bytes l o .1
 
-  first : LayoutOf m (outline-of m bytes l o .header) (chunks m bytes l o) l
-  first = outline-of m bytes l o .layout
+  first : LayoutOf m (header m bytes l o) (chunks m bytes l o) l
+  first = layout-of m bytes l o
 
-  second : LayoutOf n (outline-of m bytes l o .header) (map (changed m bytes l o) (chunks m bytes l o)) k
+  second : LayoutOf n (header m bytes l o) (map (changed m bytes l o) (chunks m bytes l o)) k
   second = opens-anew m bytes l o .2
 
   -- INFO's numbers.
   pub counts : (k .instruments ≡ l .instruments) × (k .samples ≡ l .samples) × (k .songs ≡ l .songs) × (k .patterns ≡ l .patterns) × (k .tracks ≡ l .tracks)
   counts =
-      let a = outline-of m bytes l o .mandatory .info .1 in
-      let here = first .counts (outline-of m bytes l o .mandatory .info .0) a in
-      let there = second .counts (outline-of m bytes l o .mandatory .info .0) (stays-among m bytes l o Covered.info refl a) in
+      let a = all-of m bytes l o .infoThere in
+      let here = first .counts (all-of m bytes l o .info) a in
+      let there = second .counts (all-of m bytes l o .info) (stays-among m bytes l o Covered.info refl a) in
       (there .0 ∙ sym (here .0), there .1 ∙ sym (here .1), there .2 ∙ sym (here .2), there .3 ∙ sym (here .3), there .4 ∙ sym (here .4))
 
   -- A chunk other than PATT.
@@ -146,8 +146,8 @@ module _ (m : List ℕ) (bytes : Bytes m) (l : Layout) (o : opened m ≡ Opened 
   panning = same-chunk Covered.penv refl (l .places .penv) (k .places .penv) (first .penv) (second .penv)
 
   -- The counts as INFO has them.
-  info-there : Among (chunks m bytes l o) infoLetters (outline-of m bytes l o .mandatory .info .0)
-  info-there = outline-of m bytes l o .mandatory .info .1
+  info-there : Among (chunks m bytes l o) infoLetters (all-of m bytes l o .info)
+  info-there = all-of m bytes l o .infoThere
 
   -- The blocks of a chunk that stands in both.
   same-blocks : (kind : Kind) (front : ℕ) {letters : List ℕ} → (covers : Covered letters) → eqb (identifierOf covers) PATT || false ≡ false → (p q : Place) → Standing m (chunks m bytes l o) letters p → Standing n (map (changed m bytes l o) (chunks m bytes l o)) letters q → {chunk : List ℕ} → Among (chunks m bytes l o) letters chunk → {number count others : ℕ} → count ≡ number → others ≡ number → (list : List (List ℕ)) → Filled front chunk number list → Every (Sized kind) list → (i : ℕ) → i < count → SameBlock kind m n (placeAfter (sizeOf kind m) i (p .at + front)) (placeAfter (sizeOf kind n) i (q .at + front))
@@ -157,7 +157,7 @@ module _ (m : List ℕ) (bytes : Bytes m) (l : Layout) (o : opened m ≡ Opened 
       (filled-blocks (g .stands chunk (stays-among m bytes l o covers other a)) kind front others list (counted (sym d) filled) sized) i h
 
   pub patterns-there : BlocksIn PatternKind n (k .places .patt .at + 8) 8 (changed m bytes l o (patt m bytes l o)) (k .patterns) (anew m bytes l o)
-  patterns-there = filled-blocks (second .patt .stands (changed m bytes l o (patt m bytes l o)) (patt-among m bytes l o)) PatternKind 8 (k .patterns) (anew m bytes l o) (counted (sym (second .counts (outline-of m bytes l o .mandatory .info .0) (stays-among m bytes l o Covered.info refl (outline-of m bytes l o .mandatory .info .1)) .3)) (filled-anew m bytes l o)) (every-of (λ block b. b .sized) (sound-anew m bytes l o))
+  patterns-there = filled-blocks (second .patt .stands (changed m bytes l o (patt m bytes l o)) (patt-among m bytes l o)) PatternKind 8 (k .patterns) (anew m bytes l o) (counted (sym (second .counts (all-of m bytes l o .info) (stays-among m bytes l o Covered.info refl (all-of m bytes l o .infoThere)) .3)) (filled-anew m bytes l o)) (every-of (λ block b. b .sized) (sound-anew m bytes l o))
 
   -- What is asked for is there in both, or in neither.
   same-countOf : (thing : Thing) → countOf n k thing ≡ countOf m l thing
@@ -165,13 +165,13 @@ module _ (m : List ℕ) (bytes : Bytes m) (l : Layout) (o : opened m ≡ Opened 
   same-countOf Instrument = counts .0
   same-countOf Pattern = counts .3
   same-countOf Sample = counts .1
-  same-countOf VolumeEnvelope = same-count (l .places .venv) (k .places .venv) (content-of m bytes l o .volumeEnvelopes) volume
-  same-countOf PanningEnvelope = same-count (l .places .penv) (k .places .penv) (content-of m bytes l o .panningEnvelopes) panning
+  same-countOf VolumeEnvelope = same-count (l .places .venv) (k .places .venv) (all-of m bytes l o .content .volumeEnvelopes) volume
+  same-countOf PanningEnvelope = same-count (l .places .penv) (k .places .penv) (all-of m bytes l o .content .panningEnvelopes) panning
 
   -- Its block in both.
   same-thing : (thing : Thing) (i : ℕ) → i < countOf m l thing → SameThing thing (l .tracks) m n (blockAt m (kindOf thing) (chunkOf l thing) i) (blockAt n (kindOf thing) (chunkOf k thing) i)
-  same-thing Song i h = same-blocks SongKind 8 Covered.song refl (l .places .song) (k .places .song) (first .song) (second .song) (outline-of m bytes l o .mandatory .song .1) (first .counts _ info-there .2) (second .counts _ (stays-among m bytes l o Covered.info refl info-there) .2) (content-of m bytes l o .songs) (content-of m bytes l o .songsFill) (every-of (song-sized (length (blocks m bytes l o))) (content-of m bytes l o .songRules)) i h
-  same-thing Instrument i h = same-blocks InstrumentKind 8 Covered.inst refl (l .places .inst) (k .places .inst) (first .inst) (second .inst) (outline-of m bytes l o .mandatory .inst .1) (first .counts _ info-there .0) (second .counts _ (stays-among m bytes l o Covered.info refl info-there) .0) (content-of m bytes l o .instruments) (content-of m bytes l o .instrumentsFill) (every-of (instrument-sized (content-of m bytes l o .samples)) (content-of m bytes l o .instrumentRules)) i h
+  same-thing Song i h = same-blocks SongKind 8 Covered.song refl (l .places .song) (k .places .song) (first .song) (second .song) (all-of m bytes l o .songThere) (first .counts _ info-there .2) (second .counts _ (stays-among m bytes l o Covered.info refl info-there) .2) (all-of m bytes l o .content .songs) (all-of m bytes l o .content .songsFill) (every-of (song-sized (length (blocks m bytes l o))) (all-of m bytes l o .content .songRules)) i h
+  same-thing Instrument i h = same-blocks InstrumentKind 8 Covered.inst refl (l .places .inst) (k .places .inst) (first .inst) (second .inst) (all-of m bytes l o .instThere) (first .counts _ info-there .0) (second .counts _ (stays-among m bytes l o Covered.info refl info-there) .0) (all-of m bytes l o .content .instruments) (all-of m bytes l o .content .instrumentsFill) (every-of (instrument-sized (all-of m bytes l o .content .samples)) (all-of m bytes l o .content .instrumentRules)) i h
   same-thing Pattern i h =
       let list : List (List ℕ) = blocks m bytes l o in
       let inside : i < length list = omega (arith, blocks-in m bytes l o .filled .number) in
@@ -181,9 +181,9 @@ module _ (m : List ℕ) (bytes : Bytes m) (l : Layout) (o : opened m ≡ Opened 
       let there = block-there PatternKind (anew m bytes l o) i (omega (arith, size)) (patterns-there .there) (patterns-there .sized) in
       let same : getD (anew m bytes l o) i [] ≡ blockAnew (l .tracks) block = getD-mapped (blockAnew (l .tracks)) list i [] [] inside in
       same-pattern (l .tracks) block (every-at i [] inside (sound-blocks m bytes l o)) here (rw same at there)
-  same-thing Sample i h = same-blocks SampleKind 8 Covered.smpl refl (l .places .smpl) (k .places .smpl) (first .smpl) (second .smpl) (outline-of m bytes l o .mandatory .smpl .1) (first .counts _ info-there .1) (second .counts _ (stays-among m bytes l o Covered.info refl info-there) .1) (content-of m bytes l o .samples) (content-of m bytes l o .samplesFill) (every-of sample-sized (content-of m bytes l o .sampleRules)) i h
-  same-thing VolumeEnvelope i h = same-envelope (l .places .venv) (k .places .venv) (content-of m bytes l o .volumeEnvelopes) volume i h
-  same-thing PanningEnvelope i h = same-envelope (l .places .penv) (k .places .penv) (content-of m bytes l o .panningEnvelopes) panning i h
+  same-thing Sample i h = same-blocks SampleKind 8 Covered.smpl refl (l .places .smpl) (k .places .smpl) (first .smpl) (second .smpl) (all-of m bytes l o .smplThere) (first .counts _ info-there .1) (second .counts _ (stays-among m bytes l o Covered.info refl info-there) .1) (all-of m bytes l o .content .samples) (all-of m bytes l o .content .samplesFill) (every-of sample-sized (all-of m bytes l o .content .sampleRules)) i h
+  same-thing VolumeEnvelope i h = same-envelope (l .places .venv) (k .places .venv) (all-of m bytes l o .content .volumeEnvelopes) volume i h
+  same-thing PanningEnvelope i h = same-envelope (l .places .penv) (k .places .penv) (all-of m bytes l o .content .panningEnvelopes) panning i h
 
   found-alike : (thing : Thing) (number : ℕ) → FoundAlike thing m n (found m thing number) (found n thing number)
   found-alike thing number =

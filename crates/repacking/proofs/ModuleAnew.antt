@@ -16,7 +16,7 @@ use Rattle.layout.specs.declared.Outline.the-variants.{Found}
 use Rattle.blocks.specs.Sizes.{sizeOf, placesFrom}
 use Rattle.blocks.specs.declared.Kind.the-variants.{Pattern}
 use Rattle.module.specs.Streams.{packedBytes, patternStreamRules, streamVerdict}
-use Rattle.module.specs.Verdicts.{opened}
+use Rattle.module.specs.Verdicts.{opened, verdictOf}
 use Rattle.grammar.specs.Rules.{Bytes, Every, none, also, ChunkBytes, Among, Covered, ChunkRules, Filled, PatternRules, Content, Rules, pattLetters}
 use Rattle.grammar.proofs.Standing.{LayoutOf}
 use Rattle.grammar.proofs.Locating.{PartAt, part-inside}
@@ -26,18 +26,17 @@ use Rattle.grammar.proofs.MappedLists.{every-map}
 use Rattle.grammar.proofs.Cutting.{Sized, part-first, part-rest, places-blocks}
 use Rattle.grammar.proofs.Identifiers.{identifierOf}
 use Rattle.grammar.proofs.Recorded.{every-among}
-use Rattle.grammar.proofs.ChunkHalf.{Outlined, bytes-split}
+use Rattle.grammar.proofs.ChunkHalf.{bytes-split}
 use Rattle.grammar.proofs.ChangedChunks.{Change, among-changed, among-left, left-among, rules-changed, info-left, bytes-changed, alone-length}
 use Rattle.grammar.proofs.ChangedData.{withData, data-size, data-filled, data-bytes, data-same-but, data-there}
 use Rattle.grammar.proofs.FillingChunks.{BlocksIn, filled-blocks}
-use Rattle.grammar.proofs.BlockStreams.{TracksFit, accepted-says, pattern-sized, pattern-holds}
-use Rattle.grammar.proofs.ContentHalf.{counted, content-follows}
-use Rattle.grammar.proofs.Acceptance.{rules-open}
+use Rattle.grammar.proofs.BlockStreams.{accepted-says, pattern-sized, pattern-holds}
+use Rattle.grammar.proofs.ContentHalf.{counted}
+use Rattle.grammar.proofs.Acceptance.{rules-open, accepted-exactly}
 use Rattle.grammar.proofs.FoundBlocks.{Opens, module-opens}
 use Rattle.repack.specs.Repacked.{packed, repackedStream, repackedBlock, repackedPatterns, repackedModule}
 use Rattle.repack.proofs.Anew.{packed-size}
 use Rattle.repack.proofs.ChunksAnew.{chunkAnew, patt-change, module-anew}
-use Rattle.repack.proofs.Accepting.{outlined}
 use Rattle.repacking.proofs.PackedBytes.{packed-bytes}
 use Rattle.repacking.proofs.BlockAnew.{blockAnew, packed-same, rows-same, blocks-anew, SoundBlock, anew-sound, anew-shorter}
 
@@ -59,46 +58,45 @@ sound-rules : (tracks : ℕ) (block : List ℕ) → SoundBlock tracks block → 
 sound-rules tracks block b = pattern-holds (whole-part block) (b .sized) tracks (every-one _ .1 (accepted-says _ .1 (b .accepted)))
 
 module _ (m : List ℕ) (bytes : Bytes m) (l : Layout) (o : opened m ≡ Found l) where
-  pub outline-of : Outlined m l
-  outline-of = outlined m bytes l o
+  pub all-of : Rules m
+  all-of = accepted-exactly m bytes .0 (ap verdictOf o)
+
+  pub layout-of : LayoutOf m (all-of .header) (all-of .chunks) l
+  layout-of =
+      let (k, found, layout) = rules-open m bytes all-of in
+      let same : k ≡ l = cc (sym found ∙ o) in
+      subst (LayoutOf m (all-of .header) (all-of .chunks)) same layout
 
   pub opens : Opens m l
   opens = module-opens m l o
 
   abbrev pub header : List ℕ
-  header = outline-of .header
+  header = all-of .header
 
   abbrev pub chunks : List (List ℕ)
-  chunks = outline-of .chunks
+  chunks = all-of .chunks
 
   pub rules : ChunkRules m header chunks
-  rules = outline-of .rules
+  rules = all-of .chunkRules
 
   abbrev pub patt : List ℕ
-  patt = outline-of .mandatory .patt .0
+  patt = all-of .patt
 
   pub pattThere : Among chunks pattLetters patt
-  pattThere = outline-of .mandatory .patt .1
+  pattThere = all-of .pattThere
 
-  tracks-fit : TracksFit (number16 (outline-of .mandatory .info .0) 16)
-  tracks-fit = rules .info (outline-of .mandatory .info .0) (outline-of .mandatory .info .1) .tracks
-
-  pub content-of : Content header chunks (outline-of .mandatory .info .0) (outline-of .mandatory .song .0) (outline-of .mandatory .inst .0) patt (outline-of .mandatory .smpl .0)
-  content-of =
-      content-follows (outline-of .layout) (rules .version) (outline-of .mandatory .info .1) (outline-of .mandatory .song .1) (outline-of .mandatory .inst .1) pattThere (outline-of .mandatory .smpl .1) tracks-fit bytes (opens .content)
-
-  pub tracks-are : number16 (outline-of .mandatory .info .0) 16 ≡ l .tracks
-  tracks-are = sym (outline-of .layout .counts (outline-of .mandatory .info .0) (outline-of .mandatory .info .1) .4)
+  pub tracks-are : number16 (all-of .info) 16 ≡ l .tracks
+  tracks-are = sym (layout-of .counts (all-of .info) (all-of .infoThere) .4)
 
   -- The blocks of the patterns, and the same anew.
   abbrev pub blocks : List (List ℕ)
-  blocks = content-of .patterns
+  blocks = all-of .content .patterns
 
   abbrev pub anew : List (List ℕ)
   anew = map (blockAnew (l .tracks)) blocks
 
   pub blocks-in : BlocksIn Pattern m (l .places .patt .at + 8) 8 patt (l .patterns) blocks
-  blocks-in = filled-blocks (outline-of .layout .patt .stands patt pattThere) Pattern 8 (l .patterns) blocks (counted (sym (outline-of .layout .counts (outline-of .mandatory .info .0) (outline-of .mandatory .info .1) .3)) (content-of .patternsFill)) (every-of (pattern-sized (number16 (outline-of .mandatory .info .0) 16)) (content-of .patternRules))
+  blocks-in = filled-blocks (layout-of .patt .stands patt pattThere) Pattern 8 (l .patterns) blocks (counted (sym (layout-of .counts (all-of .info) (all-of .infoThere) .3)) (all-of .content .patternsFill)) (every-of (pattern-sized (number16 (all-of .info) 16)) (all-of .content .patternRules))
 
   sound-block : (at : ℕ) (block : List ℕ) → PartAt m at block → Sized Pattern block → AllHold (patternStreamRules m (l .tracks) at) → SoundBlock (l .tracks) block
   sound-block at block p s e =
@@ -134,7 +132,7 @@ module _ (m : List ℕ) (bytes : Bytes m) (l : Layout) (o : opened m ≡ Found l
   patt-bytes = every-among (rules .whole) pattThere
 
   pub patt-size : length patt ≡ 8 + length (joined blocks)
-  patt-size = ap length (content-of .patternsFill .bytes) ∙ length-append (take 8 patt) (joined blocks) ∙ ap (λ (k : ℕ). k + length (joined blocks)) (length-take-le 8 patt (content-of .patternsFill .fronts))
+  patt-size = ap length (all-of .content .patternsFill .bytes) ∙ length-append (take 8 patt) (joined blocks) ∙ ap (λ (k : ℕ). k + length (joined blocks)) (length-take-le 8 patt (all-of .content .patternsFill .fronts))
 
   pub patt-changed : changed patt ≡ withData (repackedPatterns m l) patt
   patt-changed = data-there Covered.patt (repackedPatterns m l) (λ c. c) patt-bytes (pattThere .named)
@@ -163,28 +161,28 @@ module _ (m : List ℕ) (bytes : Bytes m) (l : Layout) (o : opened m ≡ Found l
   patt-among = among-changed change (rules .whole) pattThere
 
   -- B1 to B6 and V1 to V7 of it.
-  pub filled-anew : Filled 8 (changed patt) (number16 (outline-of .mandatory .info .0) 14) anew
+  pub filled-anew : Filled 8 (changed patt) (number16 (all-of .info) 14) anew
   filled-anew =
-      let many : length anew ≡ number16 (outline-of .mandatory .info .0) 14 = length-map blocks (blockAnew (l .tracks)) ∙ content-of .patternsFill .number in
+      let many : length anew ≡ number16 (all-of .info) 14 = length-map blocks (blockAnew (l .tracks)) ∙ all-of .content .patternsFill .number in
       let is : changed patt ≡ withData (joined anew) patt = patt-changed ∙ ap (λ (content : List ℕ). withData content patt) data-is in
-      subst (λ (chunk : List ℕ). Filled 8 chunk (number16 (outline-of .mandatory .info .0) 14) anew) (sym is) (counted many (data-filled anew patt patt-bytes))
+      subst (λ (chunk : List ℕ). Filled 8 chunk (number16 (all-of .info) 14) anew) (sym is) (counted many (data-filled anew patt patt-bytes))
 
-  pub content-anew : Content header (map changed chunks) (outline-of .mandatory .info .0) (outline-of .mandatory .song .0) (outline-of .mandatory .inst .0) (changed patt) (outline-of .mandatory .smpl .0)
+  pub content-anew : Content header (map changed chunks) (all-of .info) (all-of .song) (all-of .inst) (changed patt) (all-of .smpl)
   content-anew = record {
-    songs = content-of .songs;
-    instruments = content-of .instruments;
+    songs = all-of .content .songs;
+    instruments = all-of .content .instruments;
     patterns = anew;
-    samples = content-of .samples;
-    songsFill = content-of .songsFill;
-    instrumentsFill = content-of .instrumentsFill;
+    samples = all-of .content .samples;
+    songsFill = all-of .content .songsFill;
+    instrumentsFill = all-of .content .instrumentsFill;
     patternsFill = filled-anew;
-    samplesFill = content-of .samplesFill;
-    songRules = rw (length-map blocks (blockAnew (l .tracks))) (content-of .songRules);
-    instrumentRules = content-of .instrumentRules;
+    samplesFill = all-of .content .samplesFill;
+    songRules = rw (length-map blocks (blockAnew (l .tracks))) (all-of .content .songRules);
+    instrumentRules = all-of .content .instrumentRules;
     patternRules = rw tracks-are (every-of (sound-rules (l .tracks)) sound-anew);
-    sampleRules = content-of .sampleRules;
-    volumeEnvelopes = λ chunk a. content-of .volumeEnvelopes chunk (was-among Covered.venv refl a);
-    panningEnvelopes = λ chunk a. content-of .panningEnvelopes chunk (was-among Covered.penv refl a);
+    sampleRules = all-of .content .sampleRules;
+    volumeEnvelopes = λ chunk a. all-of .content .volumeEnvelopes chunk (was-among Covered.venv refl a);
+    panningEnvelopes = λ chunk a. all-of .content .panningEnvelopes chunk (was-among Covered.penv refl a);
   }
 
   -- It is bytes.
@@ -192,7 +190,7 @@ module _ (m : List ℕ) (bytes : Bytes m) (l : Layout) (o : opened m ≡ Found l
   patt-below = bytes-front patt (joined (pattThere .after)) (bytes-behind (header ++ joined (pattThere .before)) (patt ++ joined (pattThere .after)) (subst Bytes (bytes-split rules pattThere) bytes))
 
   pub blocks-bytes : Every Bytes blocks
-  blocks-bytes = bytes-joined blocks .1 (bytes-behind (take 8 patt) (joined blocks) (subst Bytes (content-of .patternsFill .bytes) patt-below))
+  blocks-bytes = bytes-joined blocks .1 (bytes-behind (take 8 patt) (joined blocks) (subst Bytes (all-of .content .patternsFill .bytes) patt-below))
 
   small : length m < 0x100000000
   small = omega (arith, rules .limit)
@@ -224,16 +222,16 @@ module _ (m : List ℕ) (bytes : Bytes m) (l : Layout) (o : opened m ≡ Found l
     header = header;
     chunks = map changed chunks;
     chunkRules = rules-anew;
-    info = outline-of .mandatory .info .0;
-    song = outline-of .mandatory .song .0;
-    inst = outline-of .mandatory .inst .0;
+    info = all-of .info;
+    song = all-of .song;
+    inst = all-of .inst;
     patt = changed patt;
-    smpl = outline-of .mandatory .smpl .0;
-    infoThere = stays-among Covered.info refl (outline-of .mandatory .info .1);
-    songThere = stays-among Covered.song refl (outline-of .mandatory .song .1);
-    instThere = stays-among Covered.inst refl (outline-of .mandatory .inst .1);
+    smpl = all-of .smpl;
+    infoThere = stays-among Covered.info refl (all-of .infoThere);
+    songThere = stays-among Covered.song refl (all-of .songThere);
+    instThere = stays-among Covered.inst refl (all-of .instThere);
     pattThere = patt-among;
-    smplThere = stays-among Covered.smpl refl (outline-of .mandatory .smpl .1);
+    smplThere = stays-among Covered.smpl refl (all-of .smplThere);
     content = content-anew;
   }
 

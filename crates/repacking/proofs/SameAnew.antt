@@ -35,7 +35,7 @@ use Rattle.repack.proofs.Accepting.{patterns-in, module-replaced}
 use Rattle.repacking.specs.Packed.{fillerOf, PackedAt}
 use Rattle.numbers.proofs.Stored.{bytes32-again}
 use Rattle.repacking.proofs.BlockAnew.{blockAnew, packed-same, rows-same, SoundBlock, anew-length, anew-stream, filler-part, anew-shorter}
-use Rattle.repacking.proofs.ModuleAnew.{header, patt, pattThere, content-of, blocks, blocks-in, blocks-bytes, sound-blocks, rules, data-is, joined-shorter, patt-bytes, patt-changed, patt-below, patt-size, repacked-size, repacked-bytes}
+use Rattle.repacking.proofs.ModuleAnew.{header, patt, pattThere, all-of, blocks, blocks-in, blocks-bytes, sound-blocks, rules, data-is, joined-shorter, patt-bytes, patt-changed, patt-below, patt-size, repacked-size, repacked-bytes}
 
 -- The 4 bytes at a place are those of their number.
 number-small : (xs : List ℕ) (at : ℕ) → Bytes xs → number32 xs at < 0x100000000
@@ -177,7 +177,7 @@ module _ (m : List ℕ) (bytes : Bytes m) (l : Layout) (o : opened m ≡ Found l
     where
       data-behind : drop 8 (patt m bytes l o) ≡ joined (blocks m bytes l o)
       data-behind =
-          let filled = content-of m bytes l o .patternsFill in
+          let filled = all-of m bytes l o .content .patternsFill in
           ap (drop 8) (filled .bytes) ∙ drop-at (take 8 (patt m bytes l o)) (joined (blocks m bytes l o)) 8 (length-take-le 8 (patt m bytes l o) (filled .fronts))
 
   module-same : repackedPatterns m l ≡ joined (blocks m bytes l o) → repackedModule m l ≡ m
