@@ -28,6 +28,7 @@ pub mod BlocksThere
 pub mod FieldPlaces
 pub mod ContentPlaces
 pub mod Acceptance
+pub mod ChangedModule
 pub mod RefusalPlaces
 pub mod OneSplit
 pub mod FaultlessChunks

@@ -17,7 +17,7 @@ use Rattle.blocks.specs.Sizes.{sizeOf, placesFrom}
 use Rattle.blocks.specs.declared.Kind.the-variants.{Pattern}
 use Rattle.module.specs.Streams.{packedBytes, patternStreamRules, streamVerdict}
 use Rattle.module.specs.Verdicts.{opened, verdictOf}
-use Rattle.grammar.specs.Rules.{Bytes, Every, none, also, ChunkBytes, Among, Covered, ChunkRules, Filled, PatternRules, Content, Rules, pattLetters}
+use Rattle.grammar.specs.Rules.{Bytes, Every, none, also, ChunkBytes, Among, Covered, ChunkRules, Filled, PatternRules, Rules, pattLetters}
 use Rattle.grammar.proofs.Standing.{LayoutOf}
 use Rattle.grammar.proofs.Locating.{PartAt, part-inside}
 use Rattle.grammar.proofs.Holding.{AllHold, every-of, every-both, every-first, every-one}
@@ -33,6 +33,7 @@ use Rattle.grammar.proofs.FillingChunks.{BlocksIn, filled-blocks}
 use Rattle.grammar.proofs.BlockStreams.{accepted-says, pattern-sized, pattern-holds}
 use Rattle.grammar.proofs.ContentHalf.{counted}
 use Rattle.grammar.proofs.Acceptance.{rules-open, accepted-exactly}
+use Rattle.grammar.proofs.ChangedModule.{BlocksAfter, info-stays, filled-left, changed-opens}
 use Rattle.grammar.proofs.FoundBlocks.{Opens, module-opens}
 use Rattle.repack.specs.Repacked.{packed, repackedStream, repackedBlock, repackedPatterns, repackedModule}
 use Rattle.repack.proofs.Anew.{packed-size}
@@ -145,9 +146,12 @@ module _ (m : List ℕ) (bytes : Bytes m) (l : Layout) (o : opened m ≡ Found l
   pub no-longer : length (repackedModule m l) ≤ length m
   no-longer = omega (arith, repacked-size, data-shorter)
 
+  short-enough : length (repackedModule m l) ≤ 16777216
+  short-enough = omega (arith, no-longer, rules .limit)
+
   -- M2 to M9 of the module repacked.
   pub rules-anew : ChunkRules (repackedModule m l) header (map changed chunks)
-  rules-anew = rules-changed rules change repacked-bytes (omega (arith, no-longer, rules .limit)) refl (info-left rules change refl)
+  rules-anew = rules-changed rules change repacked-bytes short-enough refl (info-left rules change refl)
 
   -- A chunk other than PATT is among the chunks of both.
   module _ {letters : List ℕ} (covers : Covered letters) (other : eqb (identifierOf covers) PATT || false ≡ false) {chunk : List ℕ} where
@@ -167,22 +171,24 @@ module _ (m : List ℕ) (bytes : Bytes m) (l : Layout) (o : opened m ≡ Found l
       let is : changed patt ≡ withData (joined anew) patt = patt-changed ∙ ap (λ (content : List ℕ). withData content patt) data-is in
       subst (λ (chunk : List ℕ). Filled 8 chunk (number16 (all-of .info) 14) anew) (sym is) (counted many (data-filled anew patt patt-bytes))
 
-  pub content-anew : Content header (map changed chunks) (all-of .info) (all-of .song) (all-of .inst) (changed patt) (all-of .smpl)
-  content-anew = record {
+  info-same : changed (all-of .info) ≡ all-of .info
+  info-same = info-stays all-of change refl
+
+  blocks-after : BlocksAfter changed all-of
+  blocks-after = record {
     songs = all-of .content .songs;
     instruments = all-of .content .instruments;
     patterns = anew;
     samples = all-of .content .samples;
-    songsFill = all-of .content .songsFill;
-    instrumentsFill = all-of .content .instrumentsFill;
-    patternsFill = filled-anew;
-    samplesFill = all-of .content .samplesFill;
+    songsFill = filled-left all-of change refl Covered.song refl (all-of .songThere) 12 (all-of .content .songsFill);
+    instrumentsFill = filled-left all-of change refl Covered.inst refl (all-of .instThere) 8 (all-of .content .instrumentsFill);
+    patternsFill = subst (λ (info : List ℕ). Filled 8 (changed patt) (number16 info 14) anew) (sym info-same) filled-anew;
+    samplesFill = filled-left all-of change refl Covered.smpl refl (all-of .smplThere) 10 (all-of .content .samplesFill);
     songRules = rw (length-map blocks (blockAnew (l .tracks))) (all-of .content .songRules);
     instrumentRules = all-of .content .instrumentRules;
-    patternRules = rw tracks-are (every-of (sound-rules (l .tracks)) sound-anew);
+    patternRules = subst (λ (info : List ℕ). Every (PatternRules (number16 info 16)) anew) (sym info-same) (rw tracks-are (every-of (sound-rules (l .tracks)) sound-anew));
     sampleRules = all-of .content .sampleRules;
-    volumeEnvelopes = λ chunk a. all-of .content .volumeEnvelopes chunk (was-among Covered.venv refl a);
-    panningEnvelopes = λ chunk a. all-of .content .panningEnvelopes chunk (was-among Covered.penv refl a);
+    asMany = refl;
   }
 
   -- It is bytes.
@@ -217,24 +223,7 @@ module _ (m : List ℕ) (bytes : Bytes m) (l : Layout) (o : opened m ≡ Found l
       subst Bytes (sym repacked-bytes) (bytes-changed changed each header chunks (subst Bytes (rules .bytes) bytes))
 
   -- It opens, with a layout of its chunks.
-  all-anew : Rules (repackedModule m l)
-  all-anew = record {
-    header = header;
-    chunks = map changed chunks;
-    chunkRules = rules-anew;
-    info = all-of .info;
-    song = all-of .song;
-    inst = all-of .inst;
-    patt = changed patt;
-    smpl = all-of .smpl;
-    infoThere = stays-among Covered.info refl (all-of .infoThere);
-    songThere = stays-among Covered.song refl (all-of .songThere);
-    instThere = stays-among Covered.inst refl (all-of .instThere);
-    pattThere = patt-among;
-    smplThere = stays-among Covered.smpl refl (all-of .smplThere);
-    content = content-anew;
-  }
-
   pub opens-anew : (k : Layout) × (opened (repackedModule m l) ≡ Found k) × LayoutOf (repackedModule m l) header (map changed chunks) k
-  unfolding all-anew
-  opens-anew = rules-open (repackedModule m l) bytes-anew all-anew
+  opens-anew =
+      let info = info-left rules change refl (all-of .info) (all-of .infoThere) in
+      changed-opens all-of change (record { name = refl; volume = refl; panning = refl }) blocks-after repacked-bytes short-enough info bytes-anew
