@@ -10,11 +10,11 @@ use lib.ListN.{length, length-append}
 use lib.Dec.{eqb}
 use Rattle.cells.specs.Cells.{joined}
 use Rattle.numbers.specs.Numbers.{bytes32}
-use Rattle.grammar.specs.Rules.{Every, none, also, Covered, NeedsInfo, VolumeFits, PanningValueFits}
+use Rattle.grammar.specs.Rules.{Every, none, also, NeedsInfo, VolumeFits, PanningValueFits}
 use Rattle.grammar.proofs.Holding.{false-never, every-of}
 use Rattle.grammar.proofs.MappedLists.{map-split, map-same}
 use Rattle.grammar.proofs.Splits.{within-mapped, mapped-within, no-two-mapped}
-use Rattle.format.specs.Description.{Info, Song, Instrument, Pattern, Sample, Envelope, Chunk, NAME, INFO, SONG, INST, PATT, SMPL, VENV, PENV, Other, Description}
+use Rattle.format.specs.Description.{Info, Song, Instrument, Pattern, Sample, Chunk, INFO, SONG, INST, PATT, SMPL, Description}
 use Rattle.format.specs.Encoding.{identifier, contents, chunkBytes, headerBytes, encoded}
 use Rattle.format.specs.WellFormed.{Fits32, InfoFits, SongFits, InstrumentFits, PatternFits, SampleFits, EnvelopesFit, In, Once, InfoFirst, WellFormed}
 use Rattle.format.proofs.ChunksIn.{in-within, within-in, every-in, once-letters, letters-once}

@@ -1,6 +1,6 @@
 -- Chunks that get other data: the chunk with an identifier becomes its letters, the length of the new data and the new data, and the other
 -- chunks are changed in another way or not at all. This is a change of chunks.
-use Prim.Native.Nat.{ℕ, _+_, _<_, _≤_}
+use Prim.Native.Nat.{ℕ, _+_, _<_}
 use mathlib.Core.Path.{_≡_, refl, sym, ap, _∙_}
 use mathlib.Core.List.{List, _++_, map, append-assoc}
 use mathlib.Core.Bool.{Bool, true, false, cond, _||_}
