@@ -1,5 +1,5 @@
 -- Records that stand in the module as they are shown: the bytes from a place on are the fields one behind the other.
-use Prim.Native.Nat.{ℕ, zero, suc, _+_, _*_, _/_, _%_, _<_}
+use Prim.Native.Nat.{ℕ, zero, suc, _+_, _*_, _<_}
 use mathlib.Core.Path.{_≡_, refl, sym, ap, _∙_}
 use mathlib.Core.List.{List, [], _∷_, _++_, map}
 use native.Mathlib.Omega.{arith}
@@ -8,16 +8,15 @@ use lib.IntN.{ℤ}
 use Rattle.cells.specs.Cells.{joined}
 use Rattle.numbers.specs.Numbers.{byteAt, number16, number32, eachFrom, bytesFrom, bytes16, bytes32, signed16, unsigned16}
 use Rattle.numbers.proofs.Stored.{number16-stored, number32-stored}
-use Rattle.blocks.specs.Sizes.{widthOf, placesFrom}
+use Rattle.blocks.specs.Sizes.{placesFrom}
 use Rattle.songs.specs.Shown.{shownSong, playlistBytes}
 use Rattle.instruments.specs.Shown.{shownInstrument}
-use Rattle.samples.specs.Shown.{shownSample}
 use Rattle.samples.proofs.SixteenBits.{stored-again}
 use Rattle.envelopes.specs.Shown.{thingOf, positionShown, valueShown, shownEnvelope}
 use Rattle.envelopes.specs.declared.EnvelopeKind.{EnvelopeKind}
 use Rattle.envelopes.specs.declared.EnvelopeKind.the-variants.{Volume, Panning}
 use Rattle.grammar.specs.Rules.{Bytes}
-use Rattle.records.specs.Records.{songRecord, instrumentRecord, sampleRecord, pointRecords, envelopeRecord, recordAt}
+use Rattle.records.specs.Records.{songRecord, instrumentRecord, pointRecords, envelopeRecord, recordAt}
 use Rattle.records.specs.Steps.{pointsFrom}
 
 -- Bytes from a place on, in two parts.

@@ -1,11 +1,11 @@
 -- What the writers of records leave: each writes its record to the front of an output.
-use Prim.Native.Nat.{ℕ, _+_, _-_, _*_, _≤_, _<_}
+use Prim.Native.Nat.{ℕ, _+_, _-_, _*_, _≤_}
 use mathlib.Core.Path.{_≡_, refl, sym, ap, _∙_}
 use mathlib.Core.List.{List, [], _∷_, _++_, flatten}
 use native.Mathlib.Omega.{arith}
-use lib.ListN.{length, take, drop, set, length-set, length-append, drop-of-length-le}
+use lib.ListN.{length, take, drop, set, length-append}
 use lib.Seq.{length-take-le, sets-eq}
-use borrow.Rule.Slice.PartMut.{midOf, putMid, mid-len}
+use borrow.Rule.Slice.PartMut.{midOf, putMid}
 use Rattle.numbers.specs.Numbers.{number32, bytesFrom, bytes16, bytes32, putAt}
 use Rattle.numbers.proofs.PutBytes.{putEach, put-each, put-front}
 use Rattle.layout.specs.declared.Layout.{Layout}
@@ -18,7 +18,7 @@ use Rattle.samples.specs.Shown.{shownSample}
 use Rattle.envelopes.specs.Shown.{thingOf}
 use Rattle.envelopes.specs.declared.EnvelopeKind.{EnvelopeKind}
 use Rattle.grammar.specs.Rules.{Bytes}
-use Rattle.grammar.proofs.Ends.{put-next, copied}
+use Rattle.grammar.proofs.Ends.{copied}
 use Rattle.records.specs.Records.{infoRecord, countsRecord, sampleRecord, summaryRecord, recordAt}
 use Rattle.records.specs.Steps.{pointRecord, pointsFrom}
 use Rattle.records.proofs.Ahead.{Ahead, ahead-second, ahead-last, second-inside, second-part, third-length, third-put, AheadBlocks, blocks-last}
