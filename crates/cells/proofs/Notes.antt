@@ -1,8 +1,8 @@
 -- A shown note loses nothing: its byte is the note that is stored (N2 to N4). And which note each number is, without the tests.
 use Prim.Native.Nat.{ℕ, _/_, _%_, _≤_}
-use mathlib.Core.Path.{_≡_, refl, sym, subst}
+use mathlib.Core.Path.{_≡_, refl, sym, subst, _∙_}
 use mathlib.Core.Logic.{_↔_}
-use mathlib.Core.Bool.{Bool, true, false, cond}
+use mathlib.Core.Bool.{Bool, true, false, cond, true≢false}
 use native.Mathlib.Nat.{div-add-mod'}
 use native.Mathlib.Omega.{arith}
 use lib.Dec.{eqb, leb}
@@ -37,6 +37,9 @@ passed-pitch n = go (leb 1 (n / 16)) (leb (n / 16) 8) (leb (n % 16) 11) refl ref
     go true false d e f g h = let z : _≡_ {A = ℕ} 0 1 = cc in absurd (omega arith)
     go false b d e f g h = let z : _≡_ {A = ℕ} 0 1 = cc in absurd (omega arith)
 
+no-pitch : {n : ℕ} → isPitch n ≡ false → (octave semitone : ℕ) → PitchNumber n octave semitone → ⊥
+no-pitch {n} fails octave semitone p = true≢false (sym (pitch-passes n octave semitone p) ∙ fails)
+
 shown-is : (n : ℕ) → NoteOf n (shownNote n)
 shown-is n = go (eqb n 0) (eqb n 31) (isPitch n) refl refl refl
   where
@@ -44,7 +47,7 @@ shown-is n = go (eqb n 0) (eqb n 31) (isPitch n) refl refl refl
     go true b d e f g = none (eqb-true n 0 e)
     go false true d e f g = keyOff (eqb-true n 31 f)
     go false false true e f g = pitch (passed-pitch n g)
-    go false false false e f g = unknown (eqb-false n 0 e) (eqb-false n 31 f) (λ octave semitone p. let h = pitch-passes n octave semitone p in let z : _≡_ {A = ℕ} 0 1 = cc in absurd (omega arith))
+    go false false false e f g = unknown (eqb-false n 0 e) (eqb-false n 31 f) (no-pitch g)
 
 is-shown : (n : ℕ) (note : Note) → NoteOf n note → shownNote n ≡ note
 is-shown n None (none e) = rw e

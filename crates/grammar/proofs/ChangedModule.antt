@@ -53,7 +53,8 @@ module _ {m : List ℕ} (r : Rules m) {changes : ℕ → Bool} {f : List ℕ →
     FilledBy chunk one offset blocks = Filled 8 chunk (number16 one offset) blocks
 
     module _ {letters : List ℕ} (covers : Covered letters) (left : changes (identifierOf covers) ≡ false) {chunk : List ℕ} where
-      pub filled-left : Among (r .chunks) letters chunk → (offset : ℕ) {blocks : List (List ℕ)} → FilledBy chunk (r .info) offset blocks → FilledBy (f chunk) (f (r .info)) offset blocks
+      pub filled-left : Among (r .chunks) letters chunk → (offset : ℕ) {blocks : List (List ℕ)}
+          → FilledBy chunk (r .info) offset blocks → FilledBy (f chunk) (f (r .info)) offset blocks
       filled-left a offset {blocks} filled =
           let counted = subst (λ (one : List ℕ). FilledBy chunk one offset blocks) (sym info-stays) filled in
           subst (λ (one : List ℕ). FilledBy one (f (r .info)) offset blocks) (sym (stays-as change whole covers left a)) counted

@@ -108,7 +108,8 @@ whole-part m at h =
     (partOf m at n, part, long ∙ ap (λ (k : ℕ). 8 + k) (number32-at part 4 (omega arith)))
 
 -- An accepted chunk: its bytes are at the place, and it fits after those before it.
-accepted-fits : {m header : List ℕ} {before : List (List ℕ)} {at : ℕ} → Reached m header before at → AllHold (chunkRules m (recordsFrom 8 before) at) → (chunk : List ℕ) × PartAt m at chunk × ChunkFits before chunk
+accepted-fits : {m header : List ℕ} {before : List (List ℕ)} {at : ℕ} → Reached m header before at
+    → AllHold (chunkRules m (recordsFrom 8 before) at) → (chunk : List ℕ) × PartAt m at chunk × ChunkFits before chunk
 accepted-fits {m} {header} {before} {at} r hold =
     let (chunk, part, size) = whole-part m at (leb-true (at + 8 + number32 m (at + 4)) (length m) (every-first (every-rest (every-rest hold)))) in
     (chunk, part, rules-fit 8 (turn-bytes (r .turn)) part size hold)

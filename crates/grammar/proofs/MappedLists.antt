@@ -26,7 +26,8 @@ pub record MapSplit {A B : Type 0} (f : A → B) (all : List A) (before : List B
   pub oneIs : chunk ≡ f one
   pub backIs : after ≡ map f back
 
-pub map-split : {A B : Type 0} (f : A → B) (all : List A) (before after : List B) (chunk : B) → map f all ≡ before ++ (chunk ∷ after) → MapSplit f all before chunk after
+pub map-split : {A B : Type 0} (f : A → B) (all : List A) (before after : List B) (chunk : B)
+    → map f all ≡ before ++ (chunk ∷ after) → MapSplit f all before chunk after
 map-split f [] [] after chunk e = let z : _≡_ {A = ℕ} 0 1 = cc in absurd (omega arith)
 map-split f [] (b ∷ before) after chunk e = let z : _≡_ {A = ℕ} 0 1 = cc in absurd (omega arith)
 map-split f (x ∷ all) [] after chunk e =

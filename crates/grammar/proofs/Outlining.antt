@@ -31,7 +31,8 @@ pub record AllRead (m : List ℕ) (all : List (List ℕ)) : Type 0 where
 -- What is shown of each way that an outline can come out.
 pub record EachOutline (m : List ℕ) (P : Outline → Type 0) : Type 0 where
   pub header : (r : Refusal) → firstBroken (headerRules m) ≡ VerdictRefused r → P (Refused r)
-  pub chunk : (before : List (List ℕ)) (at : ℕ) → Reached m (take 8 m) before at → at < length m → (r : Refusal) → firstBroken (chunkRules m (recordsFrom 8 before) at) ≡ VerdictRefused r → P (Refused r)
+  pub chunk : (before : List (List ℕ)) (at : ℕ) → Reached m (take 8 m) before at → at < length m
+      → (r : Refusal) → firstBroken (chunkRules m (recordsFrom 8 before) at) ≡ VerdictRefused r → P (Refused r)
   pub missing : (all : List (List ℕ)) → AllRead m all → mandatoryThere (recordsFrom 8 all) ≡ false → P (Refused (refusal Missing (length m)))
   pub found : (all : List (List ℕ)) → AllRead m all → mandatoryThere (recordsFrom 8 all) ≡ true → P (Found (layoutWith m (placesOf (recordsFrom 8 all))))
 

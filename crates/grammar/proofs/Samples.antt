@@ -114,9 +114,9 @@ valueNumbers : ℕ → EnvelopeAnswer → List ℕ
 unfolding signNumbers
 valueNumbers n a = a .number ∷ a .place ∷ joined (map signNumbers (take n (a .values)))
 
-frameNumbers : FrameAnswer → List ℕ
+frameShown : FrameAnswer → List ℕ
 unfolding signNumbers
-frameNumbers a = a .number ∷ a .place ∷ signNumbers (a .frame)
+frameShown a = a .number ∷ a .place ∷ signNumbers (a .frame)
 
 -- P10: a sample of 100 frames of 8 bits, and an instrument of it with a forward loop. Its block stands at 42.
 p10 : List ℕ → List ℕ → List ℕ
@@ -136,7 +136,7 @@ unfolding smallModule
 p12 flags frame = smallModule 3 0 1 [] (0 ∷ 0 ∷ 0 ∷ flags ∷ 0 ∷ 0 ∷ 0 ∷ 1 ∷ frame) []
 
 pub samples : List Sample
-unfolding checked repacked p1 p2 p3 p4 p5 p7 p8 p9 g4Cells emptyCells sixFields threeCells threePacked noteShown accepted moduleChecked valueNumbers frameNumbers p10 p11 p12
+unfolding checked repacked p1 p2 p3 p4 p5 p7 p8 p9 g4Cells emptyCells sixFields threeCells threePacked noteShown accepted moduleChecked valueNumbers frameShown p10 p11 p12
 samples =
     record { number = 1; found = checked 2 4 p1; registered = accepted }
     ∷ record { number = 1; found = cellNumbers (cellOf p1 2 4 0 2); registered = 0 ∷ 0 ∷ 2 ∷ 4 ∷ 7 ∷ 0 ∷ 1 ∷ 0 ∷ 0 ∷ 0 ∷ 0 ∷ [] }
@@ -165,8 +165,8 @@ samples =
     ∷ record { number = 10; found = moduleChecked (p10 (0xFF ∷ 0xFF ∷ 0xFF ∷ 0xFF ∷ []) (0 ∷ 0 ∷ 0 ∷ 2 ∷ [])); registered = 14 ∷ 42 ∷ [] }
     ∷ record { number = 11; found = valueNumbers 3 (envelopeAnswer (p11 0 32 64) Panning 0); registered = 0 ∷ 0 ∷ 1 ∷ 128 ∷ 0 ∷ 0 ∷ 0 ∷ 128 ∷ [] }
     ∷ record { number = 11; found = moduleChecked (p11 0 32 65); registered = 13 ∷ 136 ∷ [] }
-    ∷ record { number = 12; found = frameNumbers (frameAnswer (p12 4 (0xFF ∷ 0xFF ∷ 0xFF ∷ 0xFF ∷ [])) 1 0); registered = 0 ∷ 0 ∷ 1 ∷ 1 ∷ [] }
-    ∷ record { number = 12; found = frameNumbers (frameAnswer (p12 1 (0x80 ∷ [])) 1 0); registered = 0 ∷ 0 ∷ 1 ∷ 32768 ∷ [] }
+    ∷ record { number = 12; found = frameShown (frameAnswer (p12 4 (0xFF ∷ 0xFF ∷ 0xFF ∷ 0xFF ∷ [])) 1 0); registered = 0 ∷ 0 ∷ 1 ∷ 1 ∷ [] }
+    ∷ record { number = 12; found = frameShown (frameAnswer (p12 1 (0x80 ∷ [])) 1 0); registered = 0 ∷ 0 ∷ 1 ∷ 32768 ∷ [] }
     ∷ record { number = 0; found = noteShown 0; registered = 0 ∷ 0 ∷ 0 ∷ 0 ∷ [] }
     ∷ record { number = 0; found = noteShown 0x0B; registered = 3 ∷ 0 ∷ 0 ∷ 0x0B ∷ [] }
     ∷ record { number = 0; found = noteShown 0x10; registered = 2 ∷ 1 ∷ 0 ∷ 0 ∷ [] }

@@ -1,5 +1,5 @@
--- Where one of a list stands, behind some and before others: what holds of each that stands there holds of every one, also in the list that
--- a function gives; and where no two of a list have a property, one that has it is the only one.
+-- One of a list, after some of it and before the rest: what holds of each such one holds of every one, also in the list that a function
+-- gives; and where no two of a list have a property, one that has it is the only one.
 use Prim.Native.Nat.{ℕ}
 use mathlib.Core.Path.{_≡_, refl, sym, ap, subst, _∙_}
 use mathlib.Core.Logic.{_⊎_, inl, inr}

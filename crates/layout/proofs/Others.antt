@@ -1,4 +1,4 @@
--- Chunks that are stepped over: their rules hold, wherever the covered ones stand, and no place changes.
+-- Chunks that are stepped over: their rules hold, wherever the covered ones are, and no place changes.
 use Prim.Native.Nat.{ℕ, zero, suc, _+_, _≤_}
 use mathlib.Core.Path.{_≡_, refl, sym, ap, _∙_}
 use mathlib.Core.List.{List}

@@ -52,7 +52,7 @@ placedRules m at p =
     ∷ rule (leb (at + 8 + number32 m (at + 4)) (length m)) ChunkCut at
     ∷ metRules m at (number32 m at) (number32 m (at + 4)) p
 
--- Whether a whole chunk stands at a place that is stepped over; and so many of them, from one place to another.
+-- Whether a whole chunk that is stepped over begins at a place; and so many of them, from one place to another.
 abbrev pub isOther : List ℕ → ℕ → Bool
 isOther m at = leb (at + 8) (length m) && (leb (at + 8 + number32 m (at + 4)) (length m) && (fourLetters m at && not (covered (number32 m at))))
 

@@ -184,7 +184,7 @@ fn is_covered(identifier: u32) -> bool
             | (needs_info(identifier) | ((identifier == VENV) | (identifier == PENV))))
 }
 
-// Whether a whole chunk stands at a place that is stepped over.
+// Whether a whole chunk that is stepped over begins at a place.
 fn is_other(m: &[u8], at: usize) -> bool
     requires { ⌜ at < 0x1000000000000000 ⌝ }
     ensures { λ r. ⌜ r ≡ isOther (now (m .entry)) at ⌝ }
@@ -196,7 +196,7 @@ fn is_other(m: &[u8], at: usize) -> bool
     (at + 8 + length <= m.len()) & (four_letters(m, at) & !is_covered(number32(m, at)))
 }
 
-// The place behind the chunks from a place on that are stepped over.
+// The place after the chunks that are stepped over, from a place on.
 fn skip_others(m: &[u8], start: usize) -> usize
     requires { ⌜ (start < 0x1000000000000000) × (length (now m) ≤ 16777216) ⌝ }
     ensures { λ r. ⌜ ((n : ℕ) × OthersTo (now (m .entry)) n start r) × (start ≤ r) ⌝ }

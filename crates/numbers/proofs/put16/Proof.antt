@@ -12,13 +12,17 @@ returns : tie.Need-returns
 returns c = sym (put-over (bytes16 (c .before .args .n)) (c .before .args .at) (c .before .args .out .now) (omega (arith, c .if1 .taken)))
 
 returns-2 : tie.Need-returns-2
-returns-2 c = sym (put-over (bytes16 (c .before .before .args .n)) (c .before .before .args .at) (c .before .before .args .out .now) (omega (arith, c .before .if1 .left, c .if2 .taken)))
+returns-2 c =
+    let args = c .before .before .args in
+    sym (put-over (bytes16 (args .n)) (args .at) (args .out .now) (omega (arith, c .before .if1 .left, c .if2 .taken)))
 
 slice-write-out-2 : tie.Need-slice-write-out-2
 slice-write-out-2 c = simp length-set (omega (arith, c .before .if1 .left, c .if2 .left))
 
 returns-3 : tie.Need-returns-3
-returns-3 c = simp unary-clauses (put-sets (bytes16 (c .before .before .args .n)) (c .before .before .args .at) (c .before .before .args .out .now) (omega (arith, c .before .if1 .left, c .if2 .left)))
+returns-3 c =
+    let args = c .before .before .args in
+    simp unary-clauses (put-sets (bytes16 (args .n)) (args .at) (args .out .now) (omega (arith, c .before .if1 .left, c .if2 .left)))
 
 pub put16-spec : {M : Type 1} → statement M
 put16-spec =
