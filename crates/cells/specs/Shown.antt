@@ -2,7 +2,7 @@
 -- go to 8 as in document 01 (000 has 1 to 7, 001 has 1 to 8).
 use Prim.Native.Nat.{ℕ, _+_, _*_, _/_, _%_, _≤_}
 use mathlib.Core.Path.{_≡_}
-use mathlib.Core.List.{List}
+use mathlib.Core.List.{List, [], _∷_}
 use mathlib.Core.Bool.{Bool, cond}
 use lib.ListN.{getD}
 use lib.Dec.{eqb, leb}
@@ -60,3 +60,9 @@ shownCell cell =
       command2 = getD cell 4 0;
       parameter2 = getD cell 5 0;
     }
+
+-- N1: a shown cell in numbers: the note's four, and all else as stored.
+abbrev pub cellValues : Cell → List ℕ
+cellValues c =
+    noteNumbers (c .note) .kind ∷ noteNumbers (c .note) .octave ∷ noteNumbers (c .note) .semitone ∷ noteNumbers (c .note) .unknown
+    ∷ c .instrument ∷ c .command1 ∷ c .parameter1 ∷ c .command2 ∷ c .parameter2 ∷ []

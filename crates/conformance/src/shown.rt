@@ -15,7 +15,7 @@ use crate::text::within;
 use envelopes::CountAnswer;
 use envelopes::EnvelopeAnswer;
 use envelopes::EnvelopeKind;
-use queries::LengthAnswer;
+use refusal::LengthAnswer;
 ghost use Prim.Native.Nat.{_≤_};
 ghost use lib.ListN.{length};
 
@@ -35,8 +35,8 @@ pub struct Asked {
 fn print_version(m: &[u8], line: &mut [u8]) {
     let a = summary::version(m);
     let numbers = [
-        a.number as usize,
-        a.place,
+        a.outcome.number as usize,
+        a.outcome.place,
         a.version as usize,
         a.revision as usize,
     ];
@@ -46,14 +46,19 @@ fn print_version(m: &[u8], line: &mut [u8]) {
 fn print_name(m: &[u8], line: &mut [u8]) {
     let a = summary::name(m);
     let name = a.name;
-    print_bytes(b"name", &[a.number as usize, a.place], &name, line);
+    print_bytes(
+        b"name",
+        &[a.outcome.number as usize, a.outcome.place],
+        &name,
+        line,
+    );
 }
 
 fn print_info(m: &[u8], line: &mut [u8]) {
     let a = summary::info(m);
     let numbers = [
-        a.number as usize,
-        a.place,
+        a.outcome.number as usize,
+        a.outcome.place,
         a.instruments as usize,
         a.samples as usize,
         a.songs as usize,
@@ -65,19 +70,32 @@ fn print_info(m: &[u8], line: &mut [u8]) {
 
 // The line of a query that fills an output.
 pub fn print_output(word: &[u8], a: LengthAnswer, out: &[u8], line: &mut [u8]) {
-    print_bytes(word, &[a.number as usize, a.place, a.length], out, line);
+    print_bytes(
+        word,
+        &[a.outcome.number as usize, a.outcome.place, a.length],
+        out,
+        line,
+    );
 }
 
 fn print_song(m: &[u8], song: usize, line: &mut [u8]) {
     let a = songs::song(m, song);
     let name = a.name;
-    let numbers = [a.number as usize, a.place, a.length as usize];
+    let numbers = [
+        a.outcome.number as usize,
+        a.outcome.place,
+        a.length as usize,
+    ];
     print_bytes(b"song", &numbers, &name, line);
 }
 
 fn print_entry(m: &[u8], song: usize, entry: usize, line: &mut [u8]) {
     let a = songs::entry(m, song, entry);
-    let numbers = [a.number as usize, a.place, a.pattern as usize];
+    let numbers = [
+        a.outcome.number as usize,
+        a.outcome.place,
+        a.pattern as usize,
+    ];
     print_numbers(b"entry", &numbers, line);
 }
 
@@ -91,8 +109,8 @@ fn print_instrument(m: &[u8], instrument: usize, line: &mut [u8]) {
     let a = instruments::instrument(m, instrument);
     let name = a.name;
     let numbers = [
-        a.number as usize,
-        a.place,
+        a.outcome.number as usize,
+        a.outcome.place,
         a.sample as usize,
         a.volume as usize,
         a.rate as usize,
@@ -107,7 +125,11 @@ fn print_instrument(m: &[u8], instrument: usize, line: &mut [u8]) {
 }
 
 fn print_count(word: &[u8], a: CountAnswer, line: &mut [u8]) {
-    print_numbers(word, &[a.number as usize, a.place, a.count as usize], line);
+    print_numbers(
+        word,
+        &[a.outcome.number as usize, a.outcome.place, a.count as usize],
+        line,
+    );
 }
 
 fn print_counts(m: &[u8], line: &mut [u8]) {
@@ -136,8 +158,8 @@ fn print_envelope(word: &[u8], a: EnvelopeAnswer, line: &mut [u8]) {
     let positions = a.positions;
     let values = a.values;
     let numbers = [
-        a.number as usize,
-        a.place,
+        a.outcome.number as usize,
+        a.outcome.place,
         a.instrument as usize,
         a.flags as usize,
         a.sections as usize,
@@ -170,7 +192,7 @@ fn print_rows(m: &[u8], pattern: usize, line: &mut [u8]) {
     let a = patterns::rows(m, pattern);
     print_numbers(
         b"rows",
-        &[a.number as usize, a.place, a.rows as usize],
+        &[a.outcome.number as usize, a.outcome.place, a.rows as usize],
         line,
     );
 }
@@ -188,8 +210,8 @@ fn print_unpack(m: &[u8], pattern: usize, out: &mut [u8], line: &mut [u8]) {
 fn print_sample(m: &[u8], sample: usize, line: &mut [u8]) {
     let a = samples::sample(m, sample);
     let numbers = [
-        a.number as usize,
-        a.place,
+        a.outcome.number as usize,
+        a.outcome.place,
         a.width as usize,
         a.frames as usize,
     ];
@@ -201,14 +223,23 @@ fn print_frames(m: &[u8], sample: usize, line: &mut [u8]) {
     let a = samples::frames_place(m, sample);
     let part = samples::frames(m, sample);
     let n = within(65536, part);
-    let numbers = [a.number as usize, a.place, a.offset, a.length];
+    let numbers = [
+        a.outcome.number as usize,
+        a.outcome.place,
+        a.offset,
+        a.length,
+    ];
     print_bytes(b"frames", &numbers, &part[..n], line);
 }
 
 fn print_frame(m: &[u8], sample: usize, frame: usize, line: &mut [u8]) {
     let a = samples::frame(m, sample, frame);
     let shown = wider(a.frame);
-    let mut at = begin(line, b"frame", &[a.number as usize, a.place]);
+    let mut at = begin(
+        line,
+        b"frame",
+        &[a.outcome.number as usize, a.outcome.place],
+    );
     at = put_signed(line, at, shown);
     finish(line, at);
 }

@@ -8,9 +8,11 @@ use envelopes::EnvelopeKind;
 use instruments::InstrumentAnswer;
 use packed_rows::CellAnswer;
 use patterns::RowsAnswer;
-use queries::LengthAnswer;
+use refusal::LengthAnswer;
+use refusal::Outcome;
 use refusal::Refusal;
 use refusal::Verdict;
+use refusal::outcome_of;
 use samples::FrameAnswer;
 use samples::FramesAnswer;
 use samples::SampleAnswer;
@@ -21,6 +23,9 @@ use summary::NameAnswer;
 use summary::VersionAnswer;
 ghost use mathlib.Core.Path.{_≡_};
 ghost use lib.ListN.{length};
+ghost use Rattle.refusal.specs.Numbers.{outcomeNumbers, verdictNumbers};
+ghost use Rattle.packed_rows.specs.Answers.{cellNumbers};
+ghost use Rattle.packed_rows.specs.declared.CellAnswer.the-variants.{Found, Refused as CellRefused};
 ghost use Rattle.module.specs.Verdicts.{moduleVerdict};
 ghost use Rattle.summary.specs.Shown.{versionAnswer, nameAnswer, infoAnswer};
 ghost use Rattle.songs.specs.Shown.{songAnswer, entryAnswer, playlistAnswer, playlistOutput};
@@ -31,20 +36,12 @@ ghost use Rattle.patterns.specs.Shown.{rowsAnswer, cellAnswer, unpackAnswer, un
 ghost use Rattle.samples.specs.Shown.{sampleAnswer, framesAnswer, frameAnswer, allFramesAnswer, allFramesOutput};
 ghost use Rattle.records.specs.Records.{allAnswer, allOutput};
 ghost use Rattle.repack.specs.Repacked.{repackAnswer, repackOutput};
-ghost use Rattle.dbm0.specs.Answers.{told, toldModule, noCell, foundCell, toldCell};
-
-// The answer of the check.
-#[repr(C)]
-pub struct ModuleAnswer {
-    pub number: u64,
-    pub place: usize,
-}
+ghost use Rattle.dbm0.specs.Answers.{fieldsOfCell};
 
 // A cell.
 #[repr(C)]
 pub struct PatternCell {
-    pub number: u64,
-    pub place: usize,
+    pub outcome: Outcome,
     pub kind: u8,
     pub octave: u8,
     pub semitone: u8,
@@ -56,25 +53,12 @@ pub struct PatternCell {
     pub parameter2: u8,
 }
 
-// An answer for C: every one of the check is made here.
-fn answer(number: u8, place: usize) -> ModuleAnswer
-    ensures { λ r. ⌜ r ≡ told number place ⌝ }
-{
-    ModuleAnswer {
-        number: number as u64,
-        place,
-    }
-}
-
 // Checks a module, for C.
 #[no_mangle]
-pub extern "C" fn dbm0_check_module(m: &[u8]) -> ModuleAnswer
-    ensures { λ r. ⌜ r ≡ toldModule (moduleVerdict (now (m .entry))) ⌝ }
+pub extern "C" fn dbm0_check_module(m: &[u8]) -> Outcome
+    ensures { λ r. ⌜ outcomeNumbers r ≡ verdictNumbers (moduleVerdict (now (m .entry))) ⌝ }
 {
-    match module::check(m) {
-        Verdict::Accepted => answer(0, 0),
-        Verdict::Refused(r) => answer(r.number, r.place),
-    }
+    outcome_of(module::check(m))
 }
 
 // Version and revision.
@@ -174,11 +158,10 @@ pub extern "C" fn dbm0_rows(m: &[u8], pattern: usize) -> RowsAnswer
 }
 
 fn no_cell(r: Refusal) -> PatternCell
-    ensures { λ a. ⌜ a ≡ noCell r ⌝ }
+    ensures { λ a. ⌜ fieldsOfCell a ≡ cellNumbers (CellRefused r) ⌝ }
 {
     PatternCell {
-        number: r.number as u64,
-        place: r.place,
+        outcome: outcome_of(Verdict::Refused(r)),
         kind: 0,
         octave: 0,
         semitone: 0,
@@ -192,13 +175,12 @@ fn no_cell(r: Refusal) -> PatternCell
 }
 
 fn shown_cell(c: Cell) -> PatternCell
-    ensures { λ r. ⌜ r ≡ foundCell c ⌝ }
+    ensures { λ r. ⌜ fieldsOfCell r ≡ cellNumbers (Found c) ⌝ }
 {
     let stored = c.note;
     let note = note_numbers(stored);
     PatternCell {
-        number: 0,
-        place: 0,
+        outcome: outcome_of(Verdict::Accepted),
         kind: note.kind,
         octave: note.octave,
         semitone: note.semitone,
@@ -214,7 +196,7 @@ fn shown_cell(c: Cell) -> PatternCell
 // A cell of a pattern.
 #[no_mangle]
 pub extern "C" fn dbm0_cell(m: &[u8], pattern: usize, row: usize, track: usize) -> PatternCell
-    ensures { λ r. ⌜ r ≡ toldCell (cellAnswer (now (m .entry)) pattern row track) ⌝ }
+    ensures { λ r. ⌜ fieldsOfCell r ≡ cellNumbers (cellAnswer (now (m .entry)) pattern row track) ⌝ }
 {
     match patterns::cell(m, pattern, row, track) {
         CellAnswer::Found(c) => shown_cell(c),

@@ -6,6 +6,7 @@ use mathlib.Core.Bool.{cond}
 use lib.ListN.{replicate}
 use lib.Dec.{eqb, leb}
 use lib.IntN.{ℤ, pos, _-ℤ_}
+use Rattle.refusal.specs.Numbers.{noRefusal, refusedOutcome}
 use Rattle.refusal.specs.declared.Refusal.{Refusal}
 use Rattle.numbers.specs.Numbers.{byteAt, number16, signed16, eachFrom}
 use Rattle.layout.specs.declared.Outline.{Outline}
@@ -28,10 +29,10 @@ thingOf Volume = VolumeEnvelope
 thingOf Panning = PanningEnvelope
 
 abbrev pub noCount : Refusal → CountAnswer
-noCount r = record { number = r .number; place = r .place; count = 0 }
+noCount r = record { outcome = refusedOutcome r; count = 0 }
 
 abbrev pub countIf : List ℕ → EnvelopeKind → Outline → CountAnswer
-countIf m kind (Opened l) = record { number = 0; place = 0; count = envelopeCount m (chunkOf l (thingOf kind)) }
+countIf m kind (Opened l) = record { outcome = noRefusal; count = envelopeCount m (chunkOf l (thingOf kind)) }
 countIf m kind (OpeningRefused r) = noCount r
 
 -- Q9: how many envelopes there are: the count of their chunk, and none where it is missing.
@@ -52,8 +53,7 @@ valueShown m kind version at sections point = cond (leb point sections) (valueOf
 
 abbrev pub noEnvelope : Refusal → EnvelopeAnswer
 noEnvelope r = record {
-  number = r .number;
-  place = r .place;
+  outcome = refusedOutcome r;
   instrument = 0;
   flags = 0;
   sections = 0;
@@ -68,8 +68,7 @@ noEnvelope r = record {
 -- B6: instrument 2, flags 1, sections 1, S1, L1, L2, S2, then 32 points of position 2 and value 2.
 abbrev pub shownEnvelope : List ℕ → EnvelopeKind → ℕ → ℕ → EnvelopeAnswer
 shownEnvelope m kind version at = record {
-  number = 0;
-  place = 0;
+  outcome = noRefusal;
   instrument = number16 m at;
   flags = byteAt m (at + 2);
   sections = byteAt m (at + 3);

@@ -9,7 +9,10 @@ use numbers::signed;
 use queries::Found;
 use queries::Thing;
 use queries::find;
+use refusal::Outcome;
 use refusal::Refusal;
+use refusal::Verdict;
+use refusal::outcome_of;
 ghost use mathlib.Core.Path.{_≡_};
 ghost use mathlib.Core.Bool.{Bool};
 ghost use Prim.Native.Nat.{_<_};
@@ -28,16 +31,14 @@ pub enum EnvelopeKind {
 // How many envelopes of a kind there are.
 #[repr(C)]
 pub struct CountAnswer {
-    pub number: u64,
-    pub place: usize,
+    pub outcome: Outcome,
     pub count: u16,
 }
 
 // An envelope. The values of panning are −128 to 128 in both versions; points not in use are zeros.
 #[repr(C)]
 pub struct EnvelopeAnswer {
-    pub number: u64,
-    pub place: usize,
+    pub outcome: Outcome,
     pub instrument: u16,
     pub flags: u8,
     pub sections: u8,
@@ -72,8 +73,7 @@ fn no_count(r: Refusal) -> CountAnswer
     ensures { λ a. ⌜ a ≡ noCount r ⌝ }
 {
     CountAnswer {
-        number: r.number as u64,
-        place: r.place,
+        outcome: outcome_of(Verdict::Refused(r)),
         count: 0,
     }
 }
@@ -84,8 +84,7 @@ pub fn count(m: &[u8], kind: EnvelopeKind) -> CountAnswer
 {
     match module::open(m) {
         Outline::Found(l) => CountAnswer {
-            number: 0,
-            place: 0,
+            outcome: outcome_of(Verdict::Accepted),
             count: envelope_count(m, chunk_of(l, kind)),
         },
         Outline::Refused(r) => no_count(r),
@@ -183,8 +182,7 @@ fn no_envelope(r: Refusal) -> EnvelopeAnswer
     ensures { λ a. ⌜ a ≡ noEnvelope r ⌝ }
 {
     EnvelopeAnswer {
-        number: r.number as u64,
-        place: r.place,
+        outcome: outcome_of(Verdict::Refused(r)),
         instrument: 0,
         flags: 0,
         sections: 0,
@@ -204,8 +202,7 @@ fn envelope_at(m: &[u8], kind: EnvelopeKind, version: u8, at: usize) -> Envelope
 {
     let sections = byte(m, at + 3);
     EnvelopeAnswer {
-        number: 0,
-        place: 0,
+        outcome: outcome_of(Verdict::Accepted),
         instrument: number16(m, at),
         flags: byte(m, at + 2),
         sections,

@@ -6,6 +6,7 @@ use mathlib.Core.List.{List, _++_, map}
 use mathlib.Core.Bool.{Bool, true, false, cond, _&&_}
 use lib.ListN.{length, replicate}
 use lib.Dec.{leb, ltb}
+use Rattle.refusal.specs.Numbers.{noRefusal}
 use Rattle.packed_rows.specs.Answers.{cellOf, unpackAnswer as streamAnswer, unpackOutput as streamOutput}
 use Rattle.packed_rows.specs.declared.CellAnswer.the-variants.{Refused}
 use Rattle.numbers.specs.Numbers.{byteAt, number16, partOf, bytesFrom, bytes32}
@@ -13,7 +14,7 @@ use Rattle.layout.specs.declared.Layout.{Layout}
 use Rattle.layout.specs.declared.Outline.the-variants.{Found as Opened}
 use Rattle.module.specs.Streams.{packedBytes}
 use Rattle.module.specs.Verdicts.{opened}
-use Rattle.queries.specs.Lengths.{refusedLength}
+use Rattle.refusal.specs.Lengths.{refusedLength}
 use Rattle.summary.specs.Shown.{versionIf, versionAnswer, nameIf, nameAnswer, infoIf, infoAnswer}
 use Rattle.songs.specs.Shown.{songIf, entryIf, playlistIf, playlistOutputIf}
 use Rattle.instruments.specs.Shown.{instrumentIf}
@@ -41,11 +42,6 @@ use Rattle.format.proofs.ShownInstruments.{instrument-shown}
 use Rattle.format.proofs.ShownEnvelopes.{envelope-shown}
 use Rattle.format.proofs.ShownPatterns.{rows-shown, cell-shown, cells-shown, cells-written}
 use Rattle.format.proofs.ShownSamples.{sample-shown, frames-length, frames-shown, frame-shown, all-frames-shown, all-frames-written}
-
--- The same, whether a test holds or not.
-either-way : {A : Type 0} (test : Bool) (x : A) → cond test x x ≡ x
-either-way true x = refl
-either-way false x = refl
 
 module _ (d : Description) (w : WellFormed d) {l : Layout} (opens : opened (encoded d) ≡ Opened l) (layout : LayoutOf (encoded d) (headerBytes d) (map chunkBytes (d .chunks)) l) where
   -- Q4 to Q6.
@@ -115,8 +111,7 @@ module _ (d : Description) (w : WellFormed d) {l : Layout} (opens : opened (enco
   frames-at samples i number =
       let s = samples-listed d w layout samples i in
       record {
-        number = by-number opens s (λ f. framesIf (encoded d) f .number) (λ x. 0) emptySample (λ x f at p. refl) number;
-        place = by-number opens s (λ f. framesIf (encoded d) f .place) (λ x. 0) emptySample (λ x f at p. refl) number ∙ either-way (leb 1 number && ltb (number - 1) (length samples)) 0;
+        outcome = by-number opens s (λ f. framesIf (encoded d) f .outcome) (λ x. noRefusal) emptySample (λ x f at p. refl) number;
         length = by-number opens s (λ f. framesIf (encoded d) f .length) (λ x. length (storedFrames x)) emptySample (λ x f at p. frames-length x p) number;
         bytes = by-number opens s (λ f. partOf (encoded d) (framesIf (encoded d) f .offset) (framesIf (encoded d) f .length)) storedFrames emptySample (λ x f at p. frames-shown x p) number;
       }

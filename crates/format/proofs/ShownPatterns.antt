@@ -24,7 +24,7 @@ use Rattle.numbers.specs.Numbers.{number16, bytes16, bytes32}
 use Rattle.blocks.specs.Sizes.{sizeOf}
 use Rattle.blocks.specs.declared.Kind.the-variants.{Pattern as PatternKind}
 use Rattle.module.specs.Streams.{packedBytes}
-use Rattle.queries.specs.Lengths.{refusedLength, writtenLength, lengthIf, outputIf}
+use Rattle.refusal.specs.Lengths.{refusedLength, writtenLength, lengthIf, outputIf}
 use Rattle.patterns.specs.Shown.{lengthOf}
 use Rattle.grammar.proofs.Locating.{PartAt, number16-start}
 use Rattle.grammar.proofs.Cutting.{Sized}

@@ -8,7 +8,7 @@ use mathlib.Core.Bool.{cond, _&&_}
 use lib.ListN.{length, getD, replicate}
 use lib.Dec.{leb, ltb}
 use lib.IntN.{ℤ, pos, _*ℤ_}
-use Rattle.refusal.specs.Numbers.{refusal}
+use Rattle.refusal.specs.Numbers.{refusal, noRefusal, refusedOutcome}
 use Rattle.refusal.specs.declared.Cause.the-variants.{NotThere}
 use Rattle.refusal.specs.declared.Refusal.{Refusal}
 use Rattle.cells.specs.Cells.{joined, cellBytes, bytesOf, emptyCell}
@@ -18,8 +18,8 @@ use Rattle.packed_rows.specs.Answers.{cellThere}
 use Rattle.packed_rows.specs.declared.CellAnswer.{CellAnswer}
 use Rattle.packed_rows.specs.declared.CellAnswer.the-variants.{Found, Refused}
 use Rattle.numbers.specs.Numbers.{signedBy, signed16, eachFrom, bytes16, unsigned16}
-use Rattle.queries.specs.Lengths.{refusedLength, lengthIf, outputIf}
-use Rattle.queries.specs.declared.LengthAnswer.{LengthAnswer}
+use Rattle.refusal.specs.Lengths.{refusedLength, lengthIf, outputIf}
+use Rattle.refusal.specs.declared.LengthAnswer.{LengthAnswer}
 use Rattle.summary.specs.Shown.{versionAnswer, nameAnswer, infoAnswer}
 use Rattle.summary.specs.declared.VersionAnswer.{VersionAnswer}
 use Rattle.summary.specs.declared.NameAnswer.{NameAnswer}
@@ -54,18 +54,18 @@ listed show refused other first xs number =
 
 -- Q4.
 abbrev pub versionRecord : Description → VersionAnswer
-versionRecord d = record { number = 0; place = 0; version = d .version; revision = d .revision }
+versionRecord d = record { outcome = noRefusal; version = d .version; revision = d .revision }
 
 -- Q5: the name, and 44 zeros where there is none.
 abbrev pub Named : List Chunk → List ℕ → Type 0
 Named chunks name = In chunks (NAME name) ⊎ ((name ≡ replicate 44 0) × ((other : List ℕ) → In chunks (NAME other) → ⊥))
 
 abbrev pub nameRecord : List ℕ → NameAnswer
-nameRecord name = record { number = 0; place = 0; name = name }
+nameRecord name = record { outcome = noRefusal; name = name }
 
 -- Q6.
 abbrev pub infoRecord : Info → InfoAnswer
-infoRecord i = record { number = 0; place = 0; instruments = i .instruments; samples = i .samples; songs = i .songs; patterns = i .patterns; tracks = i .tracks }
+infoRecord i = record { outcome = noRefusal; instruments = i .instruments; samples = i .samples; songs = i .songs; patterns = i .patterns; tracks = i .tracks }
 
 -- Q7: a song, an entry of its playlist, and the playlist.
 abbrev pub emptySong : Song
@@ -75,10 +75,10 @@ abbrev pub ofSong : {R : Type 0} → (Song → R) → R → List Song → ℕ �
 ofSong show refused songs number = listed show refused emptySong 0 songs number
 
 abbrev pub songRecord : Song → SongAnswer
-songRecord s = record { number = 0; place = 0; name = s .name; length = length (s .playlist) }
+songRecord s = record { outcome = noRefusal; name = s .name; length = length (s .playlist) }
 
 abbrev pub entryRecord : ℕ → Song → EntryAnswer
-entryRecord entry s = cond (ltb entry (length (s .playlist))) (record { number = 0; place = 0; pattern = getD (s .playlist) entry 0 }) (noEntry notThere)
+entryRecord entry s = cond (ltb entry (length (s .playlist))) (record { outcome = noRefusal; pattern = getD (s .playlist) entry 0 }) (noEntry notThere)
 
 abbrev pub playlistLength : ℕ → Song → LengthAnswer
 playlistLength room s = lengthIf (2 * length (s .playlist)) room
@@ -92,8 +92,7 @@ emptyInstrument = record { name = []; sample = 0; volume = 0; rate = 0; loopStar
 
 abbrev pub instrumentRecord : Instrument → InstrumentAnswer
 instrumentRecord i = record {
-  number = 0;
-  place = 0;
+  outcome = noRefusal;
   name = i .name;
   sample = i .sample;
   volume = i .volume;
@@ -113,7 +112,7 @@ abbrev pub Envelopes : List Chunk → EnvelopeKind → List Envelope → Type 0
 Envelopes chunks kind es = In chunks (envelopeChunk kind es) ⊎ ((es ≡ []) × ((others : List Envelope) → In chunks (envelopeChunk kind others) → ⊥))
 
 abbrev pub countRecord : List Envelope → CountAnswer
-countRecord es = record { number = 0; place = 0; count = length es }
+countRecord es = record { outcome = noRefusal; count = length es }
 
 abbrev pub emptyEnvelope : Envelope
 emptyEnvelope = record { instrument = 0; flags = 0; sections = 0; firstSustain = 0; loopFirst = 0; loopLast = 0; secondSustain = 0; points = [] }
@@ -122,8 +121,7 @@ emptyEnvelope = record { instrument = 0; flags = 0; sections = 0; firstSustain =
 -- says: in version 2 a value v of panning is 4v − 128.
 abbrev pub envelopeRecord : EnvelopeKind → ℕ → Envelope → EnvelopeAnswer
 envelopeRecord kind version e = record {
-  number = 0;
-  place = 0;
+  outcome = noRefusal;
   instrument = e .instrument;
   flags = e .flags;
   sections = e .sections;
@@ -143,7 +141,7 @@ abbrev pub ofPattern : {R : Type 0} → (Pattern → R) → R → List Pattern �
 ofPattern show refused patterns number = listed show refused emptyPattern 0 patterns number
 
 abbrev pub rowsRecord : Pattern → RowsAnswer
-rowsRecord p = record { number = 0; place = 0; rows = length (p .rows) }
+rowsRecord p = record { outcome = noRefusal; rows = length (p .rows) }
 
 abbrev pub cellRecord : ℕ → ℕ → ℕ → Pattern → CellAnswer
 cellRecord tracks row track p =
@@ -162,7 +160,7 @@ abbrev pub ofSample : {R : Type 0} → (Sample → R) → R → List Sample → 
 ofSample show refused samples number = listed show refused emptySample 1 samples number
 
 abbrev pub sampleRecord : Sample → SampleAnswer
-sampleRecord s = record { number = 0; place = 0; width = 8 * flagsOf (s .width); frames = length (s .frames) }
+sampleRecord s = record { outcome = noRefusal; width = 8 * flagsOf (s .width); frames = length (s .frames) }
 
 abbrev pub storedFrames : Sample → List ℕ
 storedFrames s = joined (map (frameBytes (s .width)) (s .frames))
@@ -173,7 +171,7 @@ frame16 sixteen f = signed16 f
 frame16 thirtyTwo f = dividedDown (signedBy 2147483648 f)
 
 abbrev pub frameRecord : ℕ → Sample → FrameAnswer
-frameRecord frame s = cond (ltb frame (length (s .frames))) (record { number = 0; place = 0; frame = frame16 (s .width) (getD (s .frames) frame 0) }) (noFrame notThere)
+frameRecord frame s = cond (ltb frame (length (s .frames))) (record { outcome = noRefusal; frame = frame16 (s .width) (getD (s .frames) frame 0) }) (noFrame notThere)
 
 abbrev pub framesLength : ℕ → Sample → LengthAnswer
 framesLength room s = lengthIf (2 * length (s .frames)) room
@@ -183,8 +181,7 @@ framesWritten out s = outputIf (framesLength (length out) s) (joined (map (λ f.
 
 -- Q12: the frames, as a part of the module: the refusal or none, the length, and the bytes. Where the part stands is the module's own.
 pub record ShowsFrames (m : List ℕ) (samples : List Sample) (sample : ℕ) : Type 0 where
-  pub number : framesAnswer m sample .number ≡ ofSample (λ s. 0) (notThere .number) samples sample
-  pub place : framesAnswer m sample .place ≡ 0
+  pub outcome : framesAnswer m sample .outcome ≡ ofSample (λ s. noRefusal) (refusedOutcome notThere) samples sample
   pub length : framesAnswer m sample .length ≡ ofSample (λ s. length (storedFrames s)) 0 samples sample
   pub bytes : framesPart m sample ≡ ofSample storedFrames [] samples sample
 

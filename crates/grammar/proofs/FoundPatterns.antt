@@ -27,7 +27,7 @@ use Rattle.blocks.specs.Sizes.{sizeOf, firstBlock}
 use Rattle.blocks.specs.declared.Kind.the-variants.{Pattern as PatternKind}
 use Rattle.module.specs.Streams.{packedBytes}
 use Rattle.queries.specs.Finding.{found}
-use Rattle.queries.specs.Lengths.{refusedLength, writtenLength, lengthIf}
+use Rattle.refusal.specs.Lengths.{refusedLength, writtenLength, lengthIf}
 use Rattle.queries.specs.declared.Block.{Block}
 use Rattle.queries.specs.declared.Found.the-variants.{At}
 use Rattle.queries.specs.declared.Thing.the-variants.{Pattern}

@@ -4,9 +4,10 @@
 -- packed bytes show the order of tracks.
 use Prim.Native.Nat.{ℕ, suc}
 use mathlib.Core.Path.{_≡_, refl}
-use mathlib.Core.List.{List, [], _∷_, map}
+use mathlib.Core.List.{List, [], _∷_, _++_, map}
 use lib.ListN.{take, replicate}
 use lib.IntN.{ℤ, pos, negsuc}
+use Rattle.refusal.specs.Numbers.{outcomeNumbers}
 use Rattle.cells.specs.Cells.{joined, rowsOf}
 use Rattle.cells.specs.Shown.{shownNote, noteNumbers}
 use Rattle.packed_rows.specs.Stream.{readFrom, reading, cellsRead}
@@ -109,14 +110,14 @@ signNumbers : ℤ → List ℕ
 signNumbers (pos n) = 0 ∷ n ∷ []
 signNumbers (negsuc n) = 1 ∷ suc n ∷ []
 
--- The first so many values of an envelope as it is shown, behind number and place of its refusal; and a frame likewise.
+-- The first so many values of an envelope as it is shown, after number and place of its refusal; and a frame likewise.
 valueNumbers : ℕ → EnvelopeAnswer → List ℕ
 unfolding signNumbers
-valueNumbers n a = a .number ∷ a .place ∷ joined (map signNumbers (take n (a .values)))
+valueNumbers n a = outcomeNumbers (a .outcome) ++ joined (map signNumbers (take n (a .values)))
 
 frameShown : FrameAnswer → List ℕ
 unfolding signNumbers
-frameShown a = a .number ∷ a .place ∷ signNumbers (a .frame)
+frameShown a = outcomeNumbers (a .outcome) ++ signNumbers (a .frame)
 
 -- P10: a sample of 100 frames of 8 bits, and an instrument of it with a forward loop. Its block stands at 42.
 p10 : List ℕ → List ℕ → List ℕ

@@ -3,25 +3,18 @@
 use Prim.Native.Nat.{ℕ, _-_, _*_, _/_, _%_}
 use mathlib.Core.List.{List, [], _∷_, _++_, map}
 use lib.ListN.{length, replicate}
-use Rattle.refusal.specs.Numbers.{verdictNumber, verdictPlace}
-use Rattle.refusal.specs.declared.Verdict.{Verdict}
+use Rattle.refusal.specs.Numbers.{verdictNumbers}
 use Rattle.cells.specs.Cells.{joined}
 use Rattle.packed_rows.specs.Answers.{checkAnswer}
 use Rattle.module.specs.Verdicts.{moduleVerdict}
 use Rattle.grammar.specs.Rules.{infoLetters, songLetters, instLetters, pattLetters, smplLetters}
 
--- A verdict as number and place; 0 0 is accepted.
-unfoldable pub verdictNumbers : Verdict → List ℕ
-verdictNumbers v = verdictNumber v ∷ verdictPlace v ∷ []
-
--- What the check of a stream says.
+-- What the check of a stream says: number and place; 0 0 is accepted.
 unfoldable pub checked : ℕ → ℕ → List ℕ → List ℕ
-unfolding verdictNumbers
 checked rows tracks stream = verdictNumbers (checkAnswer stream rows tracks)
 
 -- What the check of a module says.
 unfoldable pub moduleChecked : List ℕ → List ℕ
-unfolding verdictNumbers
 moduleChecked m = verdictNumbers (moduleVerdict m)
 
 -- A number below 65,536 as 2 bytes.

@@ -60,7 +60,7 @@ use Rattle.blocks.specs.Filling.{dataEnd}
 use Rattle.module.specs.Streams.{packedBytes}
 use Rattle.module.specs.Verdicts.{opened, moduleVerdict}
 use Rattle.queries.specs.Finding.{kindOf, chunkOf, firstOf, found}
-use Rattle.queries.specs.Lengths.{lengthIf}
+use Rattle.refusal.specs.Lengths.{lengthIf}
 use Rattle.queries.specs.declared.Block.{Block}
 use Rattle.queries.specs.declared.Found.the-variants.{At, Refused as FindingRefused}
 use Rattle.queries.specs.declared.Thing.{Thing}

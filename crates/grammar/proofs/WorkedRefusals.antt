@@ -10,39 +10,25 @@ use mathlib.Core.Path.{_≡_, refl}
 use mathlib.Core.List.{List, [], _∷_, _++_, map}
 use lib.ListN.{length, take, replicate}
 use borrow.Author.Tests.{lt-leb}
+use Rattle.refusal.specs.Numbers.{outcomeNumbers}
+use Rattle.refusal.specs.declared.Outcome.{Outcome}
 use Rattle.refusal.specs.declared.Verdict.the-variants.{Refused}
 use Rattle.cells.specs.Cells.{joined}
 use Rattle.packed_rows.specs.Stream.{readFrom, reading, cellsRead}
-use Rattle.packed_rows.specs.Answers.{unpackAnswer, packAnswer, repackAnswer, cellOf, cellNumbers}
-use Rattle.packed_rows.specs.declared.Unpacking.{Unpacking}
-use Rattle.packed_rows.specs.declared.Unpacking.the-variants.{Unpacked, Refused as UnpackingRefused}
-use Rattle.packed_rows.specs.declared.Packing.{Packing}
-use Rattle.packed_rows.specs.declared.Packing.the-variants.{Packed, Refused as PackingRefused}
+use Rattle.packed_rows.specs.Answers.{unpackAnswer, packAnswer, repackAnswer, cellOf, unpackingNumbers, packingNumbers, cellNumbers}
+use Rattle.packed_rows.specs.declared.CellAnswer.{CellAnswer}
 use Rattle.numbers.specs.Numbers.{byteAt, number16, number32}
 use Rattle.layout.specs.Chunks.{chunksFrom, chunks}
 use Rattle.blocks.specs.Sizes.{sizeOf}
 use Rattle.module.specs.Verdicts.{moduleVerdict}
-use Rattle.queries.specs.declared.LengthAnswer.{LengthAnswer}
 use Rattle.summary.specs.Shown.{versionAnswer, nameAnswer, infoAnswer}
-use Rattle.summary.specs.declared.VersionAnswer.{VersionAnswer}
-use Rattle.summary.specs.declared.NameAnswer.{NameAnswer}
-use Rattle.summary.specs.declared.InfoAnswer.{InfoAnswer}
 use Rattle.songs.specs.Shown.{songAnswer, entryAnswer, playlistAnswer}
-use Rattle.songs.specs.declared.SongAnswer.{SongAnswer}
-use Rattle.songs.specs.declared.EntryAnswer.{EntryAnswer}
 use Rattle.instruments.specs.Shown.{instrumentAnswer}
-use Rattle.instruments.specs.declared.InstrumentAnswer.{InstrumentAnswer}
 use Rattle.envelopes.specs.Shown.{countAnswer, envelopeAnswer}
-use Rattle.envelopes.specs.declared.CountAnswer.{CountAnswer}
-use Rattle.envelopes.specs.declared.EnvelopeAnswer.{EnvelopeAnswer}
 use Rattle.envelopes.specs.declared.EnvelopeKind.{EnvelopeKind}
 use Rattle.envelopes.specs.declared.EnvelopeKind.the-variants.{Volume, Panning}
 use Rattle.patterns.specs.Shown.{rowsAnswer, cellAnswer, unpackAnswer as patternAnswer}
-use Rattle.patterns.specs.declared.RowsAnswer.{RowsAnswer}
 use Rattle.samples.specs.Shown.{sampleAnswer, framesAnswer, frameAnswer, allFramesAnswer}
-use Rattle.samples.specs.declared.SampleAnswer.{SampleAnswer}
-use Rattle.samples.specs.declared.FramesAnswer.{FramesAnswer}
-use Rattle.samples.specs.declared.FrameAnswer.{FrameAnswer}
 use Rattle.grammar.specs.Rules.{nameLetters, infoLetters, songLetters, instLetters, pattLetters, smplLetters, venvLetters, penvLetters}
 use Rattle.grammar.proofs.Tables.{sameRow, sameRows, same-rows}
 use Rattle.grammar.proofs.SmallModules.{checked, moduleChecked, chunk, moduleOf, info, content}
@@ -401,45 +387,13 @@ loopAndStreamFaults =
     ∷ checkGives (content [] [] (pattern 2 (0 ∷ []) ∷ []) [] []) 15 50
     ∷ []
 
--- Number and place of what each query answers.
-abbrev versionNumbers : VersionAnswer → List ℕ
-versionNumbers a = a .number ∷ a .place ∷ []
+-- What a query's answer gives: number and place; and a cell that is refused: each of its values is 0.
+answerGives : Outcome → ℕ → ℕ → Worked
+unfolding gives
+answerGives outcome = gives (outcomeNumbers outcome)
 
-abbrev nameNumbers : NameAnswer → List ℕ
-nameNumbers a = a .number ∷ a .place ∷ []
-
-abbrev infoNumbers : InfoAnswer → List ℕ
-infoNumbers a = a .number ∷ a .place ∷ []
-
-abbrev songNumbers : SongAnswer → List ℕ
-songNumbers a = a .number ∷ a .place ∷ []
-
-abbrev entryNumbers : EntryAnswer → List ℕ
-entryNumbers a = a .number ∷ a .place ∷ []
-
-abbrev lengthNumbers : LengthAnswer → List ℕ
-lengthNumbers a = a .number ∷ a .place ∷ []
-
-abbrev instrumentNumbers : InstrumentAnswer → List ℕ
-instrumentNumbers a = a .number ∷ a .place ∷ []
-
-abbrev countNumbers : CountAnswer → List ℕ
-countNumbers a = a .number ∷ a .place ∷ []
-
-abbrev envelopeNumbers : EnvelopeAnswer → List ℕ
-envelopeNumbers a = a .number ∷ a .place ∷ []
-
-abbrev rowsNumbers : RowsAnswer → List ℕ
-rowsNumbers a = a .number ∷ a .place ∷ []
-
-abbrev sampleNumbers : SampleAnswer → List ℕ
-sampleNumbers a = a .number ∷ a .place ∷ []
-
-abbrev framesNumbers : FramesAnswer → List ℕ
-framesNumbers a = a .number ∷ a .place ∷ []
-
-abbrev frameNumbers : FrameAnswer → List ℕ
-frameNumbers a = a .number ∷ a .place ∷ []
+cellGives : CellAnswer → ℕ → ℕ → Worked
+cellGives answer number place = record { found = cellNumbers answer; said = number ∷ place ∷ replicate 9 0 }
 
 -- The 42 bytes, whose own refusal is 8 at 42.
 cut : List ℕ
@@ -463,84 +417,73 @@ oneVolume = enveloped 3 venvLetters (oneValue 1 0)
 
 -- The module's own refusal, before 18 and 17: `cut` has nothing of what is asked for, and there is no room.
 ownRefusals : List Worked
-unfolding gives cut
+unfolding answerGives cellGives cut
 ownRefusals =
-    gives (versionNumbers (versionAnswer cut)) 8 42
-    ∷ gives (nameNumbers (nameAnswer cut)) 8 42
-    ∷ gives (infoNumbers (infoAnswer cut)) 8 42
-    ∷ gives (songNumbers (songAnswer cut 0)) 8 42
-    ∷ gives (entryNumbers (entryAnswer cut 0 0)) 8 42
-    ∷ gives (lengthNumbers (playlistAnswer cut 0 0)) 8 42
-    ∷ gives (instrumentNumbers (instrumentAnswer cut 0)) 8 42
-    ∷ gives (countNumbers (countAnswer cut Panning)) 8 42
-    ∷ gives (envelopeNumbers (envelopeAnswer cut Volume 0)) 8 42
-    ∷ gives (rowsNumbers (rowsAnswer cut 0)) 8 42
-    ∷ gives (cellNumbers (cellAnswer cut 0 0 0)) 8 42
-    ∷ gives (lengthNumbers (patternAnswer cut 0 0)) 8 42
-    ∷ gives (sampleNumbers (sampleAnswer cut 0)) 8 42
-    ∷ gives (framesNumbers (framesAnswer cut 0)) 8 42
-    ∷ gives (frameNumbers (frameAnswer cut 0 0)) 8 42
-    ∷ gives (lengthNumbers (allFramesAnswer cut 0 0)) 8 42
+    answerGives (versionAnswer cut .outcome) 8 42
+    ∷ answerGives (nameAnswer cut .outcome) 8 42
+    ∷ answerGives (infoAnswer cut .outcome) 8 42
+    ∷ answerGives (songAnswer cut 0 .outcome) 8 42
+    ∷ answerGives (entryAnswer cut 0 0 .outcome) 8 42
+    ∷ answerGives (playlistAnswer cut 0 0 .outcome) 8 42
+    ∷ answerGives (instrumentAnswer cut 0 .outcome) 8 42
+    ∷ answerGives (countAnswer cut Panning .outcome) 8 42
+    ∷ answerGives (envelopeAnswer cut Volume 0 .outcome) 8 42
+    ∷ answerGives (rowsAnswer cut 0 .outcome) 8 42
+    ∷ cellGives (cellAnswer cut 0 0 0) 8 42
+    ∷ answerGives (patternAnswer cut 0 0 .outcome) 8 42
+    ∷ answerGives (sampleAnswer cut 0 .outcome) 8 42
+    ∷ answerGives (framesAnswer cut 0 .outcome) 8 42
+    ∷ answerGives (frameAnswer cut 0 0 .outcome) 8 42
+    ∷ answerGives (allFramesAnswer cut 0 0 .outcome) 8 42
     ∷ []
 
 -- 18 at 0, then 17 at the needed length. Instruments, samples and tracks are counted from 1, all else from 0.
 queries : List Worked
-unfolding checkGives gives oneOfEach oneVolume
+unfolding checkGives answerGives cellGives oneOfEach oneVolume
 queries =
     checkGives oneOfEach 0 0
-    ∷ gives (songNumbers (songAnswer oneOfEach 1)) 18 0
-    ∷ gives (entryNumbers (entryAnswer oneOfEach 0 1)) 18 0
-    ∷ gives (entryNumbers (entryAnswer oneOfEach 1 0)) 18 0
-    ∷ gives (instrumentNumbers (instrumentAnswer oneOfEach 0)) 18 0
-    ∷ gives (instrumentNumbers (instrumentAnswer oneOfEach 2)) 18 0
-    ∷ gives (envelopeNumbers (envelopeAnswer oneVolume Volume 0)) 0 0
-    ∷ gives (envelopeNumbers (envelopeAnswer oneVolume Volume 1)) 18 0
-    ∷ gives (envelopeNumbers (envelopeAnswer oneVolume Panning 0)) 18 0
-    ∷ gives (rowsNumbers (rowsAnswer oneOfEach 1)) 18 0
-    ∷ gives (sampleNumbers (sampleAnswer oneOfEach 0)) 18 0
-    ∷ gives (sampleNumbers (sampleAnswer oneOfEach 2)) 18 0
-    ∷ gives (framesNumbers (framesAnswer oneOfEach 2)) 18 0
-    ∷ gives (frameNumbers (frameAnswer oneOfEach 1 2)) 18 0
-    ∷ gives (frameNumbers (frameAnswer oneOfEach 2 0)) 18 0
+    ∷ answerGives (songAnswer oneOfEach 1 .outcome) 18 0
+    ∷ answerGives (entryAnswer oneOfEach 0 1 .outcome) 18 0
+    ∷ answerGives (entryAnswer oneOfEach 1 0 .outcome) 18 0
+    ∷ answerGives (instrumentAnswer oneOfEach 0 .outcome) 18 0
+    ∷ answerGives (instrumentAnswer oneOfEach 2 .outcome) 18 0
+    ∷ answerGives (envelopeAnswer oneVolume Volume 0 .outcome) 0 0
+    ∷ answerGives (envelopeAnswer oneVolume Volume 1 .outcome) 18 0
+    ∷ answerGives (envelopeAnswer oneVolume Panning 0 .outcome) 18 0
+    ∷ answerGives (rowsAnswer oneOfEach 1 .outcome) 18 0
+    ∷ answerGives (sampleAnswer oneOfEach 0 .outcome) 18 0
+    ∷ answerGives (sampleAnswer oneOfEach 2 .outcome) 18 0
+    ∷ answerGives (framesAnswer oneOfEach 2 .outcome) 18 0
+    ∷ answerGives (frameAnswer oneOfEach 1 2 .outcome) 18 0
+    ∷ answerGives (frameAnswer oneOfEach 2 0 .outcome) 18 0
     -- A cell: no such pattern, row, track.
-    ∷ gives (cellNumbers (cellAnswer oneOfEach 1 0 1)) 18 0
-    ∷ gives (cellNumbers (cellAnswer oneOfEach 0 2 1)) 18 0
-    ∷ gives (cellNumbers (cellAnswer oneOfEach 0 0 0)) 18 0
-    ∷ gives (cellNumbers (cellAnswer oneOfEach 0 0 5)) 18 0
+    ∷ cellGives (cellAnswer oneOfEach 1 0 1) 18 0
+    ∷ cellGives (cellAnswer oneOfEach 0 2 1) 18 0
+    ∷ cellGives (cellAnswer oneOfEach 0 0 0) 18 0
+    ∷ cellGives (cellAnswer oneOfEach 0 0 5) 18 0
     -- 18 before 17: there is no room.
-    ∷ gives (lengthNumbers (playlistAnswer oneOfEach 1 0)) 18 0
-    ∷ gives (lengthNumbers (patternAnswer oneOfEach 1 0)) 18 0
-    ∷ gives (lengthNumbers (allFramesAnswer oneOfEach 2 0)) 18 0
+    ∷ answerGives (playlistAnswer oneOfEach 1 0 .outcome) 18 0
+    ∷ answerGives (patternAnswer oneOfEach 1 0 .outcome) 18 0
+    ∷ answerGives (allFramesAnswer oneOfEach 2 0 .outcome) 18 0
     -- 17: an entry of 2 bytes; 2 rows of 4 cells of 6 bytes; 2 frames of 2 bytes.
-    ∷ gives (lengthNumbers (playlistAnswer oneOfEach 0 1)) 17 2
-    ∷ gives (lengthNumbers (patternAnswer oneOfEach 0 47)) 17 48
-    ∷ gives (lengthNumbers (allFramesAnswer oneOfEach 1 3)) 17 4
+    ∷ answerGives (playlistAnswer oneOfEach 0 1 .outcome) 17 2
+    ∷ answerGives (patternAnswer oneOfEach 0 47 .outcome) 17 48
+    ∷ answerGives (allFramesAnswer oneOfEach 1 3 .outcome) 17 4
     -- With just that room there is no refusal.
-    ∷ gives (lengthNumbers (playlistAnswer oneOfEach 0 2)) 0 0
-    ∷ gives (lengthNumbers (patternAnswer oneOfEach 0 48)) 0 0
-    ∷ gives (lengthNumbers (allFramesAnswer oneOfEach 1 4)) 0 0
+    ∷ answerGives (playlistAnswer oneOfEach 0 2 .outcome) 0 0
+    ∷ answerGives (patternAnswer oneOfEach 0 48 .outcome) 0 0
+    ∷ answerGives (allFramesAnswer oneOfEach 1 4 .outcome) 0 0
     ∷ []
 
--- Number and place of what unpacking and packing answer.
-unpackingNumbers : Unpacking → List ℕ
-unpackingNumbers (Unpacked n) = 0 ∷ 0 ∷ []
-unpackingNumbers (UnpackingRefused r) = r .number ∷ r .place ∷ []
-
-packingNumbers : Packing → List ℕ
-packingNumbers (Packed n) = 0 ∷ 0 ∷ []
-packingNumbers (PackingRefused r) = r .number ∷ r .place ∷ []
-
+-- Number and place of what unpacking, packing and repacking answer.
 unpacked : List ℕ → ℕ → ℕ → ℕ → List ℕ
-unfolding unpackingNumbers
-unpacked stream rows tracks room = unpackingNumbers (unpackAnswer stream rows tracks room)
+unpacked stream rows tracks room = take 2 (unpackingNumbers (unpackAnswer stream rows tracks room))
 
 packed : List ℕ → ℕ → ℕ → ℕ → List ℕ
-unfolding packingNumbers
-packed cells rows tracks room = packingNumbers (packAnswer cells rows tracks room)
+packed cells rows tracks room = take 2 (packingNumbers (packAnswer cells rows tracks room))
 
 repacked : List ℕ → ℕ → ℕ → ℕ → List ℕ
-unfolding packingNumbers
-repacked stream rows tracks room = packingNumbers (repackAnswer stream rows tracks room)
+repacked stream rows tracks room = take 2 (packingNumbers (repackAnswer stream rows tracks room))
 
 -- A stream that is broken at its front: no mask follows the track.
 broken : List ℕ
@@ -548,7 +491,7 @@ broken = 255 ∷ []
 
 -- Streams: the check 16, 15; unpacking 16, 17, 15; packing 16, 17; repacking 16, 15, 17; a cell 16, 18, 15.
 streams : List Worked
-unfolding gives checked unpacked packed repacked broken entryStream
+unfolding gives cellGives checked unpacked packed repacked broken entryStream
 streams =
     -- 16 before 15: rows 65,536; tracks 2, 5 and 256.
     gives (checked 65536 4 broken) 16 0
@@ -588,11 +531,11 @@ streams =
     ∷ gives (repacked entryStream 2 4 5) 17 6
     ∷ gives (repacked entryStream 2 4 6) 0 0
     -- A cell: 16 before 18; 18 before 15; 15.
-    ∷ gives (cellNumbers (cellOf broken 1 2 1 1)) 16 0
-    ∷ gives (cellNumbers (cellOf broken 1 4 1 1)) 18 0
-    ∷ gives (cellNumbers (cellOf broken 1 4 0 0)) 18 0
-    ∷ gives (cellNumbers (cellOf broken 1 4 0 5)) 18 0
-    ∷ gives (cellNumbers (cellOf broken 1 4 0 1)) 15 0
+    ∷ cellGives (cellOf broken 1 2 1 1) 16 0
+    ∷ cellGives (cellOf broken 1 4 1 1) 18 0
+    ∷ cellGives (cellOf broken 1 4 0 0) 18 0
+    ∷ cellGives (cellOf broken 1 4 0 5) 18 0
+    ∷ cellGives (cellOf broken 1 4 0 1) 15 0
     ∷ []
 
 -- The table.

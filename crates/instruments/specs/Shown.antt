@@ -4,6 +4,7 @@ use Prim.Native.Nat.{ℕ, _+_}
 use mathlib.Core.List.{List}
 use lib.ListN.{replicate}
 use lib.IntN.{pos}
+use Rattle.refusal.specs.Numbers.{noRefusal, refusedOutcome}
 use Rattle.refusal.specs.declared.Refusal.{Refusal}
 use Rattle.numbers.specs.Numbers.{number16, number32, signed16, bytesFrom}
 use Rattle.queries.specs.Finding.{found}
@@ -14,8 +15,7 @@ use Rattle.instruments.specs.declared.InstrumentAnswer.{InstrumentAnswer
 
 abbrev pub noInstrument : Refusal → InstrumentAnswer
 noInstrument r = record {
-  number = r .number;
-  place = r .place;
+  outcome = refusedOutcome r;
   name = replicate 30 0;
   sample = 0;
   volume = 0;
@@ -30,8 +30,7 @@ noInstrument r = record {
 -- flags 2.
 abbrev pub shownInstrument : List ℕ → ℕ → InstrumentAnswer
 shownInstrument m at = record {
-  number = 0;
-  place = 0;
+  outcome = noRefusal;
   name = bytesFrom m at 30;
   sample = number16 m (at + 30);
   volume = number16 m (at + 32);

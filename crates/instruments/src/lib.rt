@@ -6,7 +6,10 @@ use numbers::signed;
 use queries::Found;
 use queries::Thing;
 use queries::find;
+use refusal::Outcome;
 use refusal::Refusal;
+use refusal::Verdict;
+use refusal::outcome_of;
 ghost use mathlib.Core.Path.{_≡_};
 ghost use Prim.Native.Nat.{_<_};
 ghost use Rattle.numbers.specs.Numbers.{bytesFrom};
@@ -15,8 +18,7 @@ ghost use Rattle.instruments.specs.Shown.{noInstrument, shownInstrument,
 // An instrument.
 #[repr(C)]
 pub struct InstrumentAnswer {
-    pub number: u64,
-    pub place: usize,
+    pub outcome: Outcome,
     pub name: [u8; 30],
     pub sample: u16,
     pub volume: u16,
@@ -40,8 +42,7 @@ fn no_instrument(r: Refusal) -> InstrumentAnswer
     ensures { λ a. ⌜ a ≡ noInstrument r ⌝ }
 {
     InstrumentAnswer {
-        number: r.number as u64,
-        place: r.place,
+        outcome: outcome_of(Verdict::Refused(r)),
         name: [0; 30],
         sample: 0,
         volume: 0,
@@ -59,8 +60,7 @@ fn instrument_at(m: &[u8], at: usize) -> InstrumentAnswer
     ensures { λ r. ⌜ r ≡ shownInstrument (now (m .entry)) at ⌝ }
 {
     InstrumentAnswer {
-        number: 0,
-        place: 0,
+        outcome: outcome_of(Verdict::Accepted),
         name: name30(m, at),
         sample: number16(m, at + 30),
         volume: number16(m, at + 32),

@@ -5,7 +5,7 @@ use mathlib.Core.List.{List, [], _∷_, _++_}
 use mathlib.Core.Bool.{Bool, cond, not}
 use lib.ListN.{length, getD, drop}
 use lib.Dec.{eqb, leb, ltb}
-use Rattle.refusal.specs.Numbers.{refusal}
+use Rattle.refusal.specs.Numbers.{refusal, acceptedNumbers, refusedNumbers}
 use Rattle.refusal.specs.declared.Cause.the-variants.{Stream, Sizes, Room, NotThere}
 use Rattle.refusal.specs.declared.Verdict.{Verdict}
 use Rattle.refusal.specs.declared.Verdict.the-variants.{Accepted, Refused}
@@ -13,7 +13,7 @@ use Rattle.cells.specs.Cells.{both, sizesFit, cellBytes, rowsOf, emptyCell}
 use Rattle.packed_rows.specs.Entries.{rowsFrom}
 use Rattle.packed_rows.specs.Stream.{Reading, brokenAt, whole, readStream, entriesRead, cellsRead}
 use Rattle.packed_rows.specs.Packer.{packedStream, packedLength}
-use Rattle.cells.specs.Shown.{noteNumbers, shownCell}
+use Rattle.cells.specs.Shown.{shownCell, cellValues}
 use Rattle.packed_rows.specs.declared.Unpacking.{Unpacking}
 use Rattle.packed_rows.specs.declared.Unpacking.the-variants.{Unpacked, Refused as UnpackingRefused}
 use Rattle.packed_rows.specs.declared.Packing.{Packing}
@@ -103,11 +103,17 @@ cellOf stream rows tracks row track =
     (cond (not (cellThere rows tracks row track)) (CellRefused (refusal NotThere 0))
     (cellIf (readStream rows tracks stream) tracks row track))
 
--- F1, N1 to N4: the answer for a cell as numbers: the refusal's number and place, 0 and 0 where there is none; then the note in
--- numbers, the instrument and the two commands with their parameters.
+-- F1: what unpacking and packing answer, in numbers: the value is the length written.
+abbrev pub unpackingNumbers : Unpacking → List ℕ
+unpackingNumbers (Unpacked n) = acceptedNumbers (n ∷ [])
+unpackingNumbers (UnpackingRefused r) = refusedNumbers r 1
+
+abbrev pub packingNumbers : Packing → List ℕ
+packingNumbers (Packed n) = acceptedNumbers (n ∷ [])
+packingNumbers (PackingRefused r) = refusedNumbers r 1
+
+-- F1, N1 to N4: what the question for a cell answers, in numbers: the values are the note's four numbers, the instrument and the two
+-- commands with their parameters.
 abbrev pub cellNumbers : CellAnswer → List ℕ
-cellNumbers (Found c) =
-    0 ∷ 0
-    ∷ noteNumbers (c .note) .kind ∷ noteNumbers (c .note) .octave ∷ noteNumbers (c .note) .semitone ∷ noteNumbers (c .note) .unknown
-    ∷ c .instrument ∷ c .command1 ∷ c .parameter1 ∷ c .command2 ∷ c .parameter2 ∷ []
-cellNumbers (CellRefused r) = r .number ∷ r .place ∷ []
+cellNumbers (Found c) = acceptedNumbers (cellValues c)
+cellNumbers (CellRefused r) = refusedNumbers r 9

@@ -1,39 +1,26 @@
-// The C entry points of the packed rows.
+// The C entry points of the packed rows. The fields of an answer are the numbers of the call's own answer; the check writes nothing, so its
+// length is 0.
 use packed_rows::Packing;
 use packed_rows::Unpacking;
-use refusal::Verdict;
+use refusal::LengthAnswer;
+use refusal::outcome_of;
+use refusal::refused;
+use refusal::written;
 ghost use mathlib.Core.Path.{_≡_};
+ghost use mathlib.Core.List.{[], _∷_, _++_};
 ghost use lib.ListN.{length};
-ghost use Rattle.packed_rows.specs.Answers.{checkAnswer, unpackAnswer, unpackOutput, packAnswer, packOutput};
-ghost use Rattle.pattern.specs.Answers.{told, toldVerdict, toldUnpacking, toldPacking};
-
-// An answer for C: the refusal's number (0: none) and place, and the length written (0 on a refusal).
-#[repr(C)]
-pub struct PatternAnswer {
-    pub number: u64,
-    pub place: usize,
-    pub length: usize,
-}
-
-// An answer for C: every one is made here.
-fn answer(number: u8, place: usize, length: usize) -> PatternAnswer
-    ensures { λ r. ⌜ r ≡ told number place length ⌝ }
-{
-    PatternAnswer {
-        number: number as u64,
-        place,
-        length,
-    }
-}
+ghost use Rattle.refusal.specs.Numbers.{verdictNumbers};
+ghost use Rattle.refusal.specs.Lengths.{lengthNumbers};
+ghost use Rattle.packed_rows.specs.Answers.{checkAnswer, unpackAnswer, unpackOutput, packAnswer, packOutput, unpackingNumbers, packingNumbers};
 
 // Checks a stream, for C.
 #[no_mangle]
-pub extern "C" fn dbm0_check_pattern(stream: &[u8], rows: usize, tracks: usize) -> PatternAnswer
-    ensures { λ r. ⌜ r ≡ toldVerdict (checkAnswer (now (stream .entry)) rows tracks) ⌝ }
+pub extern "C" fn dbm0_check_pattern(stream: &[u8], rows: usize, tracks: usize) -> LengthAnswer
+    ensures { λ r. ⌜ lengthNumbers r ≡ verdictNumbers (checkAnswer (now (stream .entry)) rows tracks) ++ (0 ∷ []) ⌝ }
 {
-    match packed_rows::check(stream, rows, tracks) {
-        Verdict::Accepted => answer(0, 0, 0),
-        Verdict::Refused(r) => answer(r.number, r.place, 0),
+    LengthAnswer {
+        outcome: outcome_of(packed_rows::check(stream, rows, tracks)),
+        length: 0,
     }
 }
 
@@ -44,12 +31,12 @@ pub extern "C" fn dbm0_unpack_pattern(
     rows: usize,
     tracks: usize,
     out: &mut [u8],
-) -> PatternAnswer
-    ensures { λ r. ⌜ (r ≡ toldUnpacking (unpackAnswer (now (stream .entry)) rows tracks (length (now (out .entry))))) × (now (out .exit) ≡ unpackOutput (now (stream .entry)) rows tracks (now (out .entry))) ⌝ }
+) -> LengthAnswer
+    ensures { λ r. ⌜ (lengthNumbers r ≡ unpackingNumbers (unpackAnswer (now (stream .entry)) rows tracks (length (now (out .entry))))) × (now (out .exit) ≡ unpackOutput (now (stream .entry)) rows tracks (now (out .entry))) ⌝ }
 {
     match packed_rows::unpack(stream, rows, tracks, out) {
-        Unpacking::Unpacked(n) => answer(0, 0, n),
-        Unpacking::Refused(r) => answer(r.number, r.place, 0),
+        Unpacking::Unpacked(n) => written(n),
+        Unpacking::Refused(r) => refused(r),
     }
 }
 
@@ -60,11 +47,11 @@ pub extern "C" fn dbm0_pack_pattern(
     rows: usize,
     tracks: usize,
     out: &mut [u8],
-) -> PatternAnswer
-    ensures { λ r. ⌜ (r ≡ toldPacking (packAnswer (now (cells .entry)) rows tracks (length (now (out .entry))))) × (now (out .exit) ≡ packOutput (now (cells .entry)) rows tracks (now (out .entry))) ⌝ }
+) -> LengthAnswer
+    ensures { λ r. ⌜ (lengthNumbers r ≡ packingNumbers (packAnswer (now (cells .entry)) rows tracks (length (now (out .entry))))) × (now (out .exit) ≡ packOutput (now (cells .entry)) rows tracks (now (out .entry))) ⌝ }
 {
     match packed_rows::pack(cells, rows, tracks, out) {
-        Packing::Packed(n) => answer(0, 0, n),
-        Packing::Refused(r) => answer(r.number, r.place, 0),
+        Packing::Packed(n) => written(n),
+        Packing::Refused(r) => refused(r),
     }
 }

@@ -3,6 +3,7 @@
 use Prim.Native.Nat.{ℕ}
 use mathlib.Core.List.{List}
 use lib.ListN.{length}
+use Rattle.refusal.specs.Numbers.{noRefusal, refusedOutcome}
 use Rattle.refusal.specs.declared.Refusal.{Refusal}
 use Rattle.numbers.specs.Numbers.{number16}
 use Rattle.packed_rows.specs.Answers.{cellOf, unpackAnswer as streamAnswer, unpackOutput as streamOutput}
@@ -12,20 +13,20 @@ use Rattle.packed_rows.specs.declared.Unpacking.{Unpacking}
 use Rattle.packed_rows.specs.declared.Unpacking.the-variants.{Unpacked, Refused as UnpackingRefused}
 use Rattle.module.specs.Streams.{packedBytes}
 use Rattle.queries.specs.Finding.{found}
-use Rattle.queries.specs.Lengths.{refusedLength, writtenLength}
+use Rattle.refusal.specs.Lengths.{refusedLength, writtenLength}
 use Rattle.queries.specs.declared.Block.{Block}
 use Rattle.queries.specs.declared.Found.{Found}
 use Rattle.queries.specs.declared.Found.the-variants.{At, Refused}
-use Rattle.queries.specs.declared.LengthAnswer.{LengthAnswer}
+use Rattle.refusal.specs.declared.LengthAnswer.{LengthAnswer}
 use Rattle.queries.specs.declared.Thing.the-variants.{Pattern}
 use Rattle.patterns.specs.declared.RowsAnswer.{RowsAnswer}
 
 abbrev pub noRows : Refusal → RowsAnswer
-noRows r = record { number = r .number; place = r .place; rows = 0 }
+noRows r = record { outcome = refusedOutcome r; rows = 0 }
 
 -- B4: the rows stand first.
 abbrev pub rowsIf : List ℕ → Found → RowsAnswer
-rowsIf m (At b) = record { number = 0; place = 0; rows = number16 m (b .at) }
+rowsIf m (At b) = record { outcome = noRefusal; rows = number16 m (b .at) }
 rowsIf m (Refused r) = noRows r
 
 -- Q1: the module's own refusal, then 18, else the rows.

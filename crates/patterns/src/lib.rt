@@ -7,12 +7,15 @@ use packed_rows::CellAnswer;
 use packed_rows::Unpacking;
 use queries::Block;
 use queries::Found;
-use queries::LengthAnswer;
 use queries::Thing;
 use queries::find;
-use queries::refused;
-use queries::written;
+use refusal::LengthAnswer;
+use refusal::Outcome;
 use refusal::Refusal;
+use refusal::Verdict;
+use refusal::outcome_of;
+use refusal::refused;
+use refusal::written;
 ghost use mathlib.Core.Path.{_≡_};
 ghost use Prim.Native.Nat.{_<_};
 ghost use lib.ListN.{length};
@@ -22,8 +25,7 @@ ghost use Rattle.patterns.specs.Shown.{noRows, rowsAnswer, cellIn, cellA
 // How many rows a pattern has.
 #[repr(C)]
 pub struct RowsAnswer {
-    pub number: u64,
-    pub place: usize,
+    pub outcome: Outcome,
     pub rows: u16,
 }
 
@@ -31,8 +33,7 @@ fn no_rows(r: Refusal) -> RowsAnswer
     ensures { λ a. ⌜ a ≡ noRows r ⌝ }
 {
     RowsAnswer {
-        number: r.number as u64,
-        place: r.place,
+        outcome: outcome_of(Verdict::Refused(r)),
         rows: 0,
     }
 }
@@ -43,8 +44,7 @@ pub fn rows(m: &[u8], pattern: usize) -> RowsAnswer
 {
     match find(m, Thing::Pattern, pattern) {
         Found::At(b) => RowsAnswer {
-            number: 0,
-            place: 0,
+            outcome: outcome_of(Verdict::Accepted),
             rows: number16(m, b.at),
         },
         Found::Refused(r) => no_rows(r),

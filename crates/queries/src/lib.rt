@@ -1,5 +1,4 @@
-// What all queries about a module have in common: where what is asked for stands, a name, and the answer of a query that fills a
-// lent output.
+// What all queries about a module have in common: where what is asked for is, and a name.
 use blocks::Kind;
 use blocks::block_at;
 use blocks::envelope_count;
@@ -14,7 +13,6 @@ ghost use mathlib.Core.Path.{_≡_};
 ghost use Prim.Native.Nat.{_<_};
 ghost use Rattle.numbers.specs.Numbers.{bytesFrom};
 ghost use Rattle.queries.specs.Finding.{kindOf, chunkOf, countOf, firstOf, foundIn, found, placeIn};
-ghost use Rattle.queries.specs.Lengths.{refusedLength, writtenLength};
 
 // What a query asks for.
 pub enum Thing {
@@ -37,15 +35,6 @@ pub struct Block {
 pub enum Found {
     At(Block),
     Refused(Refusal),
-}
-
-// The answer of a query that fills a lent output: the refusal's number (0: none) and place, and the length written (0 on a
-// refusal).
-#[repr(C)]
-pub struct LengthAnswer {
-    pub number: u64,
-    pub place: usize,
-    pub length: usize,
 }
 
 // The kind of its block.
@@ -141,26 +130,4 @@ pub fn name44(m: &[u8], at: usize) -> [u8; 44]
     let mut name = [0u8; 44];
     copy(m, at, &mut name);
     name
-}
-
-// The answer of a query that refuses to fill an output.
-pub fn refused(r: Refusal) -> LengthAnswer
-    ensures { λ a. ⌜ a ≡ refusedLength r ⌝ }
-{
-    LengthAnswer {
-        number: r.number as u64,
-        place: r.place,
-        length: 0,
-    }
-}
-
-// The answer of a query that has filled so much of an output.
-pub fn written(length: usize) -> LengthAnswer
-    ensures { λ r. ⌜ r ≡ writtenLength length ⌝ }
-{
-    LengthAnswer {
-        number: 0,
-        place: 0,
-        length,
-    }
 }

@@ -19,8 +19,8 @@ use Rattle.blocks.specs.declared.Kind.{Kind}
 use Rattle.fields.specs.Fields.{envelopeRules}
 use Rattle.module.specs.Verdicts.{opened}
 use Rattle.queries.specs.Finding.{kindOf, chunkOf, countOf}
-use Rattle.queries.specs.Lengths.{refusedLength, writtenLength}
-use Rattle.queries.specs.declared.LengthAnswer.{LengthAnswer}
+use Rattle.refusal.specs.Lengths.{refusedLength, writtenLength}
+use Rattle.refusal.specs.declared.LengthAnswer.{LengthAnswer}
 use Rattle.queries.specs.declared.Thing.{Thing}
 use Rattle.queries.specs.declared.Thing.the-variants.{Song, Instrument, Pattern, Sample, VolumeEnvelope, PanningEnvelope}
 use Rattle.grammar.specs.Rules.{Every}

@@ -18,7 +18,7 @@ use Rattle.refusal.specs.declared.Verdict.the-variants.{Accepted, Refused}
 use Rattle.layout.specs.declared.Layout.{Layout}
 use Rattle.layout.specs.declared.Outline.the-variants.{Found}
 use Rattle.module.specs.Verdicts.{opened, moduleVerdict}
-use Rattle.queries.specs.Lengths.{refusedLength, lengthIf, outputIf}
+use Rattle.refusal.specs.Lengths.{refusedLength, lengthIf, outputIf}
 use Rattle.grammar.specs.Rules.{Bytes}
 use Rattle.grammar.proofs.FoundBlocks.{accepted-opens, refused-opens}
 use Rattle.records.specs.Records.{allRecords, allAnswerIf, allAnswer, allOutputIf, allOutput}

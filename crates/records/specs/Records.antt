@@ -11,8 +11,8 @@ use Rattle.layout.specs.declared.Outline.the-variants.{Found, Refused}
 use Rattle.blocks.specs.Sizes.{blocksOf, envelopeCount}
 use Rattle.module.specs.Verdicts.{opened}
 use Rattle.queries.specs.Finding.{kindOf, chunkOf, countOf}
-use Rattle.queries.specs.Lengths.{refusedLength, lengthIf, outputIf}
-use Rattle.queries.specs.declared.LengthAnswer.{LengthAnswer}
+use Rattle.refusal.specs.Lengths.{refusedLength, lengthIf, outputIf}
+use Rattle.refusal.specs.declared.LengthAnswer.{LengthAnswer}
 use Rattle.queries.specs.declared.Thing.{Thing}
 use Rattle.queries.specs.declared.Thing.the-variants.{Song, Instrument, Pattern, Sample, VolumeEnvelope, PanningEnvelope}
 use Rattle.summary.specs.Shown.{shownVersion, nameOf, shownInfo}

@@ -1,2 +1,4 @@
 pub mod RuleLists
 pub mod InOrder
+pub mod FilledOutputs
+pub mod Outcomes

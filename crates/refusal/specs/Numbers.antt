@@ -1,8 +1,11 @@
--- FORMAT.md, "Refusals" (document 01, "Refusal numbers and their order"): the number of each cause, and what an answer tells.
+-- FORMAT.md, "Refusals" (document 01, "Refusal numbers and their order"): the number of each cause, and an answer in numbers.
 use Prim.Native.Nat.{ℕ}
+use mathlib.Core.List.{List, [], _∷_, _++_}
+use lib.ListN.{replicate}
 use Rattle.refusal.specs.declared.Cause.{Cause}
 use Rattle.refusal.specs.declared.Cause.the-variants.{TooLong, NotAModule, Version, ChunkCut, Identifier, Repeated, BeforeInfo, Missing, FixedLength, InfoRange, Blocks, Reference, FieldRange, Loop, Stream, Sizes, Room, NotThere}
 use Rattle.refusal.specs.declared.Refusal.{Refusal}
+use Rattle.refusal.specs.declared.Outcome.{Outcome}
 use Rattle.refusal.specs.declared.Verdict.{Verdict}
 use Rattle.refusal.specs.declared.Verdict.the-variants.{Accepted, Refused}
 
@@ -31,12 +34,29 @@ numberOf NotThere = 18
 abbrev pub refusal : Cause → ℕ → Refusal
 refusal cause place = record { number = numberOf cause; place = place }
 
--- What a verdict tells as numbers: 0 where there is no refusal (F1).
-abbrev pub verdictNumber : Verdict → ℕ
-verdictNumber Accepted = 0
-verdictNumber (Refused r) = r .number
+-- F1: the head of every answer: the refusal's number and place, 0 and 0 where there is none.
+abbrev pub noRefusal : Outcome
+noRefusal = record { number = 0; place = 0 }
 
--- The place of a verdict's refusal, 0 where there is none.
-abbrev pub verdictPlace : Verdict → ℕ
-verdictPlace Accepted = 0
-verdictPlace (Refused r) = r .place
+abbrev pub refusedOutcome : Refusal → Outcome
+refusedOutcome r = record { number = r .number; place = r .place }
+
+abbrev pub outcomeOf : Verdict → Outcome
+outcomeOf Accepted = noRefusal
+outcomeOf (Refused r) = refusedOutcome r
+
+-- F1: an answer in document 01's numbers: the refusal's number and place, 0 and 0 where there is none, and then its values. On a refusal
+-- each of so many values is 0.
+abbrev pub outcomeNumbers : Outcome → List ℕ
+outcomeNumbers outcome = outcome .number ∷ outcome .place ∷ []
+
+abbrev pub acceptedNumbers : List ℕ → List ℕ
+acceptedNumbers values = outcomeNumbers noRefusal ++ values
+
+abbrev pub refusedNumbers : Refusal → ℕ → List ℕ
+refusedNumbers r values = outcomeNumbers (refusedOutcome r) ++ replicate values 0
+
+-- A verdict in numbers: it has no values.
+abbrev pub verdictNumbers : Verdict → List ℕ
+verdictNumbers Accepted = acceptedNumbers []
+verdictNumbers (Refused r) = refusedNumbers r 0

@@ -1,6 +1,8 @@
-// Document 01's refusals: what each is given for, its number, and the one place where a refusal is made.
+// Document 01's refusals: what each is given for, its number, the one function that makes a refusal, the one that makes the head of an
+// answer, and the answer of a call that fills a lent output.
 ghost use mathlib.Core.Path.{_≡_};
-ghost use Rattle.refusal.specs.Numbers.{numberOf, refusal};
+ghost use Rattle.refusal.specs.Numbers.{numberOf, refusal, outcomeOf};
+ghost use Rattle.refusal.specs.Lengths.{refusedLength, writtenLength};
 
 // What a refusal is given for, in the order of document 01's table.
 pub enum Cause {
@@ -54,6 +56,20 @@ pub enum Verdict {
     Refused(Refusal),
 }
 
+// The head of every answer: the refusal's number and place, 0 and 0 where there is none.
+#[repr(C)]
+pub struct Outcome {
+    pub number: u64,
+    pub place: usize,
+}
+
+// The answer of a call that fills a lent output: the length written, 0 on a refusal.
+#[repr(C)]
+pub struct LengthAnswer {
+    pub outcome: Outcome,
+    pub length: usize,
+}
+
 // The number of a cause.
 pub fn number(cause: Cause) -> u8
     ensures { λ r. ⌜ r ≡ numberOf cause ⌝ }
@@ -87,5 +103,41 @@ pub fn refuse(cause: Cause, place: usize) -> Refusal
     Refusal {
         number: number(cause),
         place,
+    }
+}
+
+// The head of an answer: every one is made here.
+pub fn outcome_of(verdict: Verdict) -> Outcome
+    ensures { λ r. ⌜ r ≡ outcomeOf verdict ⌝ }
+{
+    match verdict {
+        Verdict::Accepted => Outcome {
+            number: 0,
+            place: 0,
+        },
+        Verdict::Refused(r) => Outcome {
+            number: r.number as u64,
+            place: r.place,
+        },
+    }
+}
+
+// The answer of a call that refuses to fill an output.
+pub fn refused(r: Refusal) -> LengthAnswer
+    ensures { λ a. ⌜ a ≡ refusedLength r ⌝ }
+{
+    LengthAnswer {
+        outcome: outcome_of(Verdict::Refused(r)),
+        length: 0,
+    }
+}
+
+// The answer of a call that has filled so much of an output.
+pub fn written(length: usize) -> LengthAnswer
+    ensures { λ r. ⌜ r ≡ writtenLength length ⌝ }
+{
+    LengthAnswer {
+        outcome: outcome_of(Verdict::Accepted),
+        length,
     }
 }

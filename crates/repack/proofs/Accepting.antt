@@ -15,8 +15,8 @@ use Rattle.blocks.specs.Sizes.{sizeOf, placesFrom}
 use Rattle.blocks.specs.declared.Kind.the-variants.{Pattern}
 use Rattle.module.specs.Streams.{patternStreamRules}
 use Rattle.module.specs.Verdicts.{opened}
-use Rattle.queries.specs.Lengths.{refusedLength, writtenLength}
-use Rattle.queries.specs.declared.LengthAnswer.{LengthAnswer}
+use Rattle.refusal.specs.Lengths.{refusedLength, writtenLength}
+use Rattle.refusal.specs.declared.LengthAnswer.{LengthAnswer}
 use Rattle.grammar.specs.Rules.{Bytes, Every, Covered}
 use Rattle.grammar.proofs.Holding.{AllHold, every-first, every-rest}
 use Rattle.grammar.proofs.BlockStreams.{accepted-says}

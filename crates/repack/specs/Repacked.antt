@@ -17,8 +17,8 @@ use Rattle.layout.specs.declared.Outline.the-variants.{Found, Refused}
 use Rattle.blocks.specs.Sizes.{patternBlocks}
 use Rattle.module.specs.Streams.{packedBytes}
 use Rattle.module.specs.Verdicts.{opened}
-use Rattle.queries.specs.Lengths.{refusedLength, lengthIf, outputIf}
-use Rattle.queries.specs.declared.LengthAnswer.{LengthAnswer}
+use Rattle.refusal.specs.Lengths.{refusedLength, lengthIf, outputIf}
+use Rattle.refusal.specs.declared.LengthAnswer.{LengthAnswer}
 
 -- X3: the packer's stream (W1 to W3) of the cells of the pattern at a place, with its rows and the module's tracks.
 abbrev pub repackedStream : List ℕ → ℕ → ℕ → List ℕ

@@ -22,7 +22,7 @@ use Rattle.layout.specs.declared.Layout.{Layout}
 use Rattle.layout.specs.declared.Outline.the-variants.{Found}
 use Rattle.module.specs.Verdicts.{opened, verdictOf, moduleVerdict}
 use Rattle.queries.specs.Finding.{found}
-use Rattle.queries.specs.Lengths.{writtenLength}
+use Rattle.refusal.specs.Lengths.{writtenLength}
 use Rattle.queries.specs.declared.Block.{Block}
 use Rattle.queries.specs.declared.Found.the-variants.{At}
 use Rattle.queries.specs.declared.Thing.the-variants.{Pattern}

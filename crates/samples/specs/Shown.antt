@@ -6,17 +6,17 @@ use mathlib.Core.Bool.{cond}
 use lib.ListN.{length}
 use lib.Dec.{eqb, ltb}
 use lib.IntN.{ℤ, pos, negsuc, _*ℤ_}
-use Rattle.refusal.specs.Numbers.{refusal}
+use Rattle.refusal.specs.Numbers.{refusal, noRefusal, refusedOutcome}
 use Rattle.refusal.specs.declared.Cause.the-variants.{NotThere}
 use Rattle.refusal.specs.declared.Refusal.{Refusal}
 use Rattle.cells.specs.Cells.{joined}
 use Rattle.numbers.specs.Numbers.{byteAt, number16, number32, partOf, signedBy, signed16, eachFrom, bytes16, unsigned16}
 use Rattle.blocks.specs.Sizes.{widthOf}
 use Rattle.queries.specs.Finding.{found}
-use Rattle.queries.specs.Lengths.{refusedLength, lengthIf, outputIf}
+use Rattle.refusal.specs.Lengths.{refusedLength, lengthIf, outputIf}
 use Rattle.queries.specs.declared.Found.{Found}
 use Rattle.queries.specs.declared.Found.the-variants.{At, Refused}
-use Rattle.queries.specs.declared.LengthAnswer.{LengthAnswer}
+use Rattle.refusal.specs.declared.LengthAnswer.{LengthAnswer}
 use Rattle.queries.specs.declared.Thing.the-variants.{Sample}
 use Rattle.samples.specs.declared.SampleAnswer.{SampleAnswer}
 use Rattle.samples.specs.declared.FramesAnswer.{FramesAnswer}
@@ -30,11 +30,11 @@ abbrev pub frameCount : List ℕ → ℕ → ℕ
 frameCount m at = number32 m (at + 4)
 
 abbrev pub noSample : Refusal → SampleAnswer
-noSample r = record { number = r .number; place = r .place; width = 0; frames = 0 }
+noSample r = record { outcome = refusedOutcome r; width = 0; frames = 0 }
 
 -- Q11: the bits of a frame, and how many frames there are.
 abbrev pub shownSample : List ℕ → ℕ → SampleAnswer
-shownSample m at = record { number = 0; place = 0; width = 8 * frameBytes m at; frames = frameCount m at }
+shownSample m at = record { outcome = noRefusal; width = 8 * frameBytes m at; frames = frameCount m at }
 
 abbrev pub sampleIf : List ℕ → Found → SampleAnswer
 sampleIf m (At b) = shownSample m (b .at)
@@ -45,11 +45,11 @@ abbrev pub sampleAnswer : List ℕ → ℕ → SampleAnswer
 sampleAnswer m sample = sampleIf m (found m Sample sample)
 
 abbrev pub noFrames : Refusal → FramesAnswer
-noFrames r = record { number = r .number; place = r .place; offset = 0; length = 0 }
+noFrames r = record { outcome = refusedOutcome r; offset = 0; length = 0 }
 
 -- B5, Q12: the frames stand behind flags and number.
 abbrev pub shownFrames : List ℕ → ℕ → FramesAnswer
-shownFrames m at = record { number = 0; place = 0; offset = at + 8; length = frameCount m at * frameBytes m at }
+shownFrames m at = record { outcome = noRefusal; offset = at + 8; length = frameCount m at * frameBytes m at }
 
 abbrev pub framesIf : List ℕ → Found → FramesAnswer
 framesIf m (At b) = shownFrames m (b .at)
@@ -80,13 +80,13 @@ abbrev pub frameOf : List ℕ → ℕ → ℕ → ℤ
 frameOf m at frame = frame16 m (frameBytes m at) (at + 8 + frame * frameBytes m at)
 
 abbrev pub noFrame : Refusal → FrameAnswer
-noFrame r = record { number = r .number; place = r .place; frame = pos 0 }
+noFrame r = record { outcome = refusedOutcome r; frame = pos 0 }
 
 -- 18 past the last frame.
 abbrev pub frameIn : List ℕ → ℕ → ℕ → FrameAnswer
 frameIn m at frame =
     cond (ltb frame (frameCount m at))
-    (record { number = 0; place = 0; frame = frameOf m at frame })
+    (record { outcome = noRefusal; frame = frameOf m at frame })
     (noFrame (refusal NotThere 0))
 
 abbrev pub frameIf : List ℕ → ℕ → Found → FrameAnswer

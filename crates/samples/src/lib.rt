@@ -7,14 +7,17 @@ use numbers::number32;
 use numbers::part;
 use numbers::signed;
 use queries::Found;
-use queries::LengthAnswer;
 use queries::Thing;
 use queries::find;
-use queries::refused;
-use queries::written;
 use refusal::Cause;
+use refusal::LengthAnswer;
+use refusal::Outcome;
 use refusal::Refusal;
+use refusal::Verdict;
+use refusal::outcome_of;
 use refusal::refuse;
+use refusal::refused;
+use refusal::written;
 ghost use mathlib.Core.Path.{_≡_};
 ghost use Prim.Native.Nat.{_*_, _/_, _<_, _+_, min};
 ghost use lib.ListN.{length};
@@ -25,8 +28,7 @@ ghost use Rattle.samples.specs.Steps.{framesFrom};
 // A sample: the bits of a frame (8, 16 or 32), and how many frames there are.
 #[repr(C)]
 pub struct SampleAnswer {
-    pub number: u64,
-    pub place: usize,
+    pub outcome: Outcome,
     pub width: u8,
     pub frames: u32,
 }
@@ -34,8 +36,7 @@ pub struct SampleAnswer {
 // Where the frames of a sample stand in the module, and how many bytes they have.
 #[repr(C)]
 pub struct FramesAnswer {
-    pub number: u64,
-    pub place: usize,
+    pub outcome: Outcome,
     pub offset: usize,
     pub length: usize,
 }
@@ -43,8 +44,7 @@ pub struct FramesAnswer {
 // A frame at 16 bits.
 #[repr(C)]
 pub struct FrameAnswer {
-    pub number: u64,
-    pub place: usize,
+    pub outcome: Outcome,
     pub frame: i16,
 }
 
@@ -59,8 +59,7 @@ fn no_sample(r: Refusal) -> SampleAnswer
     ensures { λ a. ⌜ a ≡ noSample r ⌝ }
 {
     SampleAnswer {
-        number: r.number as u64,
-        place: r.place,
+        outcome: outcome_of(Verdict::Refused(r)),
         width: 0,
         frames: 0,
     }
@@ -72,8 +71,7 @@ fn sample_at(m: &[u8], at: usize) -> SampleAnswer
     ensures { λ r. ⌜ r ≡ shownSample (now (m .entry)) at ⌝ }
 {
     SampleAnswer {
-        number: 0,
-        place: 0,
+        outcome: outcome_of(Verdict::Accepted),
         width: (8 * frame_bytes(m, at)) as u8,
         frames: number32(m, at + 4),
     }
@@ -93,8 +91,7 @@ fn no_frames(r: Refusal) -> FramesAnswer
     ensures { λ a. ⌜ a ≡ noFrames r ⌝ }
 {
     FramesAnswer {
-        number: r.number as u64,
-        place: r.place,
+        outcome: outcome_of(Verdict::Refused(r)),
         offset: 0,
         length: 0,
     }
@@ -106,8 +103,7 @@ fn frames_at(m: &[u8], at: usize) -> FramesAnswer
     ensures { λ r. ⌜ r ≡ shownFrames (now (m .entry)) at ⌝ }
 {
     FramesAnswer {
-        number: 0,
-        place: 0,
+        outcome: outcome_of(Verdict::Accepted),
         offset: at + 8,
         length: (number32(m, at + 4) as usize) * frame_bytes(m, at),
     }
@@ -158,8 +154,7 @@ fn no_frame(r: Refusal) -> FrameAnswer
     ensures { λ a. ⌜ a ≡ noFrame r ⌝ }
 {
     FrameAnswer {
-        number: r.number as u64,
-        place: r.place,
+        outcome: outcome_of(Verdict::Refused(r)),
         frame: 0,
     }
 }
@@ -174,8 +169,7 @@ fn frame_in(m: &[u8], at: usize, frame: usize) -> FrameAnswer
     }
     let bytes = frame_bytes(m, at);
     FrameAnswer {
-        number: 0,
-        place: 0,
+        outcome: outcome_of(Verdict::Accepted),
         frame: signed(at_16_bits(m, bytes, at + 8 + frame * bytes)),
     }
 }

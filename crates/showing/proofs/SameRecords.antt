@@ -6,7 +6,7 @@ use lib.ListN.{length}
 use Rattle.cells.specs.Cells.{joined}
 use Rattle.numbers.specs.Numbers.{eachFrom, bytes16}
 use Rattle.queries.specs.Finding.{countOf, firstOf, found}
-use Rattle.queries.specs.Lengths.{lengthIf, outputIf}
+use Rattle.refusal.specs.Lengths.{lengthIf, outputIf}
 use Rattle.queries.specs.declared.Found.{Found}
 use Rattle.queries.specs.declared.Found.the-variants.{At, Refused}
 use Rattle.queries.specs.declared.Thing.{Thing}

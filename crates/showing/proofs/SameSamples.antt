@@ -65,8 +65,7 @@ module _ {m n : List ℕ} (a : Alike m n) (sample : ℕ) where
 
   pub same-frames : SameFrames m n sample
   same-frames = record {
-    number = by-finding a Sample sample (λ f. framesIf m f .number) (λ f. framesIf n f .number) (λ r. refl) (λ b c e v t s. refl);
-    place = by-finding a Sample sample (λ f. framesIf m f .place) (λ f. framesIf n f .place) (λ r. refl) (λ b c e v t s. refl);
+    outcome = by-finding a Sample sample (λ f. framesIf m f .outcome) (λ f. framesIf n f .outcome) (λ r. refl) (λ b c e v t s. refl);
     length = by-finding a Sample sample (λ f. framesIf m f .length) (λ f. framesIf n f .length) (λ r. refl) (λ b c e v t s. rw (count-same s, flags-same s));
     bytes = by-finding a Sample sample (λ f. partOf m (framesIf m f .offset) (framesIf m f .length)) (λ f. partOf n (framesIf n f .offset) (framesIf n f .length)) (λ r. refl) (λ b c e v t s. part-same s);
   }

@@ -15,8 +15,7 @@ use Rattle.records.specs.Records.{allAnswer, allOutput}
 -- Q12: the frames of a sample, handed out as a part of each module: the same refusal, the same length and the same bytes. The
 -- answer's offset is not spoken of: it says where in its module the part stands, and that may differ.
 pub record SameFrames (m n : List ℕ) (sample : ℕ) : Type 0 where
-  pub number : framesAnswer n sample .number ≡ framesAnswer m sample .number
-  pub place : framesAnswer n sample .place ≡ framesAnswer m sample .place
+  pub outcome : framesAnswer n sample .outcome ≡ framesAnswer m sample .outcome
   pub length : framesAnswer n sample .length ≡ framesAnswer m sample .length
   pub bytes : framesPart n sample ≡ framesPart m sample
 

@@ -9,8 +9,8 @@ use Rattle.refusal.specs.Numbers.{refusal}
 use Rattle.refusal.specs.declared.Cause.the-variants.{Room}
 use Rattle.numbers.specs.Numbers.{byteAt, number16, bytesFrom}
 use Rattle.numbers.proofs.Each.{each-length}
-use Rattle.queries.specs.Lengths.{refusedLength, writtenLength}
-use Rattle.queries.proofs.Answering.{lacking, enough}
+use Rattle.refusal.specs.Lengths.{refusedLength, writtenLength}
+use Rattle.refusal.proofs.FilledOutputs.{lacking, enough}
 use Rattle.songs.specs.Shown.{playlistIn, playlistBytes, playlistOutputIn}
 
 module _ (m : List ℕ) (at n : ℕ) (out : List ℕ) (e : n ≡ number16 m (at + 44)) where

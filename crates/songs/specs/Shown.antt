@@ -5,25 +5,25 @@ use mathlib.Core.List.{List}
 use mathlib.Core.Bool.{cond}
 use lib.ListN.{length, replicate}
 use lib.Dec.{ltb}
-use Rattle.refusal.specs.Numbers.{refusal}
+use Rattle.refusal.specs.Numbers.{refusal, noRefusal, refusedOutcome}
 use Rattle.refusal.specs.declared.Cause.the-variants.{NotThere}
 use Rattle.refusal.specs.declared.Refusal.{Refusal}
 use Rattle.numbers.specs.Numbers.{number16, bytesFrom}
 use Rattle.queries.specs.Finding.{found}
-use Rattle.queries.specs.Lengths.{refusedLength, lengthIf, outputIf}
+use Rattle.refusal.specs.Lengths.{refusedLength, lengthIf, outputIf}
 use Rattle.queries.specs.declared.Found.{Found}
 use Rattle.queries.specs.declared.Found.the-variants.{At, Refused}
-use Rattle.queries.specs.declared.LengthAnswer.{LengthAnswer}
+use Rattle.refusal.specs.declared.LengthAnswer.{LengthAnswer}
 use Rattle.queries.specs.declared.Thing.the-variants.{Song}
 use Rattle.songs.specs.declared.SongAnswer.{SongAnswer}
 use Rattle.songs.specs.declared.EntryAnswer.{EntryAnswer}
 
 abbrev pub noSong : Refusal → SongAnswer
-noSong r = record { number = r .number; place = r .place; name = replicate 44 0; length = 0 }
+noSong r = record { outcome = refusedOutcome r; name = replicate 44 0; length = 0 }
 
 -- B2, Q7: name 44, length 2.
 abbrev pub shownSong : List ℕ → ℕ → SongAnswer
-shownSong m at = record { number = 0; place = 0; name = bytesFrom m at 44; length = number16 m (at + 44) }
+shownSong m at = record { outcome = noRefusal; name = bytesFrom m at 44; length = number16 m (at + 44) }
 
 abbrev pub songIf : List ℕ → Found → SongAnswer
 songIf m (At b) = shownSong m (b .at)
@@ -34,13 +34,13 @@ abbrev pub songAnswer : List ℕ → ℕ → SongAnswer
 songAnswer m song = songIf m (found m Song song)
 
 abbrev pub noEntry : Refusal → EntryAnswer
-noEntry r = record { number = r .number; place = r .place; pattern = 0 }
+noEntry r = record { outcome = refusedOutcome r; pattern = 0 }
 
 -- B2, Q7: the entries stand behind the length, 2 bytes each; 18 past the last.
 abbrev pub entryIn : List ℕ → ℕ → ℕ → EntryAnswer
 entryIn m at entry =
     cond (ltb entry (number16 m (at + 44)))
-    (record { number = 0; place = 0; pattern = number16 m (at + 46 + 2 * entry) })
+    (record { outcome = noRefusal; pattern = number16 m (at + 46 + 2 * entry) })
     (noEntry (refusal NotThere 0))
 
 abbrev pub entryIf : List ℕ → ℕ → Found → EntryAnswer

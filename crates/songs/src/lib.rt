@@ -2,15 +2,18 @@
 use numbers::copy;
 use numbers::number16;
 use queries::Found;
-use queries::LengthAnswer;
 use queries::Thing;
 use queries::find;
 use queries::name44;
-use queries::refused;
-use queries::written;
 use refusal::Cause;
+use refusal::LengthAnswer;
+use refusal::Outcome;
 use refusal::Refusal;
+use refusal::Verdict;
+use refusal::outcome_of;
 use refusal::refuse;
+use refusal::refused;
+use refusal::written;
 ghost use mathlib.Core.Path.{_≡_};
 ghost use Prim.Native.Nat.{_<_};
 ghost use lib.ListN.{length};
@@ -19,8 +22,7 @@ ghost use Rattle.songs.specs.Shown.{noSong, shownSong, songAnswer, noEnt
 // A song: its name, and the number of entries of its playlist.
 #[repr(C)]
 pub struct SongAnswer {
-    pub number: u64,
-    pub place: usize,
+    pub outcome: Outcome,
     pub name: [u8; 44],
     pub length: u16,
 }
@@ -28,8 +30,7 @@ pub struct SongAnswer {
 // An entry of a playlist: the number of a pattern.
 #[repr(C)]
 pub struct EntryAnswer {
-    pub number: u64,
-    pub place: usize,
+    pub outcome: Outcome,
     pub pattern: u16,
 }
 
@@ -37,8 +38,7 @@ fn no_song(r: Refusal) -> SongAnswer
     ensures { λ a. ⌜ a ≡ noSong r ⌝ }
 {
     SongAnswer {
-        number: r.number as u64,
-        place: r.place,
+        outcome: outcome_of(Verdict::Refused(r)),
         name: [0; 44],
         length: 0,
     }
@@ -50,8 +50,7 @@ fn song_at(m: &[u8], at: usize) -> SongAnswer
     ensures { λ r. ⌜ r ≡ shownSong (now (m .entry)) at ⌝ }
 {
     SongAnswer {
-        number: 0,
-        place: 0,
+        outcome: outcome_of(Verdict::Accepted),
         name: name44(m, at),
         length: number16(m, at + 44),
     }
@@ -71,8 +70,7 @@ fn no_entry(r: Refusal) -> EntryAnswer
     ensures { λ a. ⌜ a ≡ noEntry r ⌝ }
 {
     EntryAnswer {
-        number: r.number as u64,
-        place: r.place,
+        outcome: outcome_of(Verdict::Refused(r)),
         pattern: 0,
     }
 }
@@ -86,8 +84,7 @@ fn entry_in(m: &[u8], at: usize, entry: usize) -> EntryAnswer
         return no_entry(refuse(Cause::NotThere, 0));
     }
     EntryAnswer {
-        number: 0,
-        place: 0,
+        outcome: outcome_of(Verdict::Accepted),
         pattern: number16(m, at + 46 + 2 * entry),
     }
 }

@@ -4,6 +4,7 @@ use Prim.Native.Nat.{ℕ, _+_}
 use mathlib.Core.List.{List}
 use mathlib.Core.Bool.{cond}
 use lib.ListN.{replicate}
+use Rattle.refusal.specs.Numbers.{noRefusal, refusedOutcome}
 use Rattle.refusal.specs.declared.Refusal.{Refusal}
 use Rattle.numbers.specs.Numbers.{bytesFrom}
 use Rattle.layout.specs.declared.Layout.{Layout}
@@ -15,11 +16,11 @@ use Rattle.summary.specs.declared.NameAnswer.{NameAnswer}
 use Rattle.summary.specs.declared.InfoAnswer.{InfoAnswer}
 
 abbrev pub noVersion : Refusal → VersionAnswer
-noVersion r = record { number = r .number; place = r .place; version = 0; revision = 0 }
+noVersion r = record { outcome = refusedOutcome r; version = 0; revision = 0 }
 
 -- Q4: the two bytes as stored.
 abbrev pub shownVersion : Layout → VersionAnswer
-shownVersion l = record { number = 0; place = 0; version = l .version; revision = l .revision }
+shownVersion l = record { outcome = noRefusal; version = l .version; revision = l .revision }
 
 abbrev pub versionIf : Outline → VersionAnswer
 versionIf (Found l) = shownVersion l
@@ -30,14 +31,14 @@ abbrev pub versionAnswer : List ℕ → VersionAnswer
 versionAnswer m = versionIf (opened m)
 
 abbrev pub noName : Refusal → NameAnswer
-noName r = record { number = r .number; place = r .place; name = replicate 44 0 }
+noName r = record { outcome = refusedOutcome r; name = replicate 44 0 }
 
 -- Q5: the 44 bytes of NAME's data, and 44 zeros where it is missing.
 abbrev pub nameOf : List ℕ → Layout → List ℕ
 nameOf m l = cond (l .places .name .present) (bytesFrom m (l .places .name .at + 8) 44) (replicate 44 0)
 
 abbrev pub shownName : List ℕ → Layout → NameAnswer
-shownName m l = record { number = 0; place = 0; name = nameOf m l }
+shownName m l = record { outcome = noRefusal; name = nameOf m l }
 
 abbrev pub nameIf : List ℕ → Outline → NameAnswer
 nameIf m (Found l) = shownName m l
@@ -47,13 +48,12 @@ abbrev pub nameAnswer : List ℕ → NameAnswer
 nameAnswer m = nameIf m (opened m)
 
 abbrev pub noInfo : Refusal → InfoAnswer
-noInfo r = record { number = r .number; place = r .place; instruments = 0; samples = 0; songs = 0; patterns = 0; tracks = 0 }
+noInfo r = record { outcome = refusedOutcome r; instruments = 0; samples = 0; songs = 0; patterns = 0; tracks = 0 }
 
 -- Q6: INFO's numbers.
 abbrev pub shownInfo : Layout → InfoAnswer
 shownInfo l = record {
-  number = 0;
-  place = 0;
+  outcome = noRefusal;
   instruments = l .instruments;
   samples = l .samples;
   songs = l .songs;

@@ -2,15 +2,17 @@
 use layout::Layout;
 use layout::Outline;
 use queries::name44;
+use refusal::Outcome;
 use refusal::Refusal;
+use refusal::Verdict;
+use refusal::outcome_of;
 ghost use mathlib.Core.Path.{_≡_};
 ghost use Rattle.summary.specs.Shown.{noVersion, shownVersion, versionAnswer, noName, nameOf, nameAnswer, noInfo, shownInfo, infoAnswer};
 
 // Version and revision, as stored.
 #[repr(C)]
 pub struct VersionAnswer {
-    pub number: u64,
-    pub place: usize,
+    pub outcome: Outcome,
     pub version: u8,
     pub revision: u8,
 }
@@ -18,16 +20,14 @@ pub struct VersionAnswer {
 // The module's name.
 #[repr(C)]
 pub struct NameAnswer {
-    pub number: u64,
-    pub place: usize,
+    pub outcome: Outcome,
     pub name: [u8; 44],
 }
 
 // How many instruments, samples, songs and patterns there are, and how many tracks a pattern has.
 #[repr(C)]
 pub struct InfoAnswer {
-    pub number: u64,
-    pub place: usize,
+    pub outcome: Outcome,
     pub instruments: u16,
     pub samples: u16,
     pub songs: u16,
@@ -39,8 +39,7 @@ fn no_version(r: Refusal) -> VersionAnswer
     ensures { λ a. ⌜ a ≡ noVersion r ⌝ }
 {
     VersionAnswer {
-        number: r.number as u64,
-        place: r.place,
+        outcome: outcome_of(Verdict::Refused(r)),
         version: 0,
         revision: 0,
     }
@@ -52,8 +51,7 @@ pub fn version(m: &[u8]) -> VersionAnswer
 {
     match module::open(m) {
         Outline::Found(l) => VersionAnswer {
-            number: 0,
-            place: 0,
+            outcome: outcome_of(Verdict::Accepted),
             version: l.version,
             revision: l.revision,
         },
@@ -65,8 +63,7 @@ fn no_name(r: Refusal) -> NameAnswer
     ensures { λ a. ⌜ a ≡ noName r ⌝ }
 {
     NameAnswer {
-        number: r.number as u64,
-        place: r.place,
+        outcome: outcome_of(Verdict::Refused(r)),
         name: [0; 44],
     }
 }
@@ -88,8 +85,7 @@ pub fn name(m: &[u8]) -> NameAnswer
 {
     match module::open(m) {
         Outline::Found(l) => NameAnswer {
-            number: 0,
-            place: 0,
+            outcome: outcome_of(Verdict::Accepted),
             name: name_of(m, l),
         },
         Outline::Refused(r) => no_name(r),
@@ -100,8 +96,7 @@ fn no_info(r: Refusal) -> InfoAnswer
     ensures { λ a. ⌜ a ≡ noInfo r ⌝ }
 {
     InfoAnswer {
-        number: r.number as u64,
-        place: r.place,
+        outcome: outcome_of(Verdict::Refused(r)),
         instruments: 0,
         samples: 0,
         songs: 0,
@@ -116,8 +111,7 @@ pub fn info(m: &[u8]) -> InfoAnswer
 {
     match module::open(m) {
         Outline::Found(l) => InfoAnswer {
-            number: 0,
-            place: 0,
+            outcome: outcome_of(Verdict::Accepted),
             instruments: l.instruments,
             samples: l.samples,
             songs: l.songs,

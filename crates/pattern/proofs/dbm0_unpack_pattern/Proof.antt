@@ -1,14 +1,15 @@
 use borrow.Author.Needs.{needs}
 use mathlib.Core.Path.{_∙_, ap, sym}
-use Rattle.pattern.specs.Answers.{toldUnpacking}
+use Rattle.refusal.specs.Lengths.{lengthNumbers}
+use Rattle.packed_rows.specs.Answers.{unpackingNumbers}
 use Rattle.pattern.proofs.dbm0_unpack_pattern.Statement.{statement}
 use Rattle.pattern.proofs.dbm0_unpack_pattern.Tie as tie
 
 returns : tie.Need-returns
-returns c = (c .answer .ensures ∙ sym (ap toldUnpacking (sym (c .before .before .before .before .before .before .unpack .ensures .0) ∙ c .before .before .n .given .1)), c .before .before .before .before .before .before .unpack .ensures .1)
+returns c = (ap lengthNumbers (c .written .ensures) ∙ sym (ap unpackingNumbers (sym (c .before .before .before .before .before .before .unpack .ensures .0) ∙ c .before .before .n .given .1)), c .before .before .before .before .before .before .unpack .ensures .1)
 
 returns-2 : tie.Need-returns-2
-returns-2 c = (c .answer2 .ensures ∙ sym (ap toldUnpacking (sym (c .before .before .before .before .before .before .unpack .ensures .0) ∙ c .before .before .r .given .1)), c .before .before .before .before .before .before .unpack .ensures .1)
+returns-2 c = (ap lengthNumbers (c .refused .ensures) ∙ sym (ap unpackingNumbers (sym (c .before .before .before .before .before .before .unpack .ensures .0) ∙ c .before .before .r .given .1)), c .before .before .before .before .before .before .unpack .ensures .1)
 
 pub dbm0-unpack-pattern-spec : {M : Type 1} → statement M
 dbm0-unpack-pattern-spec =

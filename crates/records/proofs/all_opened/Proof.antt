@@ -2,7 +2,7 @@ use borrow.Author.Needs.{needs}
 use native.Mathlib.Omega.{arith}
 use mathlib.Core.Path.{_∙_, ap}
 use Rattle.refusal.specs.declared.Refusal.{Refusal}
-use Rattle.queries.specs.Lengths.{refusedLength}
+use Rattle.refusal.specs.Lengths.{refusedLength}
 use Rattle.records.proofs.Accepting.{all-lacks, all-done}
 use Rattle.records.proofs.all_opened.Statement.{statement}
 use Rattle.records.proofs.all_opened.Tie as tie

@@ -4,7 +4,7 @@ use Rattle.grammar.proofs.Ends.{slice-bytes}
 use Rattle.repack.proofs.Accepting.{patterns-in, module-lacks, module-done}
 use mathlib.Core.Path.{_∙_, ap}
 use Rattle.refusal.specs.declared.Refusal.{Refusal}
-use Rattle.queries.specs.Lengths.{refusedLength}
+use Rattle.refusal.specs.Lengths.{refusedLength}
 use Rattle.repack.proofs.repack_opened.Statement.{statement}
 use Rattle.repack.proofs.repack_opened.Tie as tie
 

@@ -1,0 +1,28 @@
+-- FORMAT.md, F1 and F8: what a call answers that fills a lent output, and what the output then holds.
+use Prim.Native.Nat.{ℕ}
+use mathlib.Core.List.{List, [], _∷_, _++_}
+use mathlib.Core.Bool.{cond}
+use lib.ListN.{length, drop}
+use lib.Dec.{eqb, ltb}
+use Rattle.refusal.specs.Numbers.{refusal, noRefusal, refusedOutcome, outcomeNumbers}
+use Rattle.refusal.specs.declared.Cause.the-variants.{Room}
+use Rattle.refusal.specs.declared.Refusal.{Refusal}
+use Rattle.refusal.specs.declared.LengthAnswer.{LengthAnswer}
+
+abbrev pub refusedLength : Refusal → LengthAnswer
+refusedLength r = record { outcome = refusedOutcome r; length = 0 }
+
+abbrev pub writtenLength : ℕ → LengthAnswer
+writtenLength n = record { outcome = noRefusal; length = n }
+
+-- Its fields, in order.
+abbrev pub lengthNumbers : LengthAnswer → List ℕ
+lengthNumbers answer = outcomeNumbers (answer .outcome) ++ (answer .length ∷ [])
+
+-- 17, with the needed length for its place; else the length that is written.
+abbrev pub lengthIf : ℕ → ℕ → LengthAnswer
+lengthIf needed room = cond (ltb room needed) (refusedLength (refusal Room needed)) (writtenLength needed)
+
+-- F8: on success what is written, and after it what was there; on a refusal nothing changes.
+abbrev pub outputIf : LengthAnswer → List ℕ → List ℕ → List ℕ
+outputIf answer written out = cond (eqb (answer .outcome .number) 0) (written ++ drop (length written) out) out
