@@ -10,6 +10,7 @@ ghost use mathlib.Core.Path.{_≡_};
 ghost use mathlib.Core.List.{[], _∷_};
 ghost use mathlib.Core.Bool.{not, _||_};
 ghost use Prim.Native.Nat.{_+_, _*_, _%_, _<_};
+ghost use Rattle.refusal.specs.Numbers.{verdictNumbers, IsAnswer};
 ghost use Rattle.refusal.specs.Rules.{firstBroken, rulesOfEach};
 ghost use Rattle.blocks.specs.Sizes.{widthOf, sizeOf, firstBlock, blockAt, blocksOf, envelopeCount};
 ghost use Rattle.blocks.specs.Filling.{dataEnd, fills as fillsChunk, flagsRules, envelopesRule, blockRules};
@@ -193,7 +194,7 @@ fn check_envelopes(m: &[u8], venv: Place, penv: Place) -> Verdict
 
 // Checks that the blocks fill their chunks: 11 for SONG, INST, PATT, SMPL, VENV, PENV.
 pub fn check(m: &[u8], l: Layout) -> Verdict
-    ensures { λ r. ⌜ r ≡ firstBroken (blockRules (now (m .entry)) l) ⌝ }
+    ensures { λ r. ⌜ IsAnswer verdictNumbers r (firstBroken (blockRules (now (m .entry)) l)) ⌝ }
 {
     let p = l.places;
     if !fills(m, Kind::Song, p.song, l.songs) {

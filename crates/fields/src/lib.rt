@@ -15,6 +15,7 @@ use refusal::Verdict;
 use refusal::refuse;
 ghost use mathlib.Core.Path.{_≡_};
 ghost use Prim.Native.Nat.{_<_};
+ghost use Rattle.refusal.specs.Numbers.{verdictNumbers, IsAnswer};
 ghost use Rattle.refusal.specs.Rules.{firstBroken, rulesOfEach};
 ghost use Rattle.blocks.specs.Sizes.{blocksOf};
 ghost use Rattle.blocks.specs.declared.Kind.the-variants.{Song, Instrument};
@@ -91,7 +92,7 @@ fn check_instruments(m: &[u8], chunk: Place, instruments: u16, samples: u16) -> 
 
 // Checks the fields of all blocks: SONG, INST, VENV, PENV.
 pub fn check(m: &[u8], l: Layout) -> Verdict
-    ensures { λ r. ⌜ r ≡ firstBroken (fieldRules (now (m .entry)) l) ⌝ }
+    ensures { λ r. ⌜ IsAnswer verdictNumbers r (firstBroken (fieldRules (now (m .entry)) l)) ⌝ }
 {
     let p = l.places;
     if let Verdict::Refused(r) = check_songs(m, p.song, l.songs, l.patterns) {

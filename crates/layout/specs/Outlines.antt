@@ -1,11 +1,11 @@
 -- FORMAT.md, F11 to F13: the outline of a module: its version, INFO's numbers, and where the covered chunks stand; or the refusal
 -- that comes first among 1 to 10.
 use Prim.Native.Nat.{ℕ, _+_}
-use mathlib.Core.List.{List, [], _∷_}
+use mathlib.Core.List.{List, [], _∷_, _++_}
 use mathlib.Core.Bool.{Bool, true, false, cond, _&&_}
 use lib.ListN.{length}
 use lib.Dec.{eqb}
-use Rattle.refusal.specs.Numbers.{refusal}
+use Rattle.refusal.specs.Numbers.{refusal, acceptedNumbers, refusedNumbers}
 use Rattle.refusal.specs.Rules.{firstBroken}
 use Rattle.refusal.specs.declared.Cause.the-variants.{Missing}
 use Rattle.refusal.specs.declared.Verdict.{Verdict}
@@ -64,3 +64,25 @@ outlineIf (VerdictRefused r) o = Refused r
 -- F11 to F13: 1, 2, 3; then chunk by chunk 4, 5, 4, 6, 7, 9, 10; then 8.
 abbrev pub outline : List ℕ → Outline
 outline m = outlineIf (firstBroken (headerRules m)) (outlineOf m (chunks m))
+
+-- A chunk's place in numbers: 1 where it is there, else 0; its header's place; the length of its data.
+abbrev pub placeNumbers : Place → List ℕ
+placeNumbers p = cond (p .present) 1 0 ∷ p .at ∷ p .length ∷ []
+
+-- A layout in numbers: version, revision, INFO's numbers, and the places of the covered chunks in document 01's order.
+abbrev pub layoutNumbers : Layout → List ℕ
+layoutNumbers l =
+    (l .version ∷ l .revision ∷ l .instruments ∷ l .samples ∷ l .songs ∷ l .patterns ∷ l .tracks ∷ [])
+    ++ (placeNumbers (l .places .name)
+    ++ (placeNumbers (l .places .info)
+    ++ (placeNumbers (l .places .song)
+    ++ (placeNumbers (l .places .inst)
+    ++ (placeNumbers (l .places .patt)
+    ++ (placeNumbers (l .places .smpl)
+    ++ (placeNumbers (l .places .venv)
+    ++ placeNumbers (l .places .penv))))))))
+
+-- An outline in numbers: a layout has 31.
+abbrev pub outlineNumbers : Outline → List ℕ
+outlineNumbers (Found l) = acceptedNumbers (layoutNumbers l)
+outlineNumbers (Refused r) = refusedNumbers r 31

@@ -12,7 +12,8 @@ use refusal::Refusal;
 use refusal::Verdict;
 use refusal::refuse;
 ghost use mathlib.Core.Path.{_≡_};
-ghost use Rattle.layout.specs.Outlines.{layoutWith, outline};
+ghost use Rattle.layout.specs.Outlines.{layoutWith, outline, outlineNumbers};
+ghost use Rattle.refusal.specs.Numbers.{IsAnswer};
 ghost use Rattle.layout.specs.Steps.{allPresent, outlineWith};
 
 // Where a chunk stands: its header's place and the length of its data. All 0 where there is none.
@@ -88,7 +89,7 @@ fn with_mandatory(m: &[u8], p: Places) -> Outline
 
 // The layout of a module: 1, 2, 3; then chunk by chunk 4, 5, 4, 6, 7, 9, 10; then 8.
 pub fn find(m: &[u8]) -> Outline
-    ensures { λ r. ⌜ r ≡ outline (now (m .entry)) ⌝ }
+    ensures { λ r. ⌜ IsAnswer outlineNumbers r (outline (now (m .entry))) ⌝ }
 {
     if let Verdict::Refused(r) = check_header(m) {
         return Outline::Refused(r);

@@ -7,7 +7,7 @@ use mathlib.Core.List.{List, [], _∷_, _++_}
 use mathlib.Core.Bool.{cond}
 use lib.ListN.{length, drop}
 use lib.Dec.{ltb}
-use Rattle.refusal.specs.Numbers.{refusal}
+use Rattle.refusal.specs.Numbers.{refusal, acceptedNumbers, refusedNumbers}
 use Rattle.refusal.specs.declared.Cause.the-variants.{Room}
 use Rattle.refusal.specs.declared.Refusal.{Refusal}
 use Rattle.layout.specs.declared.Layout.{Layout}
@@ -86,3 +86,8 @@ linesAnswer m room = writtenIf (listing m) room
 
 abbrev pub linesOutput : List ℕ → List ℕ → List ℕ
 linesOutput m out = outputWritten (linesAnswer m (length out)) (listing m) out
+
+-- F1: what writing the listing answers, in numbers: the value is the length written.
+abbrev pub listingNumbers : Listing → List ℕ
+listingNumbers (Written n) = acceptedNumbers (n ∷ [])
+listingNumbers (ListingRefused r) = refusedNumbers r 1

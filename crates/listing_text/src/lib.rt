@@ -11,7 +11,8 @@ use refusal::refuse;
 ghost use mathlib.Core.Path.{_≡_};
 ghost use Prim.Native.Nat.{_≤_};
 ghost use lib.ListN.{length};
-ghost use Rattle.listing_text.specs.Lines.{listing, writtenIf, outputWritten, linesAnswer, linesOutput};
+ghost use Rattle.refusal.specs.Numbers.{IsAnswer};
+ghost use Rattle.listing_text.specs.Lines.{listing, writtenIf, outputWritten, linesAnswer, linesOutput, listingNumbers};
 ghost use Rattle.listing_text.specs.Steps.{Put};
 
 // What writing the listing answers: its length, or a refusal.
@@ -45,7 +46,7 @@ fn hand_out(text: &[u8], out: &mut [u8]) -> Listing
 
 // Writes the listing of a module: 17. The listing has at most 256 bytes.
 pub fn lines(m: &[u8], out: &mut [u8]) -> Listing
-    ensures { λ r. ⌜ (r ≡ linesAnswer (now (m .entry)) (length (now (out .entry)))) × (now (out .exit) ≡ linesOutput (now (m .entry)) (now (out .entry))) × (length (listing (now (m .entry))) ≤ 256) ⌝ }
+    ensures { λ r. ⌜ IsAnswer listingNumbers r (linesAnswer (now (m .entry)) (length (now (out .entry)))) × (now (out .exit) ≡ linesOutput (now (m .entry)) (now (out .entry))) × (length (listing (now (m .entry))) ≤ 256) ⌝ }
 {
     let mut text = [0u8; 256];
     let n = put_listing(&mut text, m);

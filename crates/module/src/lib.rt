@@ -9,7 +9,9 @@ use layout::Layout;
 use layout::Outline;
 use refusal::Verdict;
 ghost use mathlib.Core.Path.{_≡_};
+ghost use Rattle.refusal.specs.Numbers.{verdictNumbers, IsAnswer};
 ghost use Rattle.refusal.specs.Rules.{firstBroken};
+ghost use Rattle.layout.specs.Outlines.{outlineNumbers};
 ghost use Rattle.module.specs.Verdicts.{contentRules, opened, moduleVerdict};
 
 // Checks what stands in the chunks: 11, then 12 and 13, then 14, then 15.
@@ -30,7 +32,7 @@ fn check_content(m: &[u8], l: Layout) -> Verdict
 
 // The layout of a module that is accepted, or the module's own refusal.
 pub fn open(m: &[u8]) -> Outline
-    ensures { λ r. ⌜ r ≡ opened (now (m .entry)) ⌝ }
+    ensures { λ r. ⌜ IsAnswer outlineNumbers r (opened (now (m .entry))) ⌝ }
 {
     match layout::find(m) {
         Outline::Found(l) => match check_content(m, l) {
@@ -43,7 +45,7 @@ pub fn open(m: &[u8]) -> Outline
 
 // Checks a module.
 pub fn check(m: &[u8]) -> Verdict
-    ensures { λ r. ⌜ r ≡ moduleVerdict (now (m .entry)) ⌝ }
+    ensures { λ r. ⌜ IsAnswer verdictNumbers r (moduleVerdict (now (m .entry))) ⌝ }
 {
     match open(m) {
         Outline::Found(_) => Verdict::Accepted,

@@ -27,7 +27,8 @@ ghost use Rattle.packed_rows.specs.Packer.{packedLength, packedStream};
 ghost use Rattle.packed_rows.specs.Steps.{cellAt, cellRead, rowsRead};
 ghost use Rattle.cells.specs.Cells.{sizesFit};
 ghost use Rattle.cells.specs.Shown.{shownCell};
-ghost use Rattle.packed_rows.specs.Answers.{packedIf, outputPacked, checkAnswer, unpackAnswer, unpackOutput, packAnswer, packOutput, repackAnswer, repackOutput, cellThere, cellOf, verdictOf};
+ghost use Rattle.packed_rows.specs.Answers.{packedIf, outputPacked, checkAnswer, unpackAnswer, unpackOutput, packAnswer, packOutput, repackAnswer, repackOutput, cellThere, cellOf, verdictOf, unpackingNumbers, packingNumbers, cellNumbers};
+ghost use Rattle.refusal.specs.Numbers.{verdictNumbers, IsAnswer};
 
 // What unpacking answers: the length written, or a refusal.
 pub enum Unpacking {
@@ -63,7 +64,7 @@ fn cell_there(rows: usize, tracks: usize, row: usize, track: usize) -> bool
 
 // Checks a stream: 16, 15.
 pub fn check(stream: &[u8], rows: usize, tracks: usize) -> Verdict
-    ensures { λ r. ⌜ r ≡ checkAnswer (now (stream .entry)) rows tracks ⌝ }
+    ensures { λ r. ⌜ IsAnswer verdictNumbers r (checkAnswer (now (stream .entry)) rows tracks) ⌝ }
 {
     if !sizes_fit(rows, tracks) {
         return Verdict::Refused(refuse(Cause::Sizes, 0));
@@ -73,7 +74,7 @@ pub fn check(stream: &[u8], rows: usize, tracks: usize) -> Verdict
 
 // Unpacks a stream: 16, 17, 15.
 pub fn unpack(stream: &[u8], rows: usize, tracks: usize, out: &mut [u8]) -> Unpacking
-    ensures { λ r. ⌜ (r ≡ unpackAnswer (now (stream .entry)) rows tracks (length (now (out .entry)))) × (now (out .exit) ≡ unpackOutput (now (stream .entry)) rows tracks (now (out .entry))) ⌝ }
+    ensures { λ r. ⌜ IsAnswer unpackingNumbers r (unpackAnswer (now (stream .entry)) rows tracks (length (now (out .entry)))) × (now (out .exit) ≡ unpackOutput (now (stream .entry)) rows tracks (now (out .entry))) ⌝ }
 {
     if !sizes_fit(rows, tracks) {
         return Unpacking::Refused(refuse(Cause::Sizes, 0));
@@ -91,7 +92,7 @@ pub fn unpack(stream: &[u8], rows: usize, tracks: usize, out: &mut [u8]) -> Unpa
 
 // Packs a pattern's cells: 16, 17.
 pub fn pack(cells: &[u8], rows: usize, tracks: usize, out: &mut [u8]) -> Packing
-    ensures { λ r. ⌜ (r ≡ packAnswer (now (cells .entry)) rows tracks (length (now (out .entry)))) × (now (out .exit) ≡ packOutput (now (cells .entry)) rows tracks (now (out .entry))) ⌝ }
+    ensures { λ r. ⌜ IsAnswer packingNumbers r (packAnswer (now (cells .entry)) rows tracks (length (now (out .entry)))) × (now (out .exit) ≡ packOutput (now (cells .entry)) rows tracks (now (out .entry))) ⌝ }
 {
     if !sizes_fit(rows, tracks) {
         return Packing::Refused(refuse(Cause::Sizes, 0));
@@ -128,7 +129,7 @@ fn repack_accepted(
 
 // Repacks a stream: 16, 15, 17.
 pub fn repack(stream: &[u8], rows: usize, tracks: usize, out: &mut [u8]) -> Packing
-    ensures { λ r. ⌜ (r ≡ repackAnswer (now (stream .entry)) rows tracks (length (now (out .entry)))) × (now (out .exit) ≡ repackOutput (now (stream .entry)) rows tracks (now (out .entry))) ⌝ }
+    ensures { λ r. ⌜ IsAnswer packingNumbers r (repackAnswer (now (stream .entry)) rows tracks (length (now (out .entry)))) × (now (out .exit) ≡ repackOutput (now (stream .entry)) rows tracks (now (out .entry))) ⌝ }
 {
     if !sizes_fit(rows, tracks) {
         return Packing::Refused(refuse(Cause::Sizes, 0));
@@ -175,7 +176,7 @@ fn read_cell(
 
 // One cell of a stream: 16, 18, 15.
 pub fn cell(stream: &[u8], rows: usize, tracks: usize, row: usize, track: usize) -> CellAnswer
-    ensures { λ r. ⌜ r ≡ cellOf (now (stream .entry)) rows tracks row track ⌝ }
+    ensures { λ r. ⌜ IsAnswer cellNumbers r (cellOf (now (stream .entry)) rows tracks row track) ⌝ }
 {
     if !sizes_fit(rows, tracks) {
         return CellAnswer::Refused(refuse(Cause::Sizes, 0));

@@ -19,6 +19,8 @@ use refusal::written;
 ghost use mathlib.Core.Path.{_≡_};
 ghost use Prim.Native.Nat.{_<_};
 ghost use lib.ListN.{length};
+ghost use Rattle.refusal.specs.Numbers.{IsAnswer};
+ghost use Rattle.packed_rows.specs.Answers.{cellNumbers};
 ghost use Rattle.module.specs.Streams.{packedBytes};
 ghost use Rattle.patterns.specs.Shown.{noRows, rowsAnswer, cellIn, cellAnswer, unpackIn, unpackOutputIn, unpackAnswer, unpackOutput};
 
@@ -70,7 +72,7 @@ fn cell_in(m: &[u8], b: Block, row: usize, track: usize) -> CellAnswer
 
 // A cell of a pattern: pattern and row counted from 0, track from 1.
 pub fn cell(m: &[u8], pattern: usize, row: usize, track: usize) -> CellAnswer
-    ensures { λ r. ⌜ r ≡ cellAnswer (now (m .entry)) pattern row track ⌝ }
+    ensures { λ r. ⌜ IsAnswer cellNumbers r (cellAnswer (now (m .entry)) pattern row track) ⌝ }
 {
     match find(m, Thing::Pattern, pattern) {
         Found::At(b) => cell_in(m, b, row, track),

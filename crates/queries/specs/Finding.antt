@@ -1,9 +1,9 @@
 -- FORMAT.md, Q1 and Q2 (document 01, "Refusal numbers and their order"): where what a query asks for stands.
 use Prim.Native.Nat.{ℕ, _-_}
-use mathlib.Core.List.{List}
+use mathlib.Core.List.{List, [], _∷_}
 use mathlib.Core.Bool.{Bool, cond, _&&_}
 use lib.Dec.{leb, ltb}
-use Rattle.refusal.specs.Numbers.{refusal}
+use Rattle.refusal.specs.Numbers.{refusal, acceptedNumbers, refusedNumbers}
 use Rattle.refusal.specs.declared.Cause.the-variants.{NotThere}
 use Rattle.layout.specs.declared.Layout.{Layout}
 use Rattle.layout.specs.declared.Outline.{Outline}
@@ -83,3 +83,8 @@ found m thing number = foundIf m thing number (opened m)
 abbrev pub placeIn : Found → ℕ
 placeIn (At b) = b .at
 placeIn (Refused r) = 0
+
+-- What was found, in numbers: the values are the block's place, the version and the tracks.
+abbrev pub foundNumbers : Found → List ℕ
+foundNumbers (At b) = acceptedNumbers (b .at ∷ b .version ∷ b .tracks ∷ [])
+foundNumbers (Refused r) = refusedNumbers r 3

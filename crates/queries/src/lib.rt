@@ -11,8 +11,9 @@ use refusal::Refusal;
 use refusal::refuse;
 ghost use mathlib.Core.Path.{_≡_};
 ghost use Prim.Native.Nat.{_<_};
+ghost use Rattle.refusal.specs.Numbers.{IsAnswer};
 ghost use Rattle.numbers.specs.Numbers.{bytesFrom};
-ghost use Rattle.queries.specs.Finding.{kindOf, chunkOf, countOf, firstOf, foundIn, found, placeIn};
+ghost use Rattle.queries.specs.Finding.{kindOf, chunkOf, countOf, firstOf, foundIn, found, placeIn, foundNumbers};
 
 // What a query asks for.
 pub enum Thing {
@@ -96,7 +97,7 @@ fn first_of(thing: Thing) -> usize
 
 // Where the block of a number is, in a module with this layout: 18.
 pub fn find_in(m: &[u8], l: Layout, thing: Thing, number: usize) -> Found
-    ensures { λ r. ⌜ (r ≡ foundIn (now (m .entry)) l thing number) × (placeIn r < 0x10000000000000) ⌝ }
+    ensures { λ r. ⌜ IsAnswer foundNumbers r (foundIn (now (m .entry)) l thing number) × (placeIn r < 0x10000000000000) ⌝ }
 {
     let first = first_of(thing);
     if number < first {
@@ -115,7 +116,7 @@ pub fn find_in(m: &[u8], l: Layout, thing: Thing, number: usize) -> Found
 
 // Where the block of a number stands in a module: the module's own refusal, then 18.
 pub fn find(m: &[u8], thing: Thing, number: usize) -> Found
-    ensures { λ r. ⌜ (r ≡ found (now (m .entry)) thing number) × (placeIn r < 0x10000000000000) ⌝ }
+    ensures { λ r. ⌜ IsAnswer foundNumbers r (found (now (m .entry)) thing number) × (placeIn r < 0x10000000000000) ⌝ }
 {
     match module::open(m) {
         Outline::Found(l) => find_in(m, l, thing, number),

@@ -1,6 +1,8 @@
--- The head of an answer is the verdict's numbers.
+-- Answers in numbers: an answer that is the right one has the right numbers; the head of an answer is the verdict's numbers.
+use Prim.Native.Nat.{ℕ}
 use mathlib.Core.Path.{_≡_, refl, _∙_, ap}
-use Rattle.refusal.specs.Numbers.{outcomeOf, outcomeNumbers, verdictNumbers}
+use mathlib.Core.List.{List}
+use Rattle.refusal.specs.Numbers.{outcomeOf, outcomeNumbers, verdictNumbers, IsAnswer}
 use Rattle.refusal.specs.declared.Outcome.{Outcome}
 use Rattle.refusal.specs.declared.Verdict.{Verdict}
 use Rattle.refusal.specs.declared.Verdict.the-variants.{Accepted, Refused}
@@ -11,3 +13,11 @@ outcome-of-numbers (Refused r) = refl
 
 pub head-numbers : (o : Outcome) (v a : Verdict) → o ≡ outcomeOf v → v ≡ a → outcomeNumbers o ≡ verdictNumbers a
 head-numbers o v a e f = ap outcomeNumbers e ∙ outcome-of-numbers v ∙ ap verdictNumbers f
+
+module _ {A : Type 0} (numbers : A → List ℕ) {given answer : A} where
+  pub is-answer : given ≡ answer → IsAnswer numbers given answer
+  is-answer e = (e, ap numbers e)
+
+  -- The same with what else a contract says.
+  pub is-answer-with : {B : Type 0} → (given ≡ answer) × B → IsAnswer numbers given answer × B
+  is-answer-with both = (is-answer (both .0), both .1)

@@ -1,5 +1,6 @@
 -- FORMAT.md, "Refusals" (document 01, "Refusal numbers and their order"): the number of each cause, and an answer in numbers.
 use Prim.Native.Nat.{ℕ}
+use mathlib.Core.Path.{_≡_}
 use mathlib.Core.List.{List, [], _∷_, _++_}
 use lib.ListN.{replicate}
 use Rattle.refusal.specs.declared.Cause.{Cause}
@@ -60,3 +61,7 @@ refusedNumbers r values = outcomeNumbers (refusedOutcome r) ++ replicate values 
 abbrev pub verdictNumbers : Verdict → List ℕ
 verdictNumbers Accepted = acceptedNumbers []
 verdictNumbers (Refused r) = refusedNumbers r 0
+
+-- What a contract says of an answer: it is this one, and its numbers are this one's.
+abbrev pub IsAnswer : {A : Type 0} → (A → List ℕ) → A → A → Type 0
+IsAnswer numbers given answer = (given ≡ answer) × (numbers given ≡ numbers answer)

@@ -3,10 +3,10 @@ use Rattle.envelopes.proofs.count.Statement.{statement}
 use Rattle.envelopes.proofs.count.Tie as tie
 
 returns : tie.Need-returns
-returns c = simp (← c .before .before .before .before .before .before .«open» .ensures, c .before .before .before .before .l .given .1, c .before .before .outcome-of .ensures, c .envelope-count .ensures, c .before .chunk-of .ensures)
+returns c = simp (← c .before .before .before .before .before .before .«open» .ensures .0, c .before .before .before .before .l .given .1, c .before .before .outcome-of .ensures, c .envelope-count .ensures, c .before .chunk-of .ensures)
 
 returns-2 : tie.Need-returns-2
-returns-2 c = simp (← c .before .before .before .before .«open» .ensures, c .before .before .r .given .1, c .no-count .ensures)
+returns-2 c = simp (← c .before .before .before .before .«open» .ensures .0, c .before .before .r .given .1, c .no-count .ensures)
 
 pub count-spec : {M : Type 1} → statement M
 count-spec =

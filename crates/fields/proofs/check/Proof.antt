@@ -1,20 +1,22 @@
 use borrow.Author.Needs.{needs}
 use Rattle.refusal.proofs.InOrder.{first-stopped, second-stopped, third-stopped, last-told}
 use Rattle.fields.proofs.FieldOrder.{songPart, instrumentPart, volumePart, panningPart}
+use Rattle.refusal.specs.Numbers.{verdictNumbers}
+use Rattle.refusal.proofs.Outcomes.{is-answer}
 use Rattle.fields.proofs.check.Statement.{statement}
 use Rattle.fields.proofs.check.Tie as tie
 
 returns : tie.Need-returns
-returns c = first-stopped (songPart (c .before .before .before .before .before .before .args .m .now) (c .before .before .before .before .before .before .args .l)) (instrumentPart (c .before .before .before .before .before .before .args .m .now) (c .before .before .before .before .before .before .args .l)) (volumePart (c .before .before .before .before .before .before .args .m .now) (c .before .before .before .before .before .before .args .l)) (panningPart (c .before .before .before .before .before .before .args .m .now) (c .before .before .before .before .before .before .args .l)) (c .before .before .before .check-songs .ensures) (c .before .r .given .1)
+returns c = is-answer verdictNumbers (first-stopped (songPart (c .before .before .before .before .before .before .args .m .now) (c .before .before .before .before .before .before .args .l)) (instrumentPart (c .before .before .before .before .before .before .args .m .now) (c .before .before .before .before .before .before .args .l)) (volumePart (c .before .before .before .before .before .before .args .m .now) (c .before .before .before .before .before .before .args .l)) (panningPart (c .before .before .before .before .before .before .args .m .now) (c .before .before .before .before .before .before .args .l)) (c .before .before .before .check-songs .ensures) (c .before .r .given .1))
 
 returns-2 : tie.Need-returns-2
-returns-2 c = second-stopped (songPart (c .before .before .before .before .before .before .before .before .before .args .m .now) (c .before .before .before .before .before .before .before .before .before .args .l)) (instrumentPart (c .before .before .before .before .before .before .before .before .before .args .m .now) (c .before .before .before .before .before .before .before .before .before .args .l)) (volumePart (c .before .before .before .before .before .before .before .before .before .args .m .now) (c .before .before .before .before .before .before .before .before .before .args .l)) (panningPart (c .before .before .before .before .before .before .before .before .before .args .m .now) (c .before .before .before .before .before .before .before .before .before .args .l)) (c .before .before .before .before .before .before .check-songs .ensures) (c .before .before .before .before .enum-told .given .1) (c .before .before .before .check-instruments .ensures) (c .before .r2 .given .1)
+returns-2 c = is-answer verdictNumbers (second-stopped (songPart (c .before .before .before .before .before .before .before .before .before .args .m .now) (c .before .before .before .before .before .before .before .before .before .args .l)) (instrumentPart (c .before .before .before .before .before .before .before .before .before .args .m .now) (c .before .before .before .before .before .before .before .before .before .args .l)) (volumePart (c .before .before .before .before .before .before .before .before .before .args .m .now) (c .before .before .before .before .before .before .before .before .before .args .l)) (panningPart (c .before .before .before .before .before .before .before .before .before .args .m .now) (c .before .before .before .before .before .before .before .before .before .args .l)) (c .before .before .before .before .before .before .check-songs .ensures) (c .before .before .before .before .enum-told .given .1) (c .before .before .before .check-instruments .ensures) (c .before .r2 .given .1))
 
 returns-3 : tie.Need-returns-3
-returns-3 c = third-stopped (songPart (c .before .before .before .before .before .before .before .before .before .before .before .before .args .m .now) (c .before .before .before .before .before .before .before .before .before .before .before .before .args .l)) (instrumentPart (c .before .before .before .before .before .before .before .before .before .before .before .before .args .m .now) (c .before .before .before .before .before .before .before .before .before .before .before .before .args .l)) (volumePart (c .before .before .before .before .before .before .before .before .before .before .before .before .args .m .now) (c .before .before .before .before .before .before .before .before .before .before .before .before .args .l)) (panningPart (c .before .before .before .before .before .before .before .before .before .before .before .before .args .m .now) (c .before .before .before .before .before .before .before .before .before .before .before .before .args .l)) (c .before .before .before .before .before .before .before .before .before .check-songs .ensures) (c .before .before .before .before .before .before .before .enum-told .given .1) (c .before .before .before .before .before .before .check-instruments .ensures) (c .before .before .before .before .enum-told2 .given .1) (c .before .before .before .check-envelopes .ensures) (c .before .r3 .given .1)
+returns-3 c = is-answer verdictNumbers (third-stopped (songPart (c .before .before .before .before .before .before .before .before .before .before .before .before .args .m .now) (c .before .before .before .before .before .before .before .before .before .before .before .before .args .l)) (instrumentPart (c .before .before .before .before .before .before .before .before .before .before .before .before .args .m .now) (c .before .before .before .before .before .before .before .before .before .before .before .before .args .l)) (volumePart (c .before .before .before .before .before .before .before .before .before .before .before .before .args .m .now) (c .before .before .before .before .before .before .before .before .before .before .before .before .args .l)) (panningPart (c .before .before .before .before .before .before .before .before .before .before .before .before .args .m .now) (c .before .before .before .before .before .before .before .before .before .before .before .before .args .l)) (c .before .before .before .before .before .before .before .before .before .check-songs .ensures) (c .before .before .before .before .before .before .before .enum-told .given .1) (c .before .before .before .before .before .before .check-instruments .ensures) (c .before .before .before .before .enum-told2 .given .1) (c .before .before .before .check-envelopes .ensures) (c .before .r3 .given .1))
 
 returns-4 : tie.Need-returns-4
-returns-4 c = last-told (songPart (c .before .before .before .before .before .before .before .before .before .before .before .before .before .args .m .now) (c .before .before .before .before .before .before .before .before .before .before .before .before .before .args .l)) (instrumentPart (c .before .before .before .before .before .before .before .before .before .before .before .before .before .args .m .now) (c .before .before .before .before .before .before .before .before .before .before .before .before .before .args .l)) (volumePart (c .before .before .before .before .before .before .before .before .before .before .before .before .before .args .m .now) (c .before .before .before .before .before .before .before .before .before .before .before .before .before .args .l)) (panningPart (c .before .before .before .before .before .before .before .before .before .before .before .before .before .args .m .now) (c .before .before .before .before .before .before .before .before .before .before .before .before .before .args .l)) (c .before .before .before .before .before .before .before .before .before .before .check-songs .ensures) (c .before .before .before .before .before .before .before .before .enum-told .given .1) (c .before .before .before .before .before .before .before .check-instruments .ensures) (c .before .before .before .before .before .enum-told2 .given .1) (c .before .before .before .before .check-envelopes .ensures) (c .before .before .enum-told3 .given .1) (c .check-envelopes2 .ensures)
+returns-4 c = is-answer verdictNumbers (last-told (songPart (c .before .before .before .before .before .before .before .before .before .before .before .before .before .args .m .now) (c .before .before .before .before .before .before .before .before .before .before .before .before .before .args .l)) (instrumentPart (c .before .before .before .before .before .before .before .before .before .before .before .before .before .args .m .now) (c .before .before .before .before .before .before .before .before .before .before .before .before .before .args .l)) (volumePart (c .before .before .before .before .before .before .before .before .before .before .before .before .before .args .m .now) (c .before .before .before .before .before .before .before .before .before .before .before .before .before .args .l)) (panningPart (c .before .before .before .before .before .before .before .before .before .before .before .before .before .args .m .now) (c .before .before .before .before .before .before .before .before .before .before .before .before .before .args .l)) (c .before .before .before .before .before .before .before .before .before .before .check-songs .ensures) (c .before .before .before .before .before .before .before .before .enum-told .given .1) (c .before .before .before .before .before .before .before .check-instruments .ensures) (c .before .before .before .before .before .enum-told2 .given .1) (c .before .before .before .before .check-envelopes .ensures) (c .before .before .enum-told3 .given .1) (c .check-envelopes2 .ensures))
 
 pub check-spec : {M : Type 1} → statement M
 check-spec =

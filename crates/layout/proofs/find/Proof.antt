@@ -1,11 +1,13 @@
 use borrow.Author.Needs.{needs}
 use mathlib.Core.Path.{_∙_, sym}
 use Rattle.layout.proofs.Outlining.{header-length, outline-header, outline-walk, outline-whole}
+use Rattle.layout.specs.Outlines.{outlineNumbers}
+use Rattle.refusal.proofs.Outcomes.{is-answer}
 use Rattle.layout.proofs.find.Statement.{statement}
 use Rattle.layout.proofs.find.Tie as tie
 
 returns : tie.Need-returns
-returns c = sym (outline-header (c .before .before .before .before .before .args .m .now) (c .before .r .given .0 .0) (sym (c .before .before .before .check-header .ensures) ∙ c .before .r .given .1))
+returns c = is-answer outlineNumbers (sym (outline-header (c .before .before .before .before .before .args .m .now) (c .before .r .given .0 .0) (sym (c .before .before .before .check-header .ensures) ∙ c .before .r .given .1)))
 
 enum-told : tie.Need-enum-told
 enum-told c = search needs
@@ -14,10 +16,10 @@ walk-chunks-requires : tie.Need-walk-chunks-requires
 walk-chunks-requires c κs = header-length (c .before .before .before .before .args .m .now) (sym (c .before .before .check-header .ensures) ∙ c .enum-told .given .1)
 
 returns-2 : tie.Need-returns-2
-returns-2 c = c .with-mandatory .ensures ∙ sym (outline-whole (c .before .before .before .before .before .before .before .before .before .args .m .now) (c .before .before .p .given .0 .0) (sym (c .before .before .before .before .before .before .before .check-header .ensures) ∙ c .before .before .before .before .before .enum-told .given .1) (sym (c .before .before .before .before .walk-chunks .ensures) ∙ c .before .before .p .given .1))
+returns-2 c = is-answer outlineNumbers (c .with-mandatory .ensures ∙ sym (outline-whole (c .before .before .before .before .before .before .before .before .before .args .m .now) (c .before .before .p .given .0 .0) (sym (c .before .before .before .before .before .before .before .check-header .ensures) ∙ c .before .before .before .before .before .enum-told .given .1) (sym (c .before .before .before .before .walk-chunks .ensures) ∙ c .before .before .p .given .1)))
 
 returns-3 : tie.Need-returns-3
-returns-3 c = sym (outline-walk (c .before .before .before .before .before .before .before .before .args .m .now) (c .before .r2 .given .0 .0) (sym (c .before .before .before .before .before .before .check-header .ensures) ∙ c .before .before .before .before .enum-told .given .1) (sym (c .before .before .before .walk-chunks .ensures) ∙ c .before .r2 .given .1))
+returns-3 c = is-answer outlineNumbers (sym (outline-walk (c .before .before .before .before .before .before .before .before .args .m .now) (c .before .r2 .given .0 .0) (sym (c .before .before .before .before .before .before .check-header .ensures) ∙ c .before .before .before .before .enum-told .given .1) (sym (c .before .before .before .walk-chunks .ensures) ∙ c .before .r2 .given .1)))
 
 pub find-spec : {M : Type 1} → statement M
 find-spec =

@@ -12,10 +12,10 @@ enum-told : tie.Need-enum-told
 enum-told c = search needs
 
 returns-2 : tie.Need-returns-2
-returns-2 c = let w = listing-written (c .before .before .before .before .before .before .before .before .before .before .args .input .now) (c .before .before .before .before .before .before .before .before .before .before .args .text .now) (c .before .before .before .before .before .lines .last .1 .0) (c .before .before .before .before .before .lines .result) (c .before .before .before .before .before .lines .ensures .0) (c .before .before .before .before .before .lines .ensures .1) (c .before .before .before .before .before .lines .ensures .2) (c .before .before .before .before .before .before .before .before .before .before .pre) (c .before .n .given .0 .0) (c .before .n .given .1) in (simp (le-ltb _ _ (c .before .before .before .before .before .before .before .if1 .left)) (w .0), w .1)
+returns-2 c = let w = listing-written (c .before .before .before .before .before .before .before .before .before .before .args .input .now) (c .before .before .before .before .before .before .before .before .before .before .args .text .now) (c .before .before .before .before .before .lines .last .1 .0) (c .before .before .before .before .before .lines .result) (c .before .before .before .before .before .lines .ensures .0 .0) (c .before .before .before .before .before .lines .ensures .1) (c .before .before .before .before .before .lines .ensures .2) (c .before .before .before .before .before .before .before .before .before .before .pre) (c .before .n .given .0 .0) (c .before .n .given .1) in (simp (le-ltb _ _ (c .before .before .before .before .before .before .before .if1 .left)) (w .0), w .1)
 
 returns-3 : tie.Need-returns-3
-returns-3 c = absurd (listing-never-refused (c .before .before .before .before .before .before .before .before .before .args .input .now) (c .before .before .before .before .before .before .before .before .before .args .text .now) (c .before .before .before .before .lines .last .1 .0) (c .before .before .before .before .lines .result) (c .before .before .before .before .lines .ensures .0) (c .before .before .before .before .lines .ensures .1) (c .before .before .before .before .lines .ensures .2) (c .before .before .before .before .before .before .before .before .before .pre) (c .enum-told .given .0 .0) (c .enum-told .given .1))
+returns-3 c = absurd (listing-never-refused (c .before .before .before .before .before .before .before .before .before .args .input .now) (c .before .before .before .before .before .before .before .before .before .args .text .now) (c .before .before .before .before .lines .last .1 .0) (c .before .before .before .before .lines .result) (c .before .before .before .before .lines .ensures .0 .0) (c .before .before .before .before .lines .ensures .1) (c .before .before .before .before .lines .ensures .2) (c .before .before .before .before .before .before .before .before .before .pre) (c .enum-told .given .0 .0) (c .enum-told .given .1))
 
 pub put-printed-spec : {M : Type 1} → statement M
 put-printed-spec =

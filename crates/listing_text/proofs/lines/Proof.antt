@@ -4,6 +4,8 @@ use lib.Seq.{length-take-le}
 use native.Mathlib.Omega.{arith}
 use borrow.Author.Needs.{needs}
 use Rattle.listing_text.specs.Lines.{listing}
+use Rattle.listing_text.specs.Lines.{listingNumbers}
+use Rattle.refusal.proofs.Outcomes.{is-answer}
 use Rattle.listing_text.proofs.lines.Statement.{statement}
 use Rattle.listing_text.proofs.lines.Tie as tie
 
@@ -15,7 +17,7 @@ slice-aggregate-hand-out c = sym (length-take-le (c .before .before .put-listing
 
 returns : tie.Need-returns
 returns c = let front : take (c .before .before .before .before .before .before .put-listing .result) (c .before .before .before .before .before .before .put-listing .last .0) ≡ listing (c .before .before .before .before .before .before .before .before .before .before .args .m .now) = c .before .before .before .before .before .before .put-listing .ensures .0 .front in
-    (c .before .before .hand-out .ensures .0 ∙ rw front, c .before .before .hand-out .ensures .1 ∙ rw (c .before .before .hand-out .ensures .0, front), omega (arith, c .before .before .before .before .before .before .put-listing .ensures .0 .place, c .before .before .before .before .before .before .put-listing .ensures .1))
+    (is-answer listingNumbers (c .before .before .hand-out .ensures .0 ∙ rw front), c .before .before .hand-out .ensures .1 ∙ rw (c .before .before .hand-out .ensures .0, front), omega (arith, c .before .before .before .before .before .before .put-listing .ensures .0 .place, c .before .before .before .before .before .before .put-listing .ensures .1))
 
 pub lines-spec : {M : Type 1} → statement M
 lines-spec =

@@ -6,11 +6,11 @@ use Rattle.listing_text.proofs.put_listing.Tie as tie
 
 returns : tie.Need-returns
 unfolding listing
-returns c = (rw (ap (linesOf (c .before .before .before .before .before .before .before .before .before .before .args .m .now)) (sym (c .before .before .before .before .before .before .before .«open» .ensures) ∙ c .before .before .before .before .before .l .given .1)) (c .before .before .put-accepted .ensures .0), c .before .before .put-accepted .ensures .1)
+returns c = (rw (ap (linesOf (c .before .before .before .before .before .before .before .before .before .before .args .m .now)) (sym (c .before .before .before .before .before .before .before .«open» .ensures .0) ∙ c .before .before .before .before .before .l .given .1)) (c .before .before .put-accepted .ensures .0), c .before .before .put-accepted .ensures .1)
 
 returns-2 : tie.Need-returns-2
 unfolding listing
-returns-2 c = (rw (ap (linesOf (c .before .before .before .before .before .before .before .before .before .before .args .m .now)) (sym (c .before .before .before .before .before .before .before .«open» .ensures) ∙ c .before .before .before .before .before .r .given .1)) (c .before .before .put-refused .ensures .0), c .before .before .put-refused .ensures .1)
+returns-2 c = (rw (ap (linesOf (c .before .before .before .before .before .before .before .before .before .before .args .m .now)) (sym (c .before .before .before .before .before .before .before .«open» .ensures .0) ∙ c .before .before .before .before .before .r .given .1)) (c .before .before .put-refused .ensures .0), c .before .before .put-refused .ensures .1)
 
 pub put-listing-spec : {M : Type 1} → statement M
 put-listing-spec =

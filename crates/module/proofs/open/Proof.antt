@@ -1,15 +1,17 @@
 use borrow.Author.Needs.{needs}
+use Rattle.layout.specs.Outlines.{outlineNumbers}
+use Rattle.refusal.proofs.Outcomes.{is-answer}
 use Rattle.module.proofs.open.Statement.{statement}
 use Rattle.module.proofs.open.Tie as tie
 
 returns : tie.Need-returns
-returns c = simp (← c .before .before .before .before .before .before .find .ensures, c .before .before .before .before .l .given .1, ← c .before .before .check-content .ensures, c .enum-told .given .1)
+returns c = is-answer outlineNumbers (simp (← c .before .before .before .before .before .before .find .ensures .0, c .before .before .before .before .l .given .1, ← c .before .before .check-content .ensures, c .enum-told .given .1))
 
 returns-2 : tie.Need-returns-2
-returns-2 c = simp (← c .before .before .before .before .before .before .before .find .ensures, c .before .before .before .before .before .l .given .1, ← c .before .before .before .check-content .ensures, c .before .r .given .1)
+returns-2 c = is-answer outlineNumbers (simp (← c .before .before .before .before .before .before .before .find .ensures .0, c .before .before .before .before .before .l .given .1, ← c .before .before .before .check-content .ensures, c .before .r .given .1))
 
 returns-3 : tie.Need-returns-3
-returns-3 c = simp (← c .before .before .before .find .ensures, c .before .r2 .given .1)
+returns-3 c = is-answer outlineNumbers (simp (← c .before .before .before .find .ensures .0, c .before .r2 .given .1))
 
 pub open-spec : {M : Type 1} → statement M
 open-spec =

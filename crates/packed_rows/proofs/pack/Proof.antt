@@ -10,11 +10,13 @@ use native.Mathlib.Omega.{arith}
 use Rattle.cells.specs.Cells.{sizesFit, rowsOf}
 use Rattle.packed_rows.proofs.Sizes.{sizes}
 use Rattle.packed_rows.proofs.StreamLength.{packed-length}
+use Rattle.packed_rows.specs.Answers.{packingNumbers}
+use Rattle.refusal.proofs.Outcomes.{is-answer-with}
 use Rattle.packed_rows.proofs.pack.Statement.{statement}
 use Rattle.packed_rows.proofs.pack.Tie as tie
 
 returns : tie.Need-returns
-returns c = let no-fit : sizesFit (c .before .before .before .before .before .args .rows) (c .before .before .before .before .before .args .tracks) ≡ false = sym (c .before .before .sizes-fit .ensures) ∙ not-true _ (c .before .if1 .taken) in (simp (no-fit, c .refuse .ensures), simp no-fit)
+returns c = is-answer-with packingNumbers (let no-fit : sizesFit (c .before .before .before .before .before .args .rows) (c .before .before .before .before .before .args .tracks) ≡ false = sym (c .before .before .sizes-fit .ensures) ∙ not-true _ (c .before .if1 .taken) in (simp (no-fit, c .refuse .ensures), simp no-fit))
 
 mul-if2 : tie.Need-mul-if2
 mul-if2 c = let yes : sizesFit (c .before .before .before .before .args .rows) (c .before .before .before .before .args .tracks) ≡ true = sym (c .before .sizes-fit .ensures) ∙ not-false _ (c .if1 .left) in let fits = sizes (c .before .before .before .before .args .rows) (c .before .before .before .before .args .tracks) yes in record { fits = omega arith }
@@ -23,13 +25,13 @@ mul-if2-2 : tie.Need-mul-if2-2
 mul-if2-2 c = let yes : sizesFit (c .before .before .before .before .args .rows) (c .before .before .before .before .args .tracks) ≡ true = sym (c .before .sizes-fit .ensures) ∙ not-false _ (c .if1 .left) in let fits = sizes (c .before .before .before .before .args .rows) (c .before .before .before .before .args .tracks) yes in record { fits = omega arith }
 
 returns-2 : tie.Need-returns-2
-returns-2 c = let yes : sizesFit (c .before .before .before .before .before .before .args .rows) (c .before .before .before .before .before .before .args .tracks) ≡ true = sym (c .before .before .before .sizes-fit .ensures) ∙ not-false _ (c .before .before .if1 .left) in (simp (yes, ne-eqb _ _ (c .before .if2 .taken), c .refuse2 .ensures), simp (yes, ne-eqb _ _ (c .before .if2 .taken)))
+returns-2 c = is-answer-with packingNumbers (let yes : sizesFit (c .before .before .before .before .before .before .args .rows) (c .before .before .before .before .before .before .args .tracks) ≡ true = sym (c .before .before .before .sizes-fit .ensures) ∙ not-false _ (c .before .before .if1 .left) in (simp (yes, ne-eqb _ _ (c .before .if2 .taken), c .refuse2 .ensures), simp (yes, ne-eqb _ _ (c .before .if2 .taken))))
 
 packed-length-requires : tie.Need-packed-length-requires
 packed-length-requires c κs = let yes : sizesFit (c .before .before .before .before .before .args .rows) (c .before .before .before .before .before .args .tracks) ≡ true = sym (c .before .before .sizes-fit .ensures) ∙ not-false _ (c .before .if1 .left) in let fits = sizes (c .before .before .before .before .before .args .rows) (c .before .before .before .before .before .args .tracks) yes in (c .if2 .left, omega arith, omega arith)
 
 returns-3 : tie.Need-returns-3
-returns-3 c = let yes : sizesFit (c .before .before .before .before .before .before .before .before .args .rows) (c .before .before .before .before .before .before .before .before .args .tracks) ≡ true = sym (c .before .before .before .before .before .sizes-fit .ensures) ∙ not-false _ (c .before .before .before .before .if1 .left) in (simp (yes, eq-eqb _ _ (c .before .before .before .if2 .left), ← c .before .before .packed-length .ensures, lt-ltb _ _ (c .before .if3 .taken), c .refuse3 .ensures), simp (yes, eq-eqb _ _ (c .before .before .before .if2 .left), ← c .before .before .packed-length .ensures, lt-ltb _ _ (c .before .if3 .taken)))
+returns-3 c = is-answer-with packingNumbers (let yes : sizesFit (c .before .before .before .before .before .before .before .before .args .rows) (c .before .before .before .before .before .before .before .before .args .tracks) ≡ true = sym (c .before .before .before .before .before .sizes-fit .ensures) ∙ not-false _ (c .before .before .before .before .if1 .left) in (simp (yes, eq-eqb _ _ (c .before .before .before .if2 .left), ← c .before .before .packed-length .ensures, lt-ltb _ _ (c .before .if3 .taken), c .refuse3 .ensures), simp (yes, eq-eqb _ _ (c .before .before .before .if2 .left), ← c .before .before .packed-length .ensures, lt-ltb _ _ (c .before .if3 .taken))))
 
 slice-aggregate-write-rows : tie.Need-slice-aggregate-write-rows
 slice-aggregate-write-rows c = sym (length-take-le (c .before .before .packed-length .result) (c .before .before .before .before .before .before .before .before .args .out .now) (c .before .if3 .left))
@@ -38,7 +40,7 @@ write-rows-requires : tie.Need-write-rows-requires
 write-rows-requires c κs = let yes : sizesFit (c .before .before .before .before .before .before .before .before .args .rows) (c .before .before .before .before .before .before .before .before .args .tracks) ≡ true = sym (c .before .before .before .before .before .sizes-fit .ensures) ∙ not-false _ (c .before .before .before .before .if1 .left) in let fits = sizes (c .before .before .before .before .before .before .before .before .args .rows) (c .before .before .before .before .before .before .before .before .args .tracks) yes in (c .before .before .before .if2 .left, omega arith, length-take-le (c .before .before .packed-length .result) (c .before .before .before .before .before .before .before .before .args .out .now) (c .before .if3 .left) ∙ c .before .before .packed-length .ensures ∙ sym (packed-length (rowsOf (c .before .before .before .before .before .before .before .before .args .rows) (c .before .before .before .before .before .before .before .before .args .tracks) (c .before .before .before .before .before .before .before .before .args .cells .now))))
 
 returns-4 : tie.Need-returns-4
-returns-4 c = let yes : sizesFit (c .before .before .before .before .before .before .before .before .before .before .before .args .rows) (c .before .before .before .before .before .before .before .before .before .before .before .args .tracks) ≡ true = sym (c .before .before .before .before .before .before .before .before .sizes-fit .ensures) ∙ not-false _ (c .before .before .before .before .before .before .before .if1 .left) in (simp (yes, eq-eqb _ _ (c .before .before .before .before .before .before .if2 .left), ← c .before .before .before .before .before .packed-length .ensures, le-ltb _ _ (c .before .before .before .before .if3 .left)), simp (yes, eq-eqb _ _ (c .before .before .before .before .before .before .if2 .left), ← c .before .before .before .before .before .packed-length .ensures, le-ltb _ _ (c .before .before .before .before .if3 .left)) (ap (_++ drop (c .before .before .before .before .before .packed-length .result) (c .before .before .before .before .before .before .before .before .before .before .before .args .out .now)) (c .before .before .write-rows .ensures)))
+returns-4 c = is-answer-with packingNumbers (let yes : sizesFit (c .before .before .before .before .before .before .before .before .before .before .before .args .rows) (c .before .before .before .before .before .before .before .before .before .before .before .args .tracks) ≡ true = sym (c .before .before .before .before .before .before .before .before .sizes-fit .ensures) ∙ not-false _ (c .before .before .before .before .before .before .before .if1 .left) in (simp (yes, eq-eqb _ _ (c .before .before .before .before .before .before .if2 .left), ← c .before .before .before .before .before .packed-length .ensures, le-ltb _ _ (c .before .before .before .before .if3 .left)), simp (yes, eq-eqb _ _ (c .before .before .before .before .before .before .if2 .left), ← c .before .before .before .before .before .packed-length .ensures, le-ltb _ _ (c .before .before .before .before .if3 .left)) (ap (_++ drop (c .before .before .before .before .before .packed-length .result) (c .before .before .before .before .before .before .before .before .before .before .before .args .out .now)) (c .before .before .write-rows .ensures))))
 
 pub pack-spec : {M : Type 1} → statement M
 pack-spec =

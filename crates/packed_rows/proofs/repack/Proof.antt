@@ -14,14 +14,16 @@ use Rattle.packed_rows.specs.Steps.{rowsRead}
 use Rattle.packed_rows.specs.declared.Packing.{Packing}
 use Rattle.packed_rows.proofs.Sizes.{sizes}
 use Rattle.packed_rows.proofs.Repacking.{repack-refused, repack-found}
+use Rattle.packed_rows.specs.Answers.{packingNumbers}
+use Rattle.refusal.proofs.Outcomes.{is-answer-with}
 use Rattle.packed_rows.proofs.repack.Statement.{statement}
 use Rattle.packed_rows.proofs.repack.Tie as tie
 
 returns : tie.Need-returns
-returns c = let no-fit : sizesFit (c .before .before .before .before .before .args .rows) (c .before .before .before .before .before .args .tracks) ≡ false = sym (c .before .before .sizes-fit .ensures) ∙ not-true _ (c .before .if1 .taken) in (simp (no-fit, c .refuse .ensures), simp no-fit)
+returns c = is-answer-with packingNumbers (let no-fit : sizesFit (c .before .before .before .before .before .args .rows) (c .before .before .before .before .before .args .tracks) ≡ false = sym (c .before .before .sizes-fit .ensures) ∙ not-true _ (c .before .if1 .taken) in (simp (no-fit, c .refuse .ensures), simp no-fit))
 
 returns-2 : tie.Need-returns-2
-returns-2 c = let yes : sizesFit (c .before .before .before .before .before .before .before .before .args .rows) (c .before .before .before .before .before .before .before .before .args .tracks) ≡ true = sym (c .before .before .before .before .before .sizes-fit .ensures) ∙ not-false _ (c .before .before .before .before .if1 .left) in let refused = repack-refused (readStream (c .before .before .before .before .before .before .before .before .args .rows) (c .before .before .before .before .before .before .before .before .args .tracks) (c .before .before .before .before .before .before .before .before .args .stream .now)) (c .before .before .before .before .before .before .before .before .args .tracks) (length (c .before .before .before .before .before .before .before .before .args .out .now)) (c .before .r .given .0 .0) (sym (c .before .before .before .check-stream .ensures) ∙ c .before .r .given .1) in (simp (yes, ← refused), simp (yes, ← refused))
+returns-2 c = is-answer-with packingNumbers (let yes : sizesFit (c .before .before .before .before .before .before .before .before .args .rows) (c .before .before .before .before .before .before .before .before .args .tracks) ≡ true = sym (c .before .before .before .before .before .sizes-fit .ensures) ∙ not-false _ (c .before .before .before .before .if1 .left) in let refused = repack-refused (readStream (c .before .before .before .before .before .before .before .before .args .rows) (c .before .before .before .before .before .before .before .before .args .tracks) (c .before .before .before .before .before .before .before .before .args .stream .now)) (c .before .before .before .before .before .before .before .before .args .tracks) (length (c .before .before .before .before .before .before .before .before .args .out .now)) (c .before .r .given .0 .0) (sym (c .before .before .before .check-stream .ensures) ∙ c .before .r .given .1) in (simp (yes, ← refused), simp (yes, ← refused)))
 
 enum-told : tie.Need-enum-told
 enum-told c = search needs
@@ -39,7 +41,7 @@ repack-accepted-requires : tie.Need-repack-accepted-requires
 repack-accepted-requires c κs = let yes : sizesFit (c .before .before .before .before .before .before .before .before .before .args .rows) (c .before .before .before .before .before .before .before .before .before .args .tracks) ≡ true = sym (c .before .before .before .before .before .before .sizes-fit .ensures) ∙ not-false _ (c .before .before .before .before .before .if1 .left) in let fits = sizes (c .before .before .before .before .before .before .before .before .before .args .rows) (c .before .before .before .before .before .before .before .before .before .args .tracks) yes in (sym (c .before .before .before .before .check-stream .ensures) ∙ c .before .before .enum-told .given .1, length-take-le (c .before .before .before .before .before .before .before .before .before .args .tracks * 6) (replicate {A = ℕ} 1524 0) (let h : c .before .before .before .before .before .before .before .before .before .args .tracks * 6 ≤ 1524 = omega arith in h), omega arith, omega arith)
 
 returns-3 : tie.Need-returns-3
-returns-3 c = let yes : sizesFit (c .before .before .before .before .before .before .before .before .before .before .before .before .before .args .rows) (c .before .before .before .before .before .before .before .before .before .before .before .before .before .args .tracks) ≡ true = sym (c .before .before .before .before .before .before .before .before .before .before .sizes-fit .ensures) ∙ not-false _ (c .before .before .before .before .before .before .before .before .before .if1 .left) in let found = repack-found (readStream (c .before .before .before .before .before .before .before .before .before .before .before .before .before .args .rows) (c .before .before .before .before .before .before .before .before .before .before .before .before .before .args .tracks) (c .before .before .before .before .before .before .before .before .before .before .before .before .before .args .stream .now)) (c .before .before .before .before .before .before .before .before .before .before .before .before .before .args .tracks) (length (c .before .before .before .before .before .before .before .before .before .before .before .before .before .args .out .now)) (sym (c .before .before .before .before .before .before .before .before .check-stream .ensures) ∙ c .before .before .before .before .before .before .enum-told .given .1) in (simp (yes, ← found) (c .before .before .before .repack-accepted .ensures .0), simp (yes, ← found) (c .before .before .before .repack-accepted .ensures .1 ∙ ap (λ (a : Packing). outputPacked a (packedStream (rowsRead (c .before .before .before .before .before .before .before .before .before .before .before .before .before .args .stream .now) (c .before .before .before .before .before .before .before .before .before .before .before .before .before .args .rows) (c .before .before .before .before .before .before .before .before .before .before .before .before .before .args .tracks))) (c .before .before .before .before .before .before .before .before .before .before .before .before .before .args .out .now)) (c .before .before .before .repack-accepted .ensures .0)))
+returns-3 c = is-answer-with packingNumbers (let yes : sizesFit (c .before .before .before .before .before .before .before .before .before .before .before .before .before .args .rows) (c .before .before .before .before .before .before .before .before .before .before .before .before .before .args .tracks) ≡ true = sym (c .before .before .before .before .before .before .before .before .before .before .sizes-fit .ensures) ∙ not-false _ (c .before .before .before .before .before .before .before .before .before .if1 .left) in let found = repack-found (readStream (c .before .before .before .before .before .before .before .before .before .before .before .before .before .args .rows) (c .before .before .before .before .before .before .before .before .before .before .before .before .before .args .tracks) (c .before .before .before .before .before .before .before .before .before .before .before .before .before .args .stream .now)) (c .before .before .before .before .before .before .before .before .before .before .before .before .before .args .tracks) (length (c .before .before .before .before .before .before .before .before .before .before .before .before .before .args .out .now)) (sym (c .before .before .before .before .before .before .before .before .check-stream .ensures) ∙ c .before .before .before .before .before .before .enum-told .given .1) in (simp (yes, ← found) (c .before .before .before .repack-accepted .ensures .0), simp (yes, ← found) (c .before .before .before .repack-accepted .ensures .1 ∙ ap (λ (a : Packing). outputPacked a (packedStream (rowsRead (c .before .before .before .before .before .before .before .before .before .before .before .before .before .args .stream .now) (c .before .before .before .before .before .before .before .before .before .before .before .before .before .args .rows) (c .before .before .before .before .before .before .before .before .before .before .before .before .before .args .tracks))) (c .before .before .before .before .before .before .before .before .before .before .before .before .before .args .out .now)) (c .before .before .before .repack-accepted .ensures .0))))
 
 pub repack-spec : {M : Type 1} → statement M
 repack-spec =

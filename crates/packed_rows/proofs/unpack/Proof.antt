@@ -8,11 +8,13 @@ use mathlib.Core.List.{List, _++_}
 use Prim.Native.Nat.{ℕ, _*_}
 use lib.ListN.{drop}
 use Rattle.packed_rows.proofs.Sizes.{sizes}
+use Rattle.packed_rows.specs.Answers.{unpackingNumbers}
+use Rattle.refusal.proofs.Outcomes.{is-answer-with}
 use Rattle.packed_rows.proofs.unpack.Statement.{statement}
 use Rattle.packed_rows.proofs.unpack.Tie as tie
 
 returns : tie.Need-returns
-returns c = (simp (← c .before .before .sizes-fit .ensures, c .before .if1 .taken, c .refuse .ensures), simp (← c .before .before .sizes-fit .ensures, c .before .if1 .taken))
+returns c = is-answer-with unpackingNumbers ((simp (← c .before .before .sizes-fit .ensures, c .before .if1 .taken, c .refuse .ensures), simp (← c .before .before .sizes-fit .ensures, c .before .if1 .taken)))
 
 mul-size : tie.Need-mul-size
 mul-size c = let fits = sizes (c .before .before .before .before .args .rows) (c .before .before .before .before .args .tracks) (sym (c .before .sizes-fit .ensures) ∙ not-false _ (c .if1 .left)) in record { fits = omega arith }
@@ -21,10 +23,10 @@ mul-size-2 : tie.Need-mul-size-2
 mul-size-2 c = let fits = sizes (c .before .before .before .before .args .rows) (c .before .before .before .before .args .tracks) (sym (c .before .sizes-fit .ensures) ∙ not-false _ (c .if1 .left)) in record { fits = omega arith }
 
 returns-2 : tie.Need-returns-2
-returns-2 c = (simp (← c .before .before .before .sizes-fit .ensures, c .before .before .if1 .left, lt-ltb _ _ (c .before .if2 .taken), c .refuse2 .ensures), simp (← c .before .before .before .sizes-fit .ensures, c .before .before .if1 .left, lt-ltb _ _ (c .before .if2 .taken)))
+returns-2 c = is-answer-with unpackingNumbers ((simp (← c .before .before .before .sizes-fit .ensures, c .before .before .if1 .left, lt-ltb _ _ (c .before .if2 .taken), c .refuse2 .ensures), simp (← c .before .before .before .sizes-fit .ensures, c .before .before .if1 .left, lt-ltb _ _ (c .before .if2 .taken))))
 
 returns-3 : tie.Need-returns-3
-returns-3 c = let read = sym (c .before .before .before .check-stream .ensures) ∙ c .before .r .given .1 in (simp (← c .before .before .before .before .before .before .sizes-fit .ensures, c .before .before .before .before .before .if1 .left, le-ltb _ _ (c .before .before .before .before .if2 .left), read), simp (← c .before .before .before .before .before .before .sizes-fit .ensures, c .before .before .before .before .before .if1 .left, le-ltb _ _ (c .before .before .before .before .if2 .left), read))
+returns-3 c = is-answer-with unpackingNumbers (let read = sym (c .before .before .before .check-stream .ensures) ∙ c .before .r .given .1 in (simp (← c .before .before .before .before .before .before .sizes-fit .ensures, c .before .before .before .before .before .if1 .left, le-ltb _ _ (c .before .before .before .before .if2 .left), read), simp (← c .before .before .before .before .before .before .sizes-fit .ensures, c .before .before .before .before .before .if1 .left, le-ltb _ _ (c .before .before .before .before .if2 .left), read)))
 
 enum-told : tie.Need-enum-told
 enum-told c = search needs
@@ -36,7 +38,7 @@ unpack-rows-requires : tie.Need-unpack-rows-requires
 unpack-rows-requires c κs = let fits = sizes (c .before .before .before .before .before .before .before .before .before .args .rows) (c .before .before .before .before .before .before .before .before .before .args .tracks) (sym (c .before .before .before .before .before .before .sizes-fit .ensures) ∙ not-false _ (c .before .before .before .before .before .if1 .left)) in (sym (c .before .before .before .check-stream .ensures) ∙ c .before .enum-told .given .1, length-take-le (c .before .before .before .before .before .before .before .before .before .args .rows * (c .before .before .before .before .before .before .before .before .before .args .tracks * 6)) (c .before .before .before .before .before .before .before .before .before .args .out .now) (c .before .before .before .before .if2 .left), omega arith)
 
 returns-4 : tie.Need-returns-4
-returns-4 c = let read = sym (c .before .before .before .before .before .before .check-stream .ensures) ∙ c .before .before .before .before .enum-told .given .1 in (simp (← c .before .before .before .before .before .before .before .before .before .sizes-fit .ensures, c .before .before .before .before .before .before .before .before .if1 .left, le-ltb _ _ (c .before .before .before .before .before .before .before .if2 .left), read), simp (← c .before .before .before .before .before .before .before .before .before .sizes-fit .ensures, c .before .before .before .before .before .before .before .before .if1 .left, le-ltb _ _ (c .before .before .before .before .before .before .before .if2 .left), read) (ap (_++ drop (c .before .before .before .before .before .before .before .before .before .before .before .before .args .rows * (c .before .before .before .before .before .before .before .before .before .before .before .before .args .tracks * 6)) (c .before .before .before .before .before .before .before .before .before .before .before .before .args .out .now)) (c .before .before .unpack-rows .ensures)))
+returns-4 c = is-answer-with unpackingNumbers (let read = sym (c .before .before .before .before .before .before .check-stream .ensures) ∙ c .before .before .before .before .enum-told .given .1 in (simp (← c .before .before .before .before .before .before .before .before .before .sizes-fit .ensures, c .before .before .before .before .before .before .before .before .if1 .left, le-ltb _ _ (c .before .before .before .before .before .before .before .if2 .left), read), simp (← c .before .before .before .before .before .before .before .before .before .sizes-fit .ensures, c .before .before .before .before .before .before .before .before .if1 .left, le-ltb _ _ (c .before .before .before .before .before .before .before .if2 .left), read) (ap (_++ drop (c .before .before .before .before .before .before .before .before .before .before .before .before .args .rows * (c .before .before .before .before .before .before .before .before .before .before .before .before .args .tracks * 6)) (c .before .before .before .before .before .before .before .before .before .before .before .before .args .out .now)) (c .before .before .unpack-rows .ensures))))
 
 pub unpack-spec : {M : Type 1} → statement M
 unpack-spec =

@@ -1,5 +1,7 @@
 use borrow.Author.Needs.{needs}
 use Rattle.queries.proofs.Answering.{placed}
+use Rattle.packed_rows.specs.Answers.{cellNumbers}
+use Rattle.refusal.proofs.Outcomes.{is-answer}
 use Rattle.patterns.proofs.cell.Statement.{statement}
 use Rattle.patterns.proofs.cell.Tie as tie
 
@@ -7,10 +9,10 @@ cell-in-requires : tie.Need-cell-in-requires
 cell-in-requires c κs = placed _ _ (c .before .b .given .1) (c .before .before .before .find .ensures .1)
 
 returns : tie.Need-returns
-returns c = simp (← c .before .before .before .before .find .ensures .0, c .before .before .b .given .1, c .cell-in .ensures)
+returns c = is-answer cellNumbers (simp (← c .before .before .before .before .find .ensures .0 .0, c .before .before .b .given .1, c .cell-in .ensures))
 
 returns-2 : tie.Need-returns-2
-returns-2 c = simp (← c .before .before .before .find .ensures .0, c .before .r .given .1)
+returns-2 c = is-answer cellNumbers (simp (← c .before .before .before .find .ensures .0 .0, c .before .r .given .1))
 
 pub cell-spec : {M : Type 1} → statement M
 cell-spec =

@@ -7,10 +7,10 @@ entry-in-requires : tie.Need-entry-in-requires
 entry-in-requires c κs = placed _ _ (c .before .b .given .1) (c .before .before .before .find .ensures .1)
 
 returns : tie.Need-returns
-returns c = simp (← c .before .before .before .before .find .ensures .0, c .before .before .b .given .1, c .entry-in .ensures)
+returns c = simp (← c .before .before .before .before .find .ensures .0 .0, c .before .before .b .given .1, c .entry-in .ensures)
 
 returns-2 : tie.Need-returns-2
-returns-2 c = simp (← c .before .before .before .before .find .ensures .0, c .before .before .r .given .1, c .no-entry .ensures)
+returns-2 c = simp (← c .before .before .before .before .find .ensures .0 .0, c .before .before .r .given .1, c .no-entry .ensures)
 
 pub entry-spec : {M : Type 1} → statement M
 entry-spec =

@@ -7,10 +7,10 @@ write-playlist-requires : tie.Need-write-playlist-requires
 write-playlist-requires c κs = placed _ _ (c .before .before .b .given .1) (c .before .before .before .before .find .ensures .1)
 
 returns : tie.Need-returns
-returns c = (simp (← c .before .before .before .before .before .before .before .find .ensures .0, c .before .before .before .before .before .b .given .1, c .before .before .write-playlist .ensures .0), simp (← c .before .before .before .before .before .before .before .find .ensures .0, c .before .before .before .before .before .b .given .1, c .before .before .write-playlist .ensures .1))
+returns c = (simp (← c .before .before .before .before .before .before .before .find .ensures .0 .0, c .before .before .before .before .before .b .given .1, c .before .before .write-playlist .ensures .0), simp (← c .before .before .before .before .before .before .before .find .ensures .0 .0, c .before .before .before .before .before .b .given .1, c .before .before .write-playlist .ensures .1))
 
 returns-2 : tie.Need-returns-2
-returns-2 c = (simp (← c .before .before .before .before .find .ensures .0, c .before .before .r .given .1, c .refused .ensures), simp (← c .before .before .before .before .find .ensures .0, c .before .before .r .given .1))
+returns-2 c = (simp (← c .before .before .before .before .find .ensures .0 .0, c .before .before .r .given .1, c .refused .ensures), simp (← c .before .before .before .before .find .ensures .0 .0, c .before .before .r .given .1))
 
 pub playlist-spec : {M : Type 1} → statement M
 playlist-spec =

@@ -3,10 +3,10 @@ use Rattle.summary.proofs.version.Statement.{statement}
 use Rattle.summary.proofs.version.Tie as tie
 
 returns : tie.Need-returns
-returns c = simp (← c .before .before .before .before .«open» .ensures, c .before .before .l .given .1, c .outcome-of .ensures)
+returns c = simp (← c .before .before .before .before .«open» .ensures .0, c .before .before .l .given .1, c .outcome-of .ensures)
 
 returns-2 : tie.Need-returns-2
-returns-2 c = simp (← c .before .before .before .before .«open» .ensures, c .before .before .r .given .1, c .no-version .ensures)
+returns-2 c = simp (← c .before .before .before .before .«open» .ensures .0, c .before .before .r .given .1, c .no-version .ensures)
 
 pub version-spec : {M : Type 1} → statement M
 version-spec =
