@@ -14,6 +14,7 @@ ghost use Rattle.refusal.specs.Numbers.{verdictNumbers, IsAnswer};
 ghost use Rattle.refusal.specs.Rules.{firstBroken, rulesOfEach};
 ghost use Rattle.blocks.specs.Sizes.{widthOf, sizeOf, firstBlock, blockAt, blocksOf, envelopeCount};
 ghost use Rattle.blocks.specs.Filling.{dataEnd, fills as fillsChunk, flagsRules, envelopesRule, blockRules};
+ghost use Rattle.blocks.specs.Things.{kindOf, chunkOf, countOf};
 ghost use Rattle.blocks.specs.declared.Kind.the-variants.{Envelope, Sample as SampleKind};
 
 // What a block is.
@@ -23,6 +24,16 @@ pub enum Kind {
     Pattern,
     Sample,
     Envelope,
+}
+
+// What the blocks of a chunk are: what a query asks for.
+pub enum Thing {
+    Song,
+    Instrument,
+    Pattern,
+    Sample,
+    VolumeEnvelope,
+    PanningEnvelope,
 }
 
 // How many bytes a frame has, by a sample's flags; 0 for flags that no sample has.
@@ -213,4 +224,47 @@ pub fn check(m: &[u8], l: Layout) -> Verdict
         return Verdict::Refused(r);
     }
     check_envelopes(m, p.venv, p.penv)
+}
+
+// The kind of the block of a thing.
+pub fn kind_of(thing: Thing) -> Kind
+    ensures { λ r. ⌜ r ≡ kindOf thing ⌝ }
+{
+    match thing {
+        Thing::Song => Kind::Song,
+        Thing::Instrument => Kind::Instrument,
+        Thing::Pattern => Kind::Pattern,
+        Thing::Sample => Kind::Sample,
+        Thing::VolumeEnvelope => Kind::Envelope,
+        Thing::PanningEnvelope => Kind::Envelope,
+    }
+}
+
+// The chunk that holds such blocks.
+pub fn chunk_of(l: Layout, thing: Thing) -> Place
+    ensures { λ r. ⌜ r ≡ chunkOf l thing ⌝ }
+{
+    let p = l.places;
+    match thing {
+        Thing::Song => p.song,
+        Thing::Instrument => p.inst,
+        Thing::Pattern => p.patt,
+        Thing::Sample => p.smpl,
+        Thing::VolumeEnvelope => p.venv,
+        Thing::PanningEnvelope => p.penv,
+    }
+}
+
+// How many of these things the module has.
+pub fn count_of(m: &[u8], l: Layout, thing: Thing) -> u16
+    ensures { λ r. ⌜ r ≡ countOf (now (m .entry)) l thing ⌝ }
+{
+    match thing {
+        Thing::Song => l.songs,
+        Thing::Instrument => l.instruments,
+        Thing::Pattern => l.patterns,
+        Thing::Sample => l.samples,
+        Thing::VolumeEnvelope => envelope_count(m, l.places.venv),
+        Thing::PanningEnvelope => envelope_count(m, l.places.penv),
+    }
 }

@@ -1,10 +1,11 @@
 -- FORMAT.md, "Cells and patterns" (document 01, "Packed rows"). A pattern is a list of rows, a row a list of cells with the
 -- tracks ascending, a cell the list of its six fields: note, instrument, command 1, parameter 1, command 2, parameter 2.
 use Prim.Native.Nat.{ℕ, zero, suc, _*_, _%_}
-use mathlib.Core.List.{List, [], _∷_, _++_, map}
+use mathlib.Core.List.{List, [], _∷_, map}
 use mathlib.Core.Bool.{Bool, true, false, cond}
 use lib.ListN.{length, take, drop, replicate}
 use lib.Dec.{eqb, leb, ltb}
+use Rattle.vocabulary.specs.Lists.{joined}
 
 -- C2.
 abbrev pub Cell : Type 0
@@ -31,11 +32,6 @@ sizesFit rows tracks = both (leb rows 65535) (both (leb 4 tracks) (both (leb tra
 -- C3: how many bytes the cells of a pattern are.
 abbrev pub cellBytes : ℕ → ℕ → ℕ
 cellBytes rows tracks = rows * (tracks * 6)
-
--- The lists of a list, one after the other.
-abbrev pub joined : {A : Type 0} → List (List A) → List A
-joined [] = []
-joined (x ∷ xs) = x ++ joined xs
 
 -- So many blocks of one size, from the front.
 abbrev pub blocksOf : ℕ → ℕ → List ℕ → List (List ℕ)

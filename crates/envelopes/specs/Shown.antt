@@ -12,12 +12,13 @@ use Rattle.numbers.specs.Numbers.{byteAt, number16, signed16, eachFrom}
 use Rattle.layout.specs.declared.Outline.{Outline}
 use Rattle.layout.specs.declared.Outline.the-variants.{Found as Opened, Refused as OpeningRefused}
 use Rattle.blocks.specs.Sizes.{envelopeCount}
+use Rattle.blocks.specs.Things.{chunkOf}
+use Rattle.blocks.specs.declared.Thing.{Thing}
+use Rattle.blocks.specs.declared.Thing.the-variants.{VolumeEnvelope, PanningEnvelope}
 use Rattle.module.specs.Verdicts.{opened}
-use Rattle.queries.specs.Finding.{chunkOf, found}
+use Rattle.queries.specs.Finding.{found}
 use Rattle.queries.specs.declared.Found.{Found}
 use Rattle.queries.specs.declared.Found.the-variants.{At, Refused}
-use Rattle.queries.specs.declared.Thing.{Thing}
-use Rattle.queries.specs.declared.Thing.the-variants.{VolumeEnvelope, PanningEnvelope}
 use Rattle.envelopes.specs.declared.EnvelopeKind.{EnvelopeKind}
 use Rattle.envelopes.specs.declared.EnvelopeKind.the-variants.{Volume, Panning}
 use Rattle.envelopes.specs.declared.CountAnswer.{CountAnswer}

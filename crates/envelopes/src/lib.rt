@@ -1,4 +1,5 @@
 // Envelopes: how many there are, and one of them. Each query gives the module's own refusal, then 18.
+use blocks::Thing;
 use blocks::envelope_count;
 use layout::Layout;
 use layout::Outline;
@@ -7,7 +8,6 @@ use numbers::byte;
 use numbers::number16;
 use numbers::signed;
 use queries::Found;
-use queries::Thing;
 use queries::find;
 use refusal::Outcome;
 use refusal::Refusal;
@@ -19,7 +19,7 @@ ghost use Prim.Native.Nat.{_<_};
 ghost use lib.Dec.{leb};
 ghost use lib.ListN.{length};
 ghost use Rattle.numbers.specs.Numbers.{eachFrom};
-ghost use Rattle.queries.specs.Finding.{chunkOf};
+ghost use Rattle.blocks.specs.Things.{chunkOf};
 ghost use Rattle.envelopes.specs.Shown.{thingOf, noCount, countAnswer, positionShown, valueOf, valueShown, noEnvelope, shownEnvelope, envelopeAnswer};
 
 // The two kinds of envelopes.

@@ -8,12 +8,13 @@ use mathlib.Core.Bool.{Bool, true, false}
 use native.Mathlib.Omega.{arith}
 use lib.ListN.{length, length-append}
 use lib.Dec.{eqb}
-use Rattle.cells.specs.Cells.{joined}
+use Rattle.vocabulary.specs.Lists.{joined, Every, none, also}
+use Rattle.vocabulary.proofs.EveryOne.{every-of}
+use Rattle.vocabulary.proofs.MappedLists.{map-split, map-same}
+use Rattle.vocabulary.proofs.Splits.{within-mapped, mapped-within, no-two-mapped}
 use Rattle.numbers.specs.Numbers.{bytes32}
-use Rattle.grammar.specs.Rules.{Every, none, also, NeedsInfo, VolumeFits, PanningValueFits}
-use Rattle.grammar.proofs.Holding.{false-never, every-of}
-use Rattle.grammar.proofs.MappedLists.{map-split, map-same}
-use Rattle.grammar.proofs.Splits.{within-mapped, mapped-within, no-two-mapped}
+use Rattle.acceptance.specs.Rules.{NeedsInfo, VolumeFits, PanningValueFits}
+use Rattle.acceptance.proofs.Holding.{false-never}
 use Rattle.format.specs.Description.{Info, Song, Instrument, Pattern, Sample, Chunk, INFO, SONG, INST, PATT, SMPL, Description}
 use Rattle.format.specs.Encoding.{identifier, contents, chunkBytes, headerBytes, encoded}
 use Rattle.format.specs.WellFormed.{Fits32, InfoFits, SongFits, InstrumentFits, PatternFits, SampleFits, EnvelopesFit, In, Once, InfoFirst, WellFormed}

@@ -7,9 +7,11 @@ use lib.ListN.{length, take}
 use lib.Seq.{take-at}
 use lib.Dec.{eqb}
 use borrow.Author.Tests.{ne-eqb}
+use Rattle.vocabulary.specs.Lists.{Every}
+use Rattle.vocabulary.specs.Letters.{nameLetters, infoLetters, songLetters, instLetters, pattLetters, smplLetters, venvLetters, penvLetters}
 use Rattle.numbers.specs.Numbers.{byteAt, number16, number32, bytes32}
-use Rattle.grammar.specs.Rules.{Every, ChunkBytes, Covered, nameLetters, infoLetters, songLetters, instLetters, pattLetters, smplLetters, venvLetters, penvLetters}
-use Rattle.grammar.proofs.Identifiers.{identifierOf, chunk-named}
+use Rattle.acceptance.specs.Rules.{ChunkBytes, Covered}
+use Rattle.acceptance.proofs.Identifiers.{identifierOf, chunk-named}
 use Rattle.format.specs.Description.{Info, Song, Instrument, Pattern, Sample, Envelope, Chunk, NAME, INFO, SONG, INST, PATT, SMPL, VENV, PENV, Other}
 use Rattle.format.specs.Encoding.{songBytes, instrumentBytes, patternBytes, sampleBytes, chunkBytes}
 use Rattle.format.specs.WellFormed.{PatternFits, OtherFits}

@@ -4,8 +4,9 @@ use Prim.Native.Nat.{ℕ}
 use mathlib.Core.Path.{_≡_, refl, sym, subst, _∙_}
 use mathlib.Core.List.{List, [], _∷_, _++_, map}
 use native.Mathlib.Omega.{arith}
-use Rattle.grammar.specs.Rules.{Every, also, Covered}
-use Rattle.grammar.proofs.Splits.{Within, within-front, within-behind, within-every, every-within, NoTwo, only-one}
+use Rattle.vocabulary.specs.Lists.{Every, also}
+use Rattle.vocabulary.proofs.Splits.{Within, within-front, within-behind, within-every, every-within, NoTwo, only-one}
+use Rattle.acceptance.specs.Rules.{Covered}
 use Rattle.format.specs.Description.{Chunk}
 use Rattle.format.specs.Encoding.{identifier}
 use Rattle.format.specs.WellFormed.{In, Once}

@@ -10,14 +10,14 @@ use native.Mathlib.Nat.{mul-le-mul-right}
 use lib.ListN.{length, getD, take, drop, length-map, take-append-drop, drop-of-length-le}
 use lib.Seq.{length-take-le, drop-drop}
 use lib.Dec.{eqb}
-use Rattle.cells.specs.Cells.{joined}
-use Rattle.numbers.specs.Numbers.{byteAt, number16, number32, eachFrom, bytesFrom, bytes16, bytes32}
+use Rattle.vocabulary.specs.Lists.{joined, Every, none, also}
+use Rattle.vocabulary.proofs.EveryOne.{every-of, every-first, every-rest}
+use Rattle.numbers.specs.Numbers.{byteAt, Bytes, number16, number32, eachFrom, bytesFrom, bytes16, bytes32}
 use Rattle.numbers.proofs.Parts.{bytes-part}
 use Rattle.numbers.proofs.Each.{each-length}
 use Rattle.numbers.proofs.Stored.{number16-stored, number32-stored}
-use Rattle.grammar.specs.Rules.{Bytes, Every, none, also, InfoRules, SongRules, InstrumentRules, PatternRules, SampleRules, EnvelopeRules}
-use Rattle.grammar.proofs.Holding.{every-of, every-first, every-rest}
-use Rattle.grammar.proofs.AllBytes.{bytes-rest, bytes-take, bytes-front, bytes-behind}
+use Rattle.numbers.proofs.AllBytes.{bytes-rest, bytes-take, bytes-front, bytes-behind}
+use Rattle.acceptance.specs.Rules.{InfoRules, SongRules, InstrumentRules, PatternRules, SampleRules, EnvelopeRules}
 use Rattle.repacking.proofs.PackedBytes.{stream-bytes}
 use Rattle.format.specs.Description.{Info, Song, Instrument, Pattern, Width, eight, sixteen, thirtyTwo, Sample, Point, Envelope}
 use Rattle.format.specs.Encoding.{infoBytes, songBytes, instrumentBytes, patternBytes, flagsOf, frameBytes, sampleBytes, pointBytes, envelopeBytes}

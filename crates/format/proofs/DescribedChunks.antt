@@ -6,13 +6,14 @@ use mathlib.Core.List.{List, _++_, map}
 use native.Mathlib.Omega.{arith}
 use lib.ListN.{length, take, drop, length-drop, length-map, take-append-drop}
 use lib.Seq.{length-take-le, drop-at}
-use Rattle.cells.specs.Cells.{joined, blocksOf}
+use Rattle.vocabulary.specs.Lists.{joined, Every, none, also}
+use Rattle.vocabulary.proofs.EveryOne.{every-of, every-both}
+use Rattle.vocabulary.proofs.MappedLists.{every-map}
+use Rattle.cells.specs.Cells.{blocksOf}
 use Rattle.packed_rows.proofs.Shapes.{none as no-block, one as one-block, Blocks, blocks-joined}
-use Rattle.numbers.specs.Numbers.{number16, number32, bytes16, bytes32}
-use Rattle.grammar.specs.Rules.{Bytes, Every, none, also, ChunkBytes, Filled, EnvelopeRules, EnvelopesRules}
-use Rattle.grammar.proofs.Holding.{every-of, every-both}
-use Rattle.grammar.proofs.AllBytes.{bytes-drop, bytes-joined}
-use Rattle.grammar.proofs.MappedLists.{every-map}
+use Rattle.numbers.specs.Numbers.{Bytes, number16, number32, bytes16, bytes32}
+use Rattle.numbers.proofs.AllBytes.{bytes-drop, bytes-joined}
+use Rattle.acceptance.specs.Rules.{ChunkBytes, Filled, EnvelopeRules, EnvelopesRules}
 use Rattle.format.specs.Description.{sixteen, thirtyTwo, Envelope}
 use Rattle.format.specs.Encoding.{envelopeBytes, envelopesBytes}
 use Rattle.format.specs.WellFormed.{EnvelopeFits, EnvelopesFit, Fits32}

@@ -8,19 +8,22 @@ use native.Mathlib.Omega.{arith}
 use lib.ListN.{length, take, drop, length-drop, length-map, take-append-drop, drop-of-length-le}
 use lib.Seq.{length-take-le}
 use lib.Dec.{eqb}
+use Rattle.vocabulary.specs.Lists.{joined, Every}
+use Rattle.vocabulary.specs.Letters.{infoLetters}
+use Rattle.vocabulary.proofs.EveryOne.{every-append, every-of, every-both}
+use Rattle.vocabulary.proofs.MappedLists.{map-append, every-map}
+use Rattle.vocabulary.proofs.Splits.{Within, within-every, every-within, within-mapped, only-one, no-two-mapped}
 use Rattle.refusal.specs.declared.Verdict.the-variants.{Accepted}
-use Rattle.cells.specs.Cells.{joined}
-use Rattle.numbers.specs.Numbers.{byteAt, number16, number32, bytes16}
+use Rattle.numbers.specs.Numbers.{byteAt, Bytes, number16, number32, bytes16}
 use Rattle.numbers.proofs.Parts.{bytes-part}
+use Rattle.numbers.proofs.AllBytes.{bytes-drop, bytes-front, bytes-behind, bytes-joined}
 use Rattle.layout.specs.Chunks.{covered}
 use Rattle.module.specs.Verdicts.{moduleVerdict}
-use Rattle.grammar.specs.Rules.{Bytes, Every, ChunkBytes, Among, Covered, Filled, ChunkRules, Content, InstrumentRules, VolumeFits, PanningValueFits, Rules, infoLetters}
-use Rattle.grammar.proofs.Holding.{false-never, every-append, every-of, every-both}
-use Rattle.grammar.proofs.Identifiers.{identifierOf, chunk-named, covered-holds, covered-letters}
-use Rattle.grammar.proofs.Acceptance.{accepted-exactly}
-use Rattle.grammar.proofs.AllBytes.{bytes-drop, bytes-front, bytes-behind, bytes-joined}
-use Rattle.grammar.proofs.MappedLists.{map-append, every-map}
-use Rattle.grammar.proofs.Splits.{Within, among-within, within-every, every-within, within-mapped, only-one, no-two-mapped}
+use Rattle.acceptance.specs.Rules.{ChunkBytes, Among, Covered, Filled, ChunkRules, Content, InstrumentRules, VolumeFits, PanningValueFits, Rules}
+use Rattle.acceptance.proofs.Holding.{false-never}
+use Rattle.acceptance.proofs.Identifiers.{identifierOf, chunk-named, covered-holds, covered-letters}
+use Rattle.acceptance.proofs.Acceptance.{accepted-exactly}
+use Rattle.acceptance.proofs.Recorded.{among-within}
 use Rattle.format.specs.Description.{Info, Song, Instrument, Pattern, eight, sixteen, Sample, Chunk, NAME, INFO, SONG, INST, PATT, SMPL, VENV, PENV, Other, Description}
 use Rattle.format.specs.Encoding.{songBytes, instrumentBytes, patternBytes, sampleBytes, identifier, contents, chunkBytes, headerBytes, encoded}
 use Rattle.format.specs.WellFormed.{ManyBytes, EnvelopesFit, OtherFits, In, Once, InfoFirst, WellFormed}

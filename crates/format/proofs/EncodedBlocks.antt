@@ -8,18 +8,19 @@ use mathlib.Core.Bool.{true}
 use native.Mathlib.Omega.{arith}
 use lib.ListN.{length, getD, length-append, length-map}
 use lib.Seq.{take-at}
-use Rattle.cells.specs.Cells.{joined}
+use Rattle.vocabulary.specs.Lists.{joined, Every, none, also}
+use Rattle.vocabulary.specs.Letters.{infoLetters}
+use Rattle.vocabulary.proofs.EveryOne.{every-at, every-of}
+use Rattle.vocabulary.proofs.MappedLists.{every-map}
 use Rattle.packed_rows.specs.Entries.{Entry, soundEntry, streamOf}
 use Rattle.packed_rows.specs.Theorems.{every, allSound}
 use Rattle.packed_rows.proofs.Reading.{both-true}
 use Rattle.packed_rows.proofs.Shapes.{getD-mapped}
 use Rattle.packed_rows.proofs.Soundness.{sound-facts}
-use Rattle.numbers.specs.Numbers.{byteAt, number16, number32, bytes16, bytes32}
+use Rattle.numbers.specs.Numbers.{byteAt, Bytes, number16, number32, bytes16, bytes32}
 use Rattle.numbers.proofs.Stored.{bytes16-again, bytes32-again}
-use Rattle.grammar.specs.Rules.{Bytes, Every, none, also, Filled, InfoRules, SongRules, InstrumentRules, PatternRules, SampleRules, EnvelopeRules, EnvelopesRules, infoLetters}
-use Rattle.grammar.proofs.Holding.{every-at, every-of}
-use Rattle.grammar.proofs.AllBytes.{bytes-nil, bytes-cons, bytes-append, bytes-joined, bytes32-bytes}
-use Rattle.grammar.proofs.MappedLists.{every-map}
+use Rattle.numbers.proofs.AllBytes.{bytes-nil, bytes-cons, bytes-append, bytes-joined, bytes32-bytes}
+use Rattle.acceptance.specs.Rules.{Filled, InfoRules, SongRules, InstrumentRules, PatternRules, SampleRules, EnvelopeRules, EnvelopesRules}
 use Rattle.repacking.proofs.PackedBytes.{EntriesBytes, stream-bytes}
 use Rattle.format.specs.Description.{Info, Song, Instrument, Pattern, Width, eight, sixteen, thirtyTwo, Sample, Point, Envelope, INFO}
 use Rattle.format.specs.Encoding.{infoBytes, songBytes, instrumentBytes, patternBytes, flagsOf, frameBytes, sampleBytes, pointBytes, envelopeBytes, envelopesBytes, chunkBytes}

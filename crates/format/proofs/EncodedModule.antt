@@ -8,19 +8,22 @@ use native.Mathlib.Omega.{arith}
 use lib.ListN.{length, take, length-append, length-map}
 use lib.Seq.{take-at}
 use lib.Dec.{leb}
+use Rattle.vocabulary.specs.Lists.{joined, Every, none, also}
+use Rattle.vocabulary.specs.Letters.{nameLetters, infoLetters, songLetters, instLetters, pattLetters, smplLetters, venvLetters, penvLetters}
+use Rattle.vocabulary.proofs.EveryOne.{every-at, every-of}
+use Rattle.vocabulary.proofs.MappedLists.{every-map, map-split}
+use Rattle.vocabulary.proofs.Splits.{within-mapped, mapped-within, no-two-mapped}
 use Rattle.refusal.specs.declared.Verdict.the-variants.{Accepted}
-use Rattle.cells.specs.Cells.{joined}
 use Rattle.packed_rows.specs.Theorems.{every}
 use Rattle.packed_rows.proofs.Reading.{both-true}
+use Rattle.numbers.proofs.AllBytes.{bytes-nil, bytes-cons, bytes-append, bytes-every, bytes-joined, bytes32-bytes}
 use Rattle.module.specs.Verdicts.{moduleVerdict}
-use Rattle.numbers.specs.Numbers.{byteAt, number32, bytes32}
-use Rattle.grammar.specs.Rules.{Bytes, Every, none, also, ChunkBytes, Covered, NeedsInfo, nameLetters, infoLetters, songLetters, instLetters, pattLetters, smplLetters, venvLetters, penvLetters, Among, AtMostOnce, BehindInfo, InfoRules, Filled, EnvelopesRules, VolumeFits, PanningValueFits, Content, ChunkRules, Rules}
-use Rattle.grammar.proofs.Locating.{byteAt-front}
-use Rattle.grammar.proofs.Holding.{leb-says, and-says, every-at, every-of}
-use Rattle.grammar.proofs.Acceptance.{accepted-exactly}
-use Rattle.grammar.proofs.AllBytes.{bytes-nil, bytes-cons, bytes-append, bytes-every, bytes-joined, bytes32-bytes, bytes32-number}
-use Rattle.grammar.proofs.MappedLists.{every-map, map-split}
-use Rattle.grammar.proofs.Splits.{among-within, within-among, within-mapped, mapped-within, no-two-mapped}
+use Rattle.numbers.specs.Numbers.{byteAt, Bytes, number32, bytes32}
+use Rattle.acceptance.specs.Rules.{ChunkBytes, Covered, NeedsInfo, Among, AtMostOnce, BehindInfo, InfoRules, Filled, EnvelopesRules, VolumeFits, PanningValueFits, Content, ChunkRules, Rules}
+use Rattle.acceptance.proofs.Locating.{byteAt-front, bytes32-number}
+use Rattle.acceptance.proofs.Holding.{leb-says, and-says}
+use Rattle.acceptance.proofs.Acceptance.{accepted-exactly}
+use Rattle.acceptance.proofs.Recorded.{among-within, within-among}
 use Rattle.format.specs.Description.{Info, Song, Instrument, Pattern, Sample, Envelope, Chunk, NAME, INFO, SONG, INST, PATT, SMPL, VENV, PENV, Other, Description}
 use Rattle.format.specs.Encoding.{songBytes, instrumentBytes, patternBytes, sampleBytes, envelopesBytes, identifier, contents, chunkBytes, headerBytes, encoded}
 use Rattle.format.specs.WellFormed.{In, Fits32, WellFormed}

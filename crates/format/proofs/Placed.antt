@@ -6,25 +6,27 @@ use mathlib.Core.List.{List, [], _++_, map}
 use mathlib.Core.Bool.{Bool, true, false, cond, _&&_}
 use lib.ListN.{length, getD, length-map}
 use lib.Dec.{leb, ltb}
+use Rattle.vocabulary.specs.Lists.{joined, Every}
+use Rattle.vocabulary.specs.Letters.{infoLetters}
+use Rattle.vocabulary.proofs.EveryOne.{every-at, every-of}
+use Rattle.vocabulary.proofs.MappedLists.{every-map}
 use Rattle.packed_rows.proofs.Shapes.{getD-mapped}
-use Rattle.cells.specs.Cells.{joined}
 use Rattle.numbers.specs.Numbers.{number16, bytes32}
 use Rattle.layout.specs.declared.Layout.{Layout}
 use Rattle.layout.specs.declared.Outline.the-variants.{Found as Opened}
 use Rattle.blocks.specs.Sizes.{firstBlock, blockAt}
+use Rattle.blocks.specs.Things.{kindOf, chunkOf, countOf}
+use Rattle.blocks.specs.declared.Thing.{Thing}
 use Rattle.module.specs.Verdicts.{opened}
-use Rattle.queries.specs.Finding.{kindOf, chunkOf, countOf, firstOf, blockOf, foundIf, found}
+use Rattle.queries.specs.Finding.{firstOf, blockOf, foundIf, found}
 use Rattle.queries.specs.declared.Found.{Found}
 use Rattle.queries.specs.declared.Found.the-variants.{At, Refused}
-use Rattle.queries.specs.declared.Thing.{Thing}
-use Rattle.grammar.specs.Rules.{Every, infoLetters}
-use Rattle.grammar.proofs.Standing.{Stands, LayoutOf}
-use Rattle.grammar.proofs.Locating.{PartAt}
-use Rattle.grammar.proofs.Holding.{and-says, ltb-says, every-at, every-of}
-use Rattle.grammar.proofs.Cutting.{Sized, part-rest, block-there}
-use Rattle.grammar.proofs.ChunkHalf.{Mandatory, stands-part, chunks-outline}
-use Rattle.grammar.proofs.FoundBlocks.{accepted-opens, module-opens}
-use Rattle.grammar.proofs.MappedLists.{every-map}
+use Rattle.acceptance.proofs.Standing.{Stands, LayoutOf}
+use Rattle.acceptance.proofs.Locating.{PartAt}
+use Rattle.acceptance.proofs.Holding.{and-says, ltb-says}
+use Rattle.acceptance.proofs.Cutting.{Sized, part-rest, block-there}
+use Rattle.acceptance.proofs.ChunkHalf.{Mandatory, stands-part, chunks-outline}
+use Rattle.acceptance.proofs.OpenModules.{accepted-opens, module-opens}
 use Rattle.format.specs.Description.{Info, INFO, SONG, INST, PATT, SMPL, Description}
 use Rattle.format.specs.Encoding.{infoBytes, chunkBytes, headerBytes, encoded}
 use Rattle.format.specs.WellFormed.{In, WellFormed}

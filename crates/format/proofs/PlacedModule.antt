@@ -6,19 +6,20 @@ use mathlib.Core.List.{List, [], _++_, map}
 use mathlib.Core.Bool.{Bool, true, false}
 use native.Mathlib.Omega.{arith}
 use lib.ListN.{length}
-use Rattle.cells.specs.Cells.{joined}
+use Rattle.vocabulary.specs.Lists.{joined, none}
+use Rattle.vocabulary.specs.Letters.{songLetters, instLetters, pattLetters, smplLetters, venvLetters, penvLetters}
 use Rattle.numbers.specs.Numbers.{bytes16, bytes32}
 use Rattle.layout.specs.declared.Place.{Place}
 use Rattle.layout.specs.declared.Layout.{Layout}
-use Rattle.queries.specs.Finding.{countOf}
-use Rattle.queries.specs.declared.Thing.{Thing}
-use Rattle.queries.specs.declared.Thing.the-variants.{Song as SongThing, Instrument as InstrumentThing, Pattern as PatternThing, Sample as SampleThing, VolumeEnvelope, PanningEnvelope}
+use Rattle.blocks.specs.Things.{countOf}
+use Rattle.blocks.specs.declared.Thing.{Thing}
+use Rattle.blocks.specs.declared.Thing.the-variants.{Song as SongThing, Instrument as InstrumentThing, Pattern as PatternThing, Sample as SampleThing, VolumeEnvelope, PanningEnvelope}
 use Rattle.envelopes.specs.Shown.{thingOf}
 use Rattle.envelopes.specs.declared.EnvelopeKind.{EnvelopeKind}
 use Rattle.envelopes.specs.declared.EnvelopeKind.the-variants.{Volume, Panning}
-use Rattle.grammar.specs.Rules.{none, Among, Covered, songLetters, instLetters, pattLetters, smplLetters, venvLetters, penvLetters, VolumeFits, PanningValueFits}
-use Rattle.grammar.proofs.Standing.{Found, LayoutOf}
-use Rattle.grammar.proofs.ContentHalf.{count-same}
+use Rattle.acceptance.specs.Rules.{Among, Covered, VolumeFits, PanningValueFits}
+use Rattle.acceptance.proofs.Standing.{Found, LayoutOf}
+use Rattle.acceptance.proofs.ContentHalf.{count-same}
 use Rattle.format.specs.Description.{Info, Song, Instrument, Pattern, Sample, Envelope, NAME, INFO, SONG, INST, PATT, SMPL, VENV, PENV, Description}
 use Rattle.format.specs.Encoding.{songBytes, instrumentBytes, patternBytes, sampleBytes, envelopeBytes, envelopesBytes, chunkBytes, headerBytes, encoded}
 use Rattle.format.specs.WellFormed.{In, SongFits, InstrumentFits, PatternFits, SampleFits, EnvelopeFits, WellFormed}

@@ -5,20 +5,21 @@ use mathlib.Core.List.{List, _++_, map, map-map}
 use mathlib.Core.Bool.{Bool, cond}
 use native.Mathlib.Omega.{arith}
 use lib.ListN.{length, length-map}
-use Rattle.cells.specs.Cells.{joined}
+use Rattle.vocabulary.specs.Lists.{joined, Every}
+use Rattle.vocabulary.specs.Letters.{pattLetters}
+use Rattle.vocabulary.proofs.EveryOne.{every-of}
+use Rattle.vocabulary.proofs.MappedLists.{every-map, map-same}
 use Rattle.numbers.specs.Numbers.{byteAt, number16, number32, bytes32}
 use Rattle.layout.specs.declared.Layout.{Layout}
 use Rattle.blocks.specs.Sizes.{sizeOf, placesFrom}
 use Rattle.blocks.specs.declared.Kind.the-variants.{Pattern as PatternKind}
-use Rattle.grammar.specs.Rules.{Every, ChunkBytes, Covered, pattLetters}
-use Rattle.grammar.proofs.Standing.{LayoutOf}
-use Rattle.grammar.proofs.Locating.{PartAt}
-use Rattle.grammar.proofs.Holding.{every-of}
-use Rattle.grammar.proofs.MappedLists.{every-map, map-same}
-use Rattle.grammar.proofs.Cutting.{Sized, part-rest}
-use Rattle.grammar.proofs.ChunkHalf.{stands-part}
-use Rattle.grammar.proofs.ChangedData.{withData}
-use Rattle.grammar.proofs.BlockStreams.{pattern-sized}
+use Rattle.acceptance.specs.Rules.{ChunkBytes, Covered}
+use Rattle.acceptance.proofs.Standing.{LayoutOf}
+use Rattle.acceptance.proofs.Locating.{PartAt}
+use Rattle.acceptance.proofs.Cutting.{Sized, part-rest}
+use Rattle.acceptance.proofs.ChunkHalf.{stands-part}
+use Rattle.acceptance.proofs.ChangedData.{withData}
+use Rattle.acceptance.proofs.BlockStreams.{pattern-sized}
 use Rattle.repack.specs.Repacked.{repackedBlock, repackedPatterns, repacked}
 use Rattle.repack.proofs.ChunksAnew.{chunkAnew, module-anew}
 use Rattle.repacking.proofs.BlockAnew.{blockAnew, blocks-anew}

@@ -5,6 +5,8 @@ use mathlib.Core.List.{List, [], _∷_, _++_, map}
 use mathlib.Core.Bool.{true}
 use native.Mathlib.Omega.{arith}
 use lib.ListN.{length, length-map, length-replicate}
+use Rattle.vocabulary.specs.Lists.{Every}
+use Rattle.vocabulary.proofs.EveryOne.{every-of}
 use Rattle.packed_rows.specs.Entries.{Entry, rowFrom, rowsFrom, streamOf}
 use Rattle.packed_rows.specs.Stream.{whole, readStream, entriesRead, AcceptedAs}
 use Rattle.packed_rows.specs.Packer.{packedEntries, packedStream, packedLength}
@@ -17,11 +19,9 @@ use Rattle.packed_rows.proofs.StreamLength.{packed-length}
 use Rattle.packed_rows.proofs.Accepted.{accepted-rows}
 use Rattle.packed_rows.proofs.Theorems.{none-shorter, reads-exactly}
 use Rattle.numbers.specs.Numbers.{number16, partOf, bytes16, bytes32}
+use Rattle.numbers.proofs.AllBytes.{bytes-rest, bytes-front, bytes-behind, bytes-replicate}
 use Rattle.module.specs.Streams.{packedBytes}
-use Rattle.grammar.specs.Rules.{Every}
-use Rattle.grammar.proofs.Holding.{every-of}
 use Rattle.repack.specs.Repacked.{packed}
-use Rattle.grammar.proofs.AllBytes.{bytes-rest, bytes-front, bytes-behind, bytes-replicate}
 use Rattle.repacking.proofs.PackedBytes.{EntriesBytes, stream-bytes, repacked-bytes}
 use Rattle.repacking.proofs.BlockAnew.{blockAnew}
 use Rattle.format.specs.Description.{Pattern}

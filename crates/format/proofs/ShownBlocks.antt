@@ -7,7 +7,7 @@ use native.Mathlib.Nat.{add-assoc, add-zero}
 use lib.ListN.{length, getD}
 use Rattle.numbers.specs.Numbers.{partOf, eachFrom, bytesFrom}
 use Rattle.numbers.proofs.Parts.{bytes-part}
-use Rattle.grammar.proofs.Locating.{PartAt, part-inside, part-is}
+use Rattle.acceptance.proofs.Locating.{PartAt, part-inside, part-is}
 
 -- The bytes of a part, shown one by one.
 pub bytes-at : {m part : List ℕ} {at : ℕ} → PartAt m at part → (n : ℕ) → length part ≡ n → bytesFrom m at n ≡ part

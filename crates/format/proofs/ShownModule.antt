@@ -7,6 +7,7 @@ use mathlib.Core.Bool.{Bool, true, false, cond, _&&_}
 use lib.ListN.{length, replicate}
 use lib.Dec.{leb, ltb}
 use Rattle.refusal.specs.Numbers.{noRefusal}
+use Rattle.vocabulary.specs.Letters.{nameLetters}
 use Rattle.packed_rows.specs.Answers.{cellOf, unpackAnswer as streamAnswer, unpackOutput as streamOutput}
 use Rattle.packed_rows.specs.declared.CellAnswer.the-variants.{Refused}
 use Rattle.numbers.specs.Numbers.{byteAt, number16, partOf, bytesFrom, bytes32}
@@ -23,12 +24,11 @@ use Rattle.envelopes.specs.declared.EnvelopeKind.{EnvelopeKind}
 use Rattle.envelopes.specs.declared.EnvelopeKind.the-variants.{Volume, Panning}
 use Rattle.patterns.specs.Shown.{lengthOf, rowsIf, cellIf, cellAnswer, unpackIf, unpackAnswer, unpackOutputIf, unpackOutput}
 use Rattle.samples.specs.Shown.{sampleIf, framesIf, frameIf, allFramesIf, allFramesOutputIf}
-use Rattle.grammar.specs.Rules.{nameLetters}
-use Rattle.grammar.proofs.Standing.{LayoutOf}
-use Rattle.grammar.proofs.Locating.{PartAt}
-use Rattle.grammar.proofs.Cutting.{part-rest}
-use Rattle.grammar.proofs.ChunkHalf.{stands-part}
-use Rattle.grammar.proofs.BlockStreams.{TracksFit}
+use Rattle.acceptance.proofs.Standing.{LayoutOf}
+use Rattle.acceptance.proofs.Locating.{PartAt}
+use Rattle.acceptance.proofs.Cutting.{part-rest}
+use Rattle.acceptance.proofs.ChunkHalf.{stands-part}
+use Rattle.acceptance.proofs.BlockStreams.{TracksFit}
 use Rattle.format.specs.Description.{Info, Pattern, Sample, Envelope, NAME, INFO, PATT, SMPL, Description}
 use Rattle.format.specs.Encoding.{envelopeBytes, chunkBytes, headerBytes, encoded}
 use Rattle.format.specs.WellFormed.{In, EnvelopeFits, WellFormed, noSample as emptySample}

@@ -26,9 +26,9 @@ use Rattle.blocks.specs.declared.Kind.the-variants.{Pattern as PatternKind}
 use Rattle.module.specs.Streams.{packedBytes}
 use Rattle.refusal.specs.Lengths.{refusedLength, writtenLength, lengthIf, outputIf}
 use Rattle.patterns.specs.Shown.{lengthOf}
-use Rattle.grammar.proofs.Locating.{PartAt, number16-start}
-use Rattle.grammar.proofs.Cutting.{Sized}
-use Rattle.grammar.proofs.BlockStreams.{TracksFit, stream-same}
+use Rattle.acceptance.proofs.Locating.{PartAt, number16-start}
+use Rattle.acceptance.proofs.Cutting.{Sized}
+use Rattle.acceptance.proofs.BlockStreams.{TracksFit, stream-same}
 use Rattle.format.specs.Description.{Pattern}
 use Rattle.format.specs.Encoding.{patternBytes}
 use Rattle.format.specs.WellFormed.{PatternFits}

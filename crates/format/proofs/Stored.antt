@@ -6,15 +6,14 @@ use mathlib.Core.List.{List, [], _∷_, _++_, map, append-nil}
 use native.Mathlib.Omega.{arith}
 use native.Mathlib.Nat.{add-zero, mod-lt, div-lt-iff-lt-mul, suc-mul}
 use lib.ListN.{length, getD, length-append}
-use Rattle.cells.specs.Cells.{joined}
-use Rattle.numbers.specs.Numbers.{number16, number32, bytes16}
+use Rattle.vocabulary.specs.Lists.{joined}
+use Rattle.numbers.specs.Numbers.{Bytes, number16, number32, bytes16}
 use Rattle.numbers.proofs.Stored.{bytes16-again}
-use Rattle.grammar.specs.Rules.{Bytes}
-use Rattle.grammar.proofs.Locating.{PartAt, number16-behind, number32-behind, number16-part}
-use Rattle.grammar.proofs.Cutting.{part-first, part-rest}
-use Rattle.grammar.proofs.AllBytes.{bytes-nil, bytes-cons}
+use Rattle.numbers.proofs.AllBytes.{bytes-nil, bytes-cons}
+use Rattle.acceptance.proofs.Locating.{PartAt, number16-behind, number32-behind, number16-part}
+use Rattle.acceptance.proofs.Cutting.{part-first, part-rest}
 
--- A number as two bytes; as four bytes, grammar/proofs/AllBytes.antt has it.
+-- A number as two bytes. As four bytes: numbers/proofs/AllBytes.antt and acceptance/proofs/Locating.antt.
 pub bytes16-bytes : (n : ℕ) → n < 65536 → Bytes (bytes16 n)
 bytes16-bytes n h =
     bytes-cons _ _ (div-lt-iff-lt-mul {k = 256} {x = n} {y = 256} (omega arith) .1 h) (bytes-cons _ _ (mod-lt n (omega arith)) bytes-nil)

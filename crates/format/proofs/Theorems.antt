@@ -13,8 +13,8 @@ use mathlib.Core.Path.{_≡_, ap, sym, _∙_}
 use mathlib.Core.Logic.{_↔_}
 use mathlib.Core.List.{List}
 use Rattle.refusal.specs.declared.Verdict.the-variants.{Accepted}
+use Rattle.numbers.specs.Numbers.{Bytes}
 use Rattle.module.specs.Verdicts.{moduleVerdict}
-use Rattle.grammar.specs.Rules.{Bytes}
 use Rattle.repack.specs.Repacked.{repacked}
 use Rattle.format.specs.Description.{Description}
 use Rattle.format.specs.Encoding.{encoded}

@@ -5,12 +5,13 @@ use mathlib.Core.Path.{_≡_, refl, sym, ap, subst, _∙_}
 use mathlib.Core.List.{List, [], _∷_, map}
 use native.Mathlib.Omega.{arith}
 use lib.ListN.{length, getD, length-append}
-use Rattle.cells.specs.Cells.{joined}
+use Rattle.vocabulary.specs.Lists.{joined, Every, also}
+use Rattle.vocabulary.specs.Letters.{infoLetters}
+use Rattle.vocabulary.proofs.EveryOne.{every-of}
+use Rattle.vocabulary.proofs.MappedLists.{every-map}
 use Rattle.numbers.specs.Numbers.{number32}
-use Rattle.grammar.specs.Rules.{Every, also, ChunkBytes, Covered, infoLetters}
-use Rattle.grammar.proofs.Locating.{number32-front}
-use Rattle.grammar.proofs.Holding.{every-of}
-use Rattle.grammar.proofs.MappedLists.{every-map}
+use Rattle.acceptance.specs.Rules.{ChunkBytes, Covered}
+use Rattle.acceptance.proofs.Locating.{number32-front}
 use Rattle.format.specs.Description.{Info, Chunk, NAME, INFO, SONG, INST, PATT, SMPL, VENV, PENV, Other, Description}
 use Rattle.format.specs.Encoding.{infoBytes, chunkBytes, headerBytes, encoded}
 use Rattle.format.specs.WellFormed.{PatternFits, In, WellFormed}

@@ -9,9 +9,10 @@ use lib.ListN.{length, getD, replicate}
 use lib.Dec.{leb, ltb}
 use lib.IntN.{ℤ, pos, _*ℤ_}
 use Rattle.refusal.specs.Numbers.{refusal, noRefusal, refusedOutcome}
+use Rattle.vocabulary.specs.Lists.{joined}
 use Rattle.refusal.specs.declared.Cause.the-variants.{NotThere}
 use Rattle.refusal.specs.declared.Refusal.{Refusal}
-use Rattle.cells.specs.Cells.{joined, cellBytes, bytesOf, emptyCell}
+use Rattle.cells.specs.Cells.{cellBytes, bytesOf, emptyCell}
 use Rattle.cells.specs.Shown.{shownCell}
 use Rattle.packed_rows.specs.Entries.{rowsFrom}
 use Rattle.packed_rows.specs.Answers.{cellThere}

@@ -7,10 +7,10 @@ use lib.IntN.{pos}
 use Rattle.refusal.specs.Numbers.{noRefusal, refusedOutcome}
 use Rattle.refusal.specs.declared.Refusal.{Refusal}
 use Rattle.numbers.specs.Numbers.{number16, number32, signed16, bytesFrom}
+use Rattle.blocks.specs.declared.Thing.the-variants.{Instrument}
 use Rattle.queries.specs.Finding.{found}
 use Rattle.queries.specs.declared.Found.{Found}
 use Rattle.queries.specs.declared.Found.the-variants.{At, Refused}
-use Rattle.queries.specs.declared.Thing.the-variants.{Instrument}
 use Rattle.instruments.specs.declared.InstrumentAnswer.{InstrumentAnswer}
 
 abbrev pub noInstrument : Refusal → InstrumentAnswer

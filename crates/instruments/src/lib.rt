@@ -1,10 +1,10 @@
 // Instruments, all fields as stored. The query gives the module's own refusal, then 18.
+use blocks::Thing;
 use numbers::copy;
 use numbers::number16;
 use numbers::number32;
 use numbers::signed;
 use queries::Found;
-use queries::Thing;
 use queries::find;
 use refusal::Outcome;
 use refusal::Refusal;

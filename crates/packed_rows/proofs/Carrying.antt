@@ -8,7 +8,8 @@ use borrow.Author.Tests.{lt-ltb}
 use native.Mathlib.Nat.{zero-add, zero-mul, suc-mul, add-comm, add-assoc}
 use lib.ListN.{length, getD, take, drop, set, length-append, length-drop}
 use lib.Seq.{drop-drop, take-at, drop-at, take-add, length-take-le}
-use Rattle.cells.specs.Cells.{Cell, blocksOf, rowOf, joined, emptyCell}
+use Rattle.vocabulary.specs.Lists.{joined}
+use Rattle.cells.specs.Cells.{Cell, blocksOf, rowOf, emptyCell}
 use Rattle.packed_rows.specs.Entries.{Entry, entryBytes, fieldsNamed, named, count, store, carryOut, carryAll}
 use Rattle.packed_rows.specs.Stream.{Front, nothing, rowEnd, entry, fault, front, Reading, brokenAt, whole, newRow, addEntry, reading}
 use Rattle.packed_rows.specs.Steps.{RowAhead, storedAt, entryLength}

@@ -6,8 +6,9 @@ use native.Mathlib.Omega.{arith}
 use native.Mathlib.Nat.{zero-mul, suc-mul, add-comm}
 use lib.ListN.{length, take, drop, replicate, length-append, length-replicate, replicate-append-replicate}
 use lib.Seq.{take-at, drop-at}
+use Rattle.vocabulary.specs.Lists.{joined}
 use Rattle.refusal.specs.declared.Verdict.the-variants.{Accepted}
-use Rattle.cells.specs.Cells.{Row, rowOf, joined, bytesOf, emptyCell, emptyRow}
+use Rattle.cells.specs.Cells.{Row, rowOf, bytesOf, emptyCell, emptyRow}
 use Rattle.packed_rows.specs.Entries.{Entry, carryAll, rowFrom, rowsFrom}
 use Rattle.packed_rows.specs.Stream.{Reading, whole, reading, readStream, entriesRead, cellsRead}
 use Rattle.packed_rows.specs.Answers.{verdictOf}

@@ -9,7 +9,7 @@ use mathlib.Core.Bool.{true}
 use native.Mathlib.Omega.{arith}
 use native.Mathlib.Nat.{zero-add}
 use lib.ListN.{length, length-append}
-use Rattle.cells.specs.Cells.{joined}
+use Rattle.vocabulary.specs.Lists.{joined}
 use Rattle.packed_rows.specs.Entries.{Entry, entryBytes, soundEntry, rowStream, streamOf}
 use Rattle.packed_rows.specs.Stream.{Reading, brokenAt, whole, newRow, addEntry, reading, readStream}
 use Rattle.packed_rows.specs.Theorems.{every, allSound, StreamOf, StreamFault, faultyEntry, leftOver, rowEndsLack, BrokenAt}

@@ -6,10 +6,11 @@ use native.Mathlib.Omega.{arith}
 use native.Mathlib.Nat.{mul-le-mul}
 use lib.ListN.{length, take, drop}
 use lib.Seq.{take-all}
+use Rattle.vocabulary.specs.Lists.{joined}
 use Rattle.refusal.specs.declared.Refusal.{Refusal}
 use Rattle.refusal.specs.declared.Verdict.the-variants.{Accepted, Refused}
 use Rattle.packed_rows.specs.declared.Packing.the-variants.{Refused as PackingRefused}
-use Rattle.cells.specs.Cells.{Row, rowOf, rowsOf, joined}
+use Rattle.cells.specs.Cells.{Row, rowOf, rowsOf}
 use Rattle.packed_rows.specs.Entries.{Entry, rowFrom, rowsFrom, rowStream}
 use Rattle.packed_rows.specs.Stream.{Reading, reading, readStream, entriesRead, brokenAt, whole}
 use Rattle.packed_rows.specs.Packer.{packedEntries, packedStream, packedLength}

@@ -4,11 +4,13 @@ use Prim.Native.Nat.{ℕ, zero, suc, _+_, _-_, _*_, _≤_, _<_}
 use native.Mathlib.Nat.{suc-mul, zero-mul, suc-add, zero-add, add-comm}
 use native.Mathlib.Omega.{arith}
 use mathlib.Core.Path.{_≡_, refl, sym, ap, _∙_}
-use mathlib.Core.List.{List, [], _∷_, _++_, map, append-assoc}
+use mathlib.Core.List.{List, [], _∷_, _++_, map}
 use mathlib.Core.Bool.{Bool, true, false}
 use lib.ListN.{length, getD, drop, set, replicate, length-append, length-drop, take-append-drop, List·getD-append, List·getD-map}
 use lib.Seq.{length-take-le, take-at, drop-at, getD-append-add}
-use Rattle.cells.specs.Cells.{Cell, Row, emptyCell, emptyRow, cellBytes, joined, blocksOf, rowOf, rowsOf, bytesOf}
+use Rattle.vocabulary.specs.Lists.{joined}
+use Rattle.vocabulary.proofs.JoinedLists.{joined-append}
+use Rattle.cells.specs.Cells.{Cell, Row, emptyCell, emptyRow, cellBytes, blocksOf, rowOf, rowsOf, bytesOf}
 use Rattle.packed_rows.specs.Entries.{Entry, named, store, carryOut, carryAll, rowFrom, rowsFrom}
 
 -- A list of so many, of each of which it holds.
@@ -109,10 +111,6 @@ pub rows-bytes : {rows tracks : ℕ} {pattern : List Row} → Shaped rows tracks
 rows-bytes {rows} {tracks} s = rw (blocks-joined (tracks * 6) (joined-shaped s)) (map-back joined (rowOf tracks) row-joined s)
 
 -- The cells of a pattern in one list: its bytes, and its shape.
-joined-append : {A : Type 0} (xs ys : List (List A)) → joined (xs ++ ys) ≡ joined xs ++ joined ys
-joined-append [] ys = refl
-joined-append (x ∷ xs) ys = rw (joined-append xs ys) (sym (append-assoc x (joined xs) (joined ys)))
-
 pub bytes-joined : (rows : List Row) → bytesOf rows ≡ joined (joined rows)
 bytes-joined [] = refl
 bytes-joined (row ∷ rows) = rw (bytes-joined rows) (sym (joined-append row (joined rows)))

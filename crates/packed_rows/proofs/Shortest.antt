@@ -10,7 +10,8 @@ use mathlib.Core.List.{List, [], _∷_, _++_, map, append-nil, List·Permᴰ, Li
 use mathlib.Core.Bool.{Bool, true, false, cond}
 use borrow.Author.Tests.{ltb-false}
 use lib.ListN.{length, getD, set, length-append}
-use Rattle.cells.specs.Cells.{Cell, Row, emptyCell, emptyRow, cellBytes, joined, rowsOf, nonZeros, nonEmpty}
+use Rattle.vocabulary.specs.Lists.{joined}
+use Rattle.cells.specs.Cells.{Cell, Row, emptyCell, emptyRow, cellBytes, rowsOf, nonZeros, nonEmpty}
 use Rattle.packed_rows.specs.Entries.{Entry, named, count, entryBytes, soundEntry, store, carryOut, carryAll, rowFrom, rowsFrom, rowStream, streamOf}
 use Rattle.packed_rows.specs.Stream.{AcceptedAs}
 use Rattle.packed_rows.specs.Packer.{ofBits, nonZero, packedEntry, entriesFrom, packedEntries, packedStream, packedLength}

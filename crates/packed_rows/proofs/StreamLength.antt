@@ -7,7 +7,8 @@ use mathlib.Core.List.{List, [], _∷_, _++_, map}
 use mathlib.Core.Bool.{Bool, true, false, cond}
 use borrow.Author.Tests.{ltb-false}
 use lib.ListN.{length, length-append}
-use Rattle.cells.specs.Cells.{Cell, Row, cellBytes, joined, blocksOf, rowsOf, nonZeros, nonEmpty, nonEmptyCells}
+use Rattle.vocabulary.specs.Lists.{joined}
+use Rattle.cells.specs.Cells.{Cell, Row, cellBytes, blocksOf, rowsOf, nonZeros, nonEmpty, nonEmptyCells}
 use Rattle.packed_rows.specs.Entries.{Entry, entryBytes, rowStream}
 use Rattle.packed_rows.specs.Packer.{packedEntries, packedStream, packedLength}
 use Rattle.packed_rows.proofs.Shapes.{none, one, Blocks, Shaped, each-count, bytes-joined, joined-rows, bytes-rows, rows-shaped}

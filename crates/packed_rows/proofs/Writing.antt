@@ -9,7 +9,8 @@ use native.Mathlib.Nat.{add-zero, suc-mul}
 use native.Mathlib.Numerals.{add-one}
 use lib.ListN.{length, getD, take, drop, set, length-append, length-set, drop-of-length-le}
 use lib.Seq.{drop-cons, drop-drop, take-suc-set, take-set-le, take-all, getD-take, getD-drop, length-take-le}
-use Rattle.cells.specs.Cells.{Cell, Row, joined, blocksOf, rowOf, rowsOf, nonZeros, nonEmpty}
+use Rattle.vocabulary.specs.Lists.{joined}
+use Rattle.cells.specs.Cells.{Cell, Row, blocksOf, rowOf, rowsOf, nonZeros, nonEmpty}
 use Rattle.packed_rows.specs.Entries.{Entry, entryBytes, rowStream}
 use Rattle.packed_rows.specs.Packer.{nonZero, packedEntry, entriesFrom, packedEntries, packedStream}
 use Rattle.packed_rows.specs.Steps.{oneIf, cellAt, filledTracks, Listed, entriesAt}

@@ -6,7 +6,8 @@ use mathlib.Core.List.{List, [], _∷_, _++_, map}
 use mathlib.Core.Bool.{Bool, true, false}
 use lib.ListN.{length, getD, drop, set}
 use lib.Dec.{eqb, leb, ltb}
-use Rattle.cells.specs.Cells.{Cell, Row, both, emptyCell, emptyRow, joined}
+use Rattle.vocabulary.specs.Lists.{joined}
+use Rattle.cells.specs.Cells.{Cell, Row, both, emptyCell, emptyRow}
 
 -- The lowest n bits of a number, the lowest first.
 abbrev pub bits : ℕ → ℕ → List Bool

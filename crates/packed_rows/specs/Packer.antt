@@ -4,7 +4,8 @@ use mathlib.Core.List.{List, [], _∷_, map}
 use mathlib.Core.Bool.{Bool, cond, not}
 use lib.ListN.{length}
 use lib.Dec.{eqb}
-use Rattle.cells.specs.Cells.{Cell, Row, joined, bytesOf, nonZeros, nonEmpty, nonEmptyCells}
+use Rattle.vocabulary.specs.Lists.{joined}
+use Rattle.cells.specs.Cells.{Cell, Row, bytesOf, nonZeros, nonEmpty, nonEmptyCells}
 use Rattle.packed_rows.specs.Entries.{Entry, streamOf}
 
 -- The number whose bits, the lowest first, are these.

@@ -6,7 +6,8 @@ use mathlib.Core.List.{List, [], _∷_, _++_}
 use mathlib.Core.Bool.{Bool, cond}
 use lib.ListN.{length, getD, take, drop}
 use lib.Dec.{eqb}
-use Rattle.cells.specs.Cells.{Cell, Row, joined, rowOf, nonEmpty, emptyCell}
+use Rattle.vocabulary.specs.Lists.{joined}
+use Rattle.cells.specs.Cells.{Cell, Row, rowOf, nonEmpty, emptyCell}
 use Rattle.packed_rows.specs.Entries.{Entry, soundMask, fieldsNamed, named, entryBytes, store, carryAll, rowFrom, rowsFrom}
 use Rattle.packed_rows.specs.Packer.{nonZero, packedEntry}
 use Rattle.packed_rows.specs.Stream.{Front, nothing, rowEnd, entry, fault, reading, whole, readStream, entriesRead}

@@ -6,7 +6,8 @@ use mathlib.Core.List.{List, [], _∷_, _++_, map, List·Permᴰ}
 use mathlib.Core.Bool.{Bool, true, false}
 use lib.ListN.{length, getD, take, drop}
 use lib.Dec.{eqb}
-use Rattle.cells.specs.Cells.{Row, both, joined, cellBytes, rowsOf}
+use Rattle.vocabulary.specs.Lists.{joined}
+use Rattle.cells.specs.Cells.{Row, both, cellBytes, rowsOf}
 use Rattle.packed_rows.specs.Entries.{Entry, named, count, entryBytes, soundEntry, rowStream, streamOf}
 use Rattle.packed_rows.specs.Packer.{packedEntries, packedStream, packedLength}
 use Rattle.packed_rows.specs.Answers.{packAnswer, packOutput, unpackAnswer, unpackOutput}

@@ -11,6 +11,7 @@ use Rattle.packed_rows.specs.declared.CellAnswer.{CellAnswer}
 use Rattle.packed_rows.specs.declared.CellAnswer.the-variants.{Refused as CellRefused}
 use Rattle.packed_rows.specs.declared.Unpacking.{Unpacking}
 use Rattle.packed_rows.specs.declared.Unpacking.the-variants.{Unpacked, Refused as UnpackingRefused}
+use Rattle.blocks.specs.declared.Thing.the-variants.{Pattern}
 use Rattle.module.specs.Streams.{packedBytes}
 use Rattle.queries.specs.Finding.{found}
 use Rattle.refusal.specs.Lengths.{refusedLength, writtenLength}
@@ -18,7 +19,6 @@ use Rattle.queries.specs.declared.Block.{Block}
 use Rattle.queries.specs.declared.Found.{Found}
 use Rattle.queries.specs.declared.Found.the-variants.{At, Refused}
 use Rattle.refusal.specs.declared.LengthAnswer.{LengthAnswer}
-use Rattle.queries.specs.declared.Thing.the-variants.{Pattern}
 use Rattle.patterns.specs.declared.RowsAnswer.{RowsAnswer}
 
 abbrev pub noRows : Refusal → RowsAnswer

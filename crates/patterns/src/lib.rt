@@ -1,5 +1,6 @@
 // Patterns: rows, one cell, and the whole pattern unpacked. Each query gives the module's own refusal, then 18, then 17. Of the
 // packed rows only the promises of `pattern` are used.
+use blocks::Thing;
 use numbers::number16;
 use numbers::number32;
 use numbers::part;
@@ -7,7 +8,6 @@ use packed_rows::CellAnswer;
 use packed_rows::Unpacking;
 use queries::Block;
 use queries::Found;
-use queries::Thing;
 use queries::find;
 use refusal::LengthAnswer;
 use refusal::Outcome;

@@ -8,43 +8,14 @@ use Rattle.refusal.specs.declared.Cause.the-variants.{NotThere}
 use Rattle.layout.specs.declared.Layout.{Layout}
 use Rattle.layout.specs.declared.Outline.{Outline}
 use Rattle.layout.specs.declared.Outline.the-variants.{Found as Opened, Refused as OpeningRefused}
-use Rattle.layout.specs.declared.Place.{Place}
-use Rattle.blocks.specs.Sizes.{blockAt, envelopeCount}
-use Rattle.blocks.specs.declared.Kind.{Kind}
-use Rattle.blocks.specs.declared.Kind.the-variants.{Song as SongKind, Instrument as InstrumentKind, Pattern as PatternKind, Sample as SampleKind, Envelope as EnvelopeKind}
+use Rattle.blocks.specs.Sizes.{blockAt}
+use Rattle.blocks.specs.Things.{kindOf, chunkOf, countOf}
+use Rattle.blocks.specs.declared.Thing.{Thing}
+use Rattle.blocks.specs.declared.Thing.the-variants.{Song, Instrument, Pattern, Sample, VolumeEnvelope, PanningEnvelope}
 use Rattle.module.specs.Verdicts.{opened}
-use Rattle.queries.specs.declared.Thing.{Thing}
-use Rattle.queries.specs.declared.Thing.the-variants.{Song, Instrument, Pattern, Sample, VolumeEnvelope, PanningEnvelope}
 use Rattle.queries.specs.declared.Block.{Block}
 use Rattle.queries.specs.declared.Found.{Found}
 use Rattle.queries.specs.declared.Found.the-variants.{At, Refused}
-
--- The kind of its block.
-abbrev pub kindOf : Thing → Kind
-kindOf Song = SongKind
-kindOf Instrument = InstrumentKind
-kindOf Pattern = PatternKind
-kindOf Sample = SampleKind
-kindOf VolumeEnvelope = EnvelopeKind
-kindOf PanningEnvelope = EnvelopeKind
-
--- The chunk that holds it.
-abbrev pub chunkOf : Layout → Thing → Place
-chunkOf l Song = l .places .song
-chunkOf l Instrument = l .places .inst
-chunkOf l Pattern = l .places .patt
-chunkOf l Sample = l .places .smpl
-chunkOf l VolumeEnvelope = l .places .venv
-chunkOf l PanningEnvelope = l .places .penv
-
--- How many there are: INFO's number, or the count of the envelopes' chunk; none where that chunk is missing.
-abbrev pub countOf : List ℕ → Layout → Thing → ℕ
-countOf m l Song = l .songs
-countOf m l Instrument = l .instruments
-countOf m l Pattern = l .patterns
-countOf m l Sample = l .samples
-countOf m l VolumeEnvelope = envelopeCount m (l .places .venv)
-countOf m l PanningEnvelope = envelopeCount m (l .places .penv)
 
 -- Q2: instruments and samples are counted from 1, all else from 0.
 abbrev pub firstOf : Thing → ℕ

@@ -1,10 +1,11 @@
 // What all queries about a module have in common: where what is asked for is, and a name.
-use blocks::Kind;
+use blocks::Thing;
 use blocks::block_at;
-use blocks::envelope_count;
+use blocks::chunk_of;
+use blocks::count_of;
+use blocks::kind_of;
 use layout::Layout;
 use layout::Outline;
-use layout::Place;
 use numbers::copy;
 use refusal::Cause;
 use refusal::Refusal;
@@ -13,17 +14,7 @@ ghost use mathlib.Core.Path.{_≡_};
 ghost use Prim.Native.Nat.{_<_};
 ghost use Rattle.refusal.specs.Numbers.{IsAnswer};
 ghost use Rattle.numbers.specs.Numbers.{bytesFrom};
-ghost use Rattle.queries.specs.Finding.{kindOf, chunkOf, countOf, firstOf, foundIn, found, placeIn, foundNumbers};
-
-// What a query asks for.
-pub enum Thing {
-    Song,
-    Instrument,
-    Pattern,
-    Sample,
-    VolumeEnvelope,
-    PanningEnvelope,
-}
+ghost use Rattle.queries.specs.Finding.{firstOf, foundIn, found, placeIn, foundNumbers};
 
 // Where a block of an accepted module stands, and the version and tracks by which it is shown.
 pub struct Block {
@@ -36,49 +27,6 @@ pub struct Block {
 pub enum Found {
     At(Block),
     Refused(Refusal),
-}
-
-// The kind of its block.
-pub fn kind_of(thing: Thing) -> Kind
-    ensures { λ r. ⌜ r ≡ kindOf thing ⌝ }
-{
-    match thing {
-        Thing::Song => Kind::Song,
-        Thing::Instrument => Kind::Instrument,
-        Thing::Pattern => Kind::Pattern,
-        Thing::Sample => Kind::Sample,
-        Thing::VolumeEnvelope => Kind::Envelope,
-        Thing::PanningEnvelope => Kind::Envelope,
-    }
-}
-
-// The chunk that holds it.
-pub fn chunk_of(l: Layout, thing: Thing) -> Place
-    ensures { λ r. ⌜ r ≡ chunkOf l thing ⌝ }
-{
-    let p = l.places;
-    match thing {
-        Thing::Song => p.song,
-        Thing::Instrument => p.inst,
-        Thing::Pattern => p.patt,
-        Thing::Sample => p.smpl,
-        Thing::VolumeEnvelope => p.venv,
-        Thing::PanningEnvelope => p.penv,
-    }
-}
-
-// How many of these the module has.
-pub fn count_of(m: &[u8], l: Layout, thing: Thing) -> u16
-    ensures { λ r. ⌜ r ≡ countOf (now (m .entry)) l thing ⌝ }
-{
-    match thing {
-        Thing::Song => l.songs,
-        Thing::Instrument => l.instruments,
-        Thing::Pattern => l.patterns,
-        Thing::Sample => l.samples,
-        Thing::VolumeEnvelope => envelope_count(m, l.places.venv),
-        Thing::PanningEnvelope => envelope_count(m, l.places.penv),
-    }
 }
 
 // The number of the first: 1 for instruments and samples, 0 for all else.

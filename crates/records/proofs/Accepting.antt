@@ -6,6 +6,8 @@ use native.Mathlib.Omega.{arith}
 use lib.ListN.{length, drop, length-append}
 use lib.Dec.{eqb}
 use borrow.Author.Tests.{leb-true, lt-ltb, le-ltb}
+use Rattle.vocabulary.specs.Lists.{joined, Every}
+use Rattle.vocabulary.proofs.EveryOne.{every-of}
 use Rattle.refusal.specs.Numbers.{refusal}
 use Rattle.refusal.specs.declared.Cause.the-variants.{Room}
 use Rattle.numbers.specs.Numbers.{number16}
@@ -13,20 +15,18 @@ use Rattle.layout.specs.declared.Place.{Place}
 use Rattle.layout.specs.declared.Layout.{Layout}
 use Rattle.layout.specs.declared.Outline.{Outline}
 use Rattle.layout.specs.declared.Outline.the-variants.{Found}
-use Rattle.cells.specs.Cells.{joined}
 use Rattle.blocks.specs.Sizes.{sizeOf, placesFrom, blockAt, blocksOf}
 use Rattle.blocks.specs.declared.Kind.{Kind}
+use Rattle.blocks.specs.Things.{kindOf, chunkOf, countOf}
+use Rattle.blocks.specs.declared.Thing.{Thing}
+use Rattle.blocks.specs.declared.Thing.the-variants.{Song, Instrument, Pattern, Sample, VolumeEnvelope, PanningEnvelope}
 use Rattle.fields.specs.Fields.{envelopeRules}
 use Rattle.module.specs.Verdicts.{opened}
-use Rattle.queries.specs.Finding.{kindOf, chunkOf, countOf}
 use Rattle.refusal.specs.Lengths.{refusedLength, writtenLength}
 use Rattle.refusal.specs.declared.LengthAnswer.{LengthAnswer}
-use Rattle.queries.specs.declared.Thing.{Thing}
-use Rattle.queries.specs.declared.Thing.the-variants.{Song, Instrument, Pattern, Sample, VolumeEnvelope, PanningEnvelope}
-use Rattle.grammar.specs.Rules.{Every}
-use Rattle.grammar.proofs.Holding.{AllHold, every-of}
-use Rattle.grammar.proofs.EnvelopeValues.{value-fits}
-use Rattle.grammar.proofs.FoundBlocks.{Opens, module-opens}
+use Rattle.acceptance.proofs.Holding.{AllHold}
+use Rattle.acceptance.proofs.PointsInUse.{value-fits}
+use Rattle.acceptance.proofs.OpenModules.{Opens, module-opens}
 use Rattle.records.specs.Records.{summaryRecord, recordAt, recordsOf, allRecords, allAnswerIf, allAnswer, allOutputIf, allOutput}
 use Rattle.records.specs.Steps.{recordsFrom, recordsOfThree, ValuesFit}
 use Rattle.records.proofs.Ahead.{every-any}

@@ -7,13 +7,12 @@ use native.Mathlib.Omega.{arith}
 use lib.ListN.{length, drop, length-append, length-drop}
 use lib.Seq.{drop-drop}
 use borrow.Rule.Slice.PartMut.{midOf, putMid}
-use Rattle.cells.specs.Cells.{joined}
+use Rattle.vocabulary.specs.Lists.{joined, Every, none, also}
+use Rattle.vocabulary.proofs.EveryOne.{every-first, every-rest}
 use Rattle.numbers.specs.Numbers.{putAt}
 use Rattle.numbers.proofs.PutBytes.{put-behind}
 use Rattle.blocks.specs.Sizes.{placesFrom}
-use Rattle.grammar.specs.Rules.{Every, none, also}
-use Rattle.grammar.proofs.Holding.{every-first, every-rest}
-use Rattle.grammar.proofs.Ends.{mid-end, put-next, written-length}
+use Rattle.acceptance.proofs.Ends.{mid-end, put-next, written-length}
 
 -- Of all that is to be written everything but the rest is written, and the rest goes to a place.
 pub record Ahead (out₀ all out : List ℕ) (to : ℕ) (rest : List ℕ) : Type 0 where

@@ -4,18 +4,19 @@ use mathlib.Core.Path.{_≡_, refl, ap, _∙_}
 use mathlib.Core.List.{List, map}
 use native.Mathlib.Omega.{arith}
 use native.Mathlib.Nat.{add-zero}
-use Rattle.cells.specs.Cells.{joined}
+use Rattle.vocabulary.specs.Lists.{joined}
 use Rattle.numbers.specs.Numbers.{eachFrom}
 use Rattle.layout.specs.declared.Layout.{Layout}
 use Rattle.layout.specs.declared.Outline.the-variants.{Found as Opened}
 use Rattle.blocks.specs.Sizes.{sizeOf, placesFrom, placeAfter, firstBlock, blockAt}
+use Rattle.blocks.specs.Things.{kindOf, chunkOf, countOf}
+use Rattle.blocks.specs.declared.Thing.{Thing}
 use Rattle.module.specs.Verdicts.{opened}
-use Rattle.queries.specs.Finding.{kindOf, chunkOf, countOf, firstOf, found}
+use Rattle.queries.specs.Finding.{firstOf, found}
 use Rattle.queries.specs.declared.Block.{Block}
 use Rattle.queries.specs.declared.Found.{Found}
 use Rattle.queries.specs.declared.Found.the-variants.{At}
-use Rattle.queries.specs.declared.Thing.{Thing}
-use Rattle.grammar.proofs.FoundBlocks.{counted-found}
+use Rattle.queries.proofs.Numbering.{counted-found}
 use Rattle.records.specs.Records.{recordAt, recordsOf}
 
 -- What a function gives for each number, where that is what another gives for the place that so many blocks lead to.

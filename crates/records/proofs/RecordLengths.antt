@@ -6,13 +6,13 @@ use mathlib.Core.Bool.{Bool, true, false, cond}
 use native.Mathlib.Omega.{arith}
 use native.Mathlib.Nat.{suc-mul}
 use lib.ListN.{length, replicate, length-append}
-use Rattle.cells.specs.Cells.{joined}
+use Rattle.vocabulary.specs.Lists.{joined}
 use Rattle.numbers.specs.Numbers.{byteAt, number16, bytesFrom}
 use Rattle.numbers.proofs.Each.{each-length}
 use Rattle.layout.specs.declared.Layout.{Layout}
 use Rattle.blocks.specs.Sizes.{sizeOf, placesFrom, placeAfter}
 use Rattle.blocks.specs.declared.Kind.the-variants.{Song as SongKind}
-use Rattle.queries.specs.declared.Thing.the-variants.{Song, Instrument, Pattern, Sample, VolumeEnvelope, PanningEnvelope}
+use Rattle.blocks.specs.declared.Thing.the-variants.{Song, Instrument, Pattern, Sample, VolumeEnvelope, PanningEnvelope}
 use Rattle.summary.specs.Shown.{nameOf, shownInfo}
 use Rattle.records.specs.Records.{infoRecord, countsRecord, summaryRecord, recordAt}
 

@@ -5,8 +5,8 @@ use mathlib.Core.List.{List, [], _∷_, _++_, map}
 use native.Mathlib.Omega.{arith}
 use native.Mathlib.Nat.{zero-add, suc-add}
 use lib.IntN.{ℤ}
-use Rattle.cells.specs.Cells.{joined}
-use Rattle.numbers.specs.Numbers.{byteAt, number16, number32, eachFrom, bytesFrom, bytes16, bytes32, signed16, unsigned16}
+use Rattle.vocabulary.specs.Lists.{joined}
+use Rattle.numbers.specs.Numbers.{byteAt, Bytes, number16, number32, signed16, eachFrom, bytesFrom, bytes16, bytes32, unsigned16}
 use Rattle.numbers.proofs.Stored.{number16-stored, number32-stored}
 use Rattle.blocks.specs.Sizes.{placesFrom}
 use Rattle.songs.specs.Shown.{shownSong, playlistBytes}
@@ -15,7 +15,6 @@ use Rattle.samples.proofs.SixteenBits.{stored-again}
 use Rattle.envelopes.specs.Shown.{thingOf, positionShown, valueShown, shownEnvelope}
 use Rattle.envelopes.specs.declared.EnvelopeKind.{EnvelopeKind}
 use Rattle.envelopes.specs.declared.EnvelopeKind.the-variants.{Volume, Panning}
-use Rattle.grammar.specs.Rules.{Bytes}
 use Rattle.records.specs.Records.{songRecord, instrumentRecord, pointRecords, envelopeRecord, recordAt}
 use Rattle.records.specs.Steps.{pointsFrom}
 

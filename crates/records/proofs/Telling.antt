@@ -5,14 +5,14 @@ use mathlib.Core.List.{List, _++_}
 use native.Mathlib.Omega.{arith}
 use native.Mathlib.Nat.{add-zero}
 use borrow.Author.Tests.{lt-ltb}
-use Rattle.cells.specs.Cells.{joined}
-use Rattle.numbers.specs.Numbers.{number16, eachFrom, bytesFrom, bytes16}
+use Rattle.vocabulary.specs.Lists.{joined}
+use Rattle.numbers.specs.Numbers.{Bytes, number16, eachFrom, bytesFrom, bytes16}
 use Rattle.layout.specs.declared.Layout.{Layout}
 use Rattle.layout.specs.declared.Outline.{Outline}
 use Rattle.layout.specs.declared.Outline.the-variants.{Found as Opened}
+use Rattle.blocks.specs.declared.Thing.the-variants.{Song, Instrument, Pattern, Sample, VolumeEnvelope, PanningEnvelope}
 use Rattle.module.specs.Verdicts.{opened}
 use Rattle.queries.specs.declared.Found.{Found}
-use Rattle.queries.specs.declared.Thing.the-variants.{Song, Instrument, Pattern, Sample, VolumeEnvelope, PanningEnvelope}
 use Rattle.summary.specs.Shown.{versionIf, nameIf, infoIf}
 use Rattle.songs.specs.Shown.{shownSong, songIf, entryIn, entryIf, playlistBytes}
 use Rattle.instruments.specs.Shown.{instrumentIf}
@@ -20,7 +20,6 @@ use Rattle.patterns.specs.Shown.{rowsIf}
 use Rattle.samples.specs.Shown.{sampleIf}
 use Rattle.envelopes.specs.Shown.{countIf, envelopeIf}
 use Rattle.envelopes.specs.declared.EnvelopeKind.the-variants.{Volume, Panning}
-use Rattle.grammar.specs.Rules.{Bytes}
 use Rattle.records.specs.Records.{versionRecord, infoRecord, summaryRecord, songRecord, instrumentRecord, sampleRecord, envelopeRecord, recordAt, recordsOf, allRecords}
 use Rattle.records.specs.Told.{summaryTold, songTold, instrumentTold, patternTold, sampleTold, envelopeTold, recordsTold}
 use Rattle.records.proofs.StoredRecords.{next16}

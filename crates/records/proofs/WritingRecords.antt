@@ -6,19 +6,18 @@ use native.Mathlib.Omega.{arith}
 use lib.ListN.{length, take, drop, set, length-append}
 use lib.Seq.{length-take-le, sets-eq}
 use borrow.Rule.Slice.PartMut.{midOf, putMid}
-use Rattle.numbers.specs.Numbers.{number32, bytesFrom, bytes16, bytes32, putAt}
+use Rattle.numbers.specs.Numbers.{Bytes, number32, bytesFrom, bytes16, bytes32, putAt}
 use Rattle.numbers.proofs.PutBytes.{putEach, put-each, put-front}
 use Rattle.layout.specs.declared.Layout.{Layout}
 use Rattle.blocks.specs.Sizes.{widthOf, sizeOf, envelopeCount}
 use Rattle.blocks.specs.declared.Kind.the-variants.{Song as SongKind}
-use Rattle.queries.specs.declared.Thing.{Thing}
-use Rattle.queries.specs.declared.Thing.the-variants.{Song, Instrument, Pattern, Sample}
+use Rattle.blocks.specs.declared.Thing.{Thing}
+use Rattle.blocks.specs.declared.Thing.the-variants.{Song, Instrument, Pattern, Sample}
 use Rattle.summary.specs.Shown.{nameOf, shownInfo}
 use Rattle.samples.specs.Shown.{shownSample}
 use Rattle.envelopes.specs.Shown.{thingOf}
 use Rattle.envelopes.specs.declared.EnvelopeKind.{EnvelopeKind}
-use Rattle.grammar.specs.Rules.{Bytes}
-use Rattle.grammar.proofs.Ends.{copied}
+use Rattle.acceptance.proofs.Ends.{copied}
 use Rattle.records.specs.Records.{infoRecord, countsRecord, sampleRecord, summaryRecord, recordAt}
 use Rattle.records.specs.Steps.{pointRecord, pointsFrom}
 use Rattle.records.proofs.Ahead.{Ahead, ahead-second, ahead-last, second-inside, second-part, third-length, third-put, AheadBlocks, blocks-last}

@@ -2,7 +2,7 @@
 -- module is not spoken of.
 use Prim.Native.Nat.{ℕ}
 use mathlib.Core.List.{List, _++_}
-use Rattle.cells.specs.Cells.{joined}
+use Rattle.vocabulary.specs.Lists.{joined}
 use Rattle.numbers.specs.Numbers.{eachFrom, bytes16}
 use Rattle.summary.specs.Shown.{versionAnswer, nameAnswer, infoAnswer}
 use Rattle.songs.specs.Shown.{songAnswer, entryAnswer}

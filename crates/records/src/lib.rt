@@ -1,8 +1,12 @@
 // All records of a module by one call: one check of the module, and one pass over its blocks. Each record tells just what its own query
 // answers.
 use blocks::Kind;
+use blocks::Thing;
 use blocks::block_at;
+use blocks::chunk_of;
+use blocks::count_of;
 use blocks::envelope_count;
+use blocks::kind_of;
 use blocks::size;
 use blocks::width;
 use envelopes::EnvelopeKind;
@@ -14,10 +18,6 @@ use numbers::number16;
 use numbers::number32;
 use numbers::put16;
 use numbers::put32;
-use queries::Thing;
-use queries::chunk_of;
-use queries::count_of;
-use queries::kind_of;
 use refusal::Cause;
 use refusal::LengthAnswer;
 use refusal::refuse;
@@ -29,6 +29,7 @@ ghost use mathlib.Core.List.{_++_};
 ghost use Prim.Native.Nat.{_+_, _*_, _<_, _≤_};
 ghost use lib.ListN.{length, drop};
 ghost use lib.IntN.{pos, _-ℤ_};
+ghost use Rattle.vocabulary.specs.Lists.{Every};
 ghost use Rattle.numbers.specs.Numbers.{byteAt, bytesFrom, unsigned16, putAt};
 ghost use Rattle.layout.specs.declared.Outline.the-variants.{Found};
 ghost use Rattle.blocks.specs.Sizes.{sizeOf, placesFrom};
@@ -36,7 +37,6 @@ ghost use Rattle.module.specs.Verdicts.{opened};
 ghost use Rattle.summary.specs.Shown.{shownInfo};
 ghost use Rattle.samples.specs.Shown.{shownSample};
 ghost use Rattle.envelopes.specs.Shown.{thingOf, positionShown, valueShown, valueOf};
-ghost use Rattle.grammar.specs.Rules.{Every};
 ghost use Rattle.records.specs.Records.{infoRecord, countsRecord, summaryRecord, sampleRecord, recordAt, recordsOf, allRecords, allAnswerIf, allAnswer, allOutputIf, allOutput};
 ghost use Rattle.records.specs.Steps.{pointRecord, pointsFrom, recordsFrom, recordsOfThree, ValueFits, ValuesFit};
 

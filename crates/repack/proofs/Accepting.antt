@@ -6,8 +6,11 @@ use mathlib.Core.List.{List, _++_}
 use native.Mathlib.Omega.{arith}
 use lib.ListN.{length, drop}
 use borrow.Author.Tests.{lt-ltb, le-ltb}
+use Rattle.vocabulary.specs.Lists.{Every}
+use Rattle.vocabulary.proofs.EveryOne.{every-first, every-rest}
 use Rattle.refusal.specs.Numbers.{refusal}
 use Rattle.refusal.specs.declared.Cause.the-variants.{Room}
+use Rattle.numbers.specs.Numbers.{Bytes}
 use Rattle.layout.specs.declared.Layout.{Layout}
 use Rattle.layout.specs.declared.Outline.{Outline}
 use Rattle.layout.specs.declared.Outline.the-variants.{Found}
@@ -17,12 +20,12 @@ use Rattle.module.specs.Streams.{patternStreamRules}
 use Rattle.module.specs.Verdicts.{opened}
 use Rattle.refusal.specs.Lengths.{refusedLength, writtenLength}
 use Rattle.refusal.specs.declared.LengthAnswer.{LengthAnswer}
-use Rattle.grammar.specs.Rules.{Bytes, Every, Covered}
-use Rattle.grammar.proofs.Holding.{AllHold, every-first, every-rest}
-use Rattle.grammar.proofs.BlockStreams.{accepted-says}
-use Rattle.grammar.proofs.ChunkHalf.{Outlined, outline-chunks}
-use Rattle.grammar.proofs.ChangedData.{data-at}
-use Rattle.grammar.proofs.FoundBlocks.{Opens, module-opens}
+use Rattle.acceptance.specs.Rules.{Covered}
+use Rattle.acceptance.proofs.Holding.{AllHold}
+use Rattle.acceptance.proofs.BlockStreams.{accepted-says}
+use Rattle.acceptance.proofs.ChunkHalf.{Outlined, outline-chunks}
+use Rattle.acceptance.proofs.ChangedData.{data-at}
+use Rattle.acceptance.proofs.OpenModules.{Opens, module-opens}
 use Rattle.repack.specs.Repacked.{repackedPatterns, repackedModule, repackAnswerIf, repackAnswer, repackOutputIf, repackOutput}
 use Rattle.repack.specs.Steps.{replaced, AllSound, PatternsIn}
 use Rattle.repack.proofs.ChunksAnew.{module-anew}

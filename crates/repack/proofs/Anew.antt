@@ -26,9 +26,8 @@ use Rattle.numbers.specs.Numbers.{number16, number32, partOf}
 use Rattle.blocks.specs.Sizes.{sizeOf}
 use Rattle.blocks.specs.declared.Kind.the-variants.{Pattern}
 use Rattle.module.specs.Streams.{packedBytes, streamVerdict}
-use Rattle.grammar.proofs.Locating.{part-length}
-use Rattle.grammar.proofs.BlockStreams.{accepted-sizes}
-use Rattle.grammar.proofs.FoundPatterns.{holds}
+use Rattle.acceptance.proofs.Locating.{part-length}
+use Rattle.acceptance.proofs.BlockStreams.{accepted-sizes, holds}
 use Rattle.repack.specs.Repacked.{packed, repackedStream, repackedBlock}
 
 -- A stream with its length and its filler.

@@ -4,12 +4,12 @@ use mathlib.Core.Path.{_≡_, refl}
 use mathlib.Core.List.{List, _++_, map}
 use mathlib.Core.Bool.{false, _||_}
 use lib.Dec.{eqb}
-use Rattle.cells.specs.Cells.{joined}
+use Rattle.vocabulary.specs.Lists.{joined}
 use Rattle.layout.specs.Chunks.{PATT}
 use Rattle.layout.specs.declared.Layout.{Layout}
-use Rattle.grammar.specs.Rules.{ChunkRules}
-use Rattle.grammar.proofs.ChangedChunks.{Change, chunks-read, module-changed}
-use Rattle.grammar.proofs.ChangedData.{dataChanged, no-change, data-change, data-read, chunk-read}
+use Rattle.acceptance.specs.Rules.{ChunkRules}
+use Rattle.acceptance.proofs.ChangedChunks.{Change, chunks-read, module-changed}
+use Rattle.acceptance.proofs.ChangedData.{dataChanged, no-change, data-change, data-read, chunk-read}
 use Rattle.repack.specs.Repacked.{repackedPatterns, repackedChunk, repackedModule}
 
 -- A chunk of a module of which PATT gets other data; every other chunk stays.

@@ -8,7 +8,7 @@ use lib.Seq.{take-take, take-append-le, take-at, drop-at, drop-drop, length-take
 use borrow.Rule.Slice.PartMut.{midOf, putMid}
 use Rattle.numbers.specs.Numbers.{bytes32, putAt}
 use Rattle.numbers.proofs.PutBytes.{put-there}
-use Rattle.grammar.proofs.Ends.{mid-end, put-end}
+use Rattle.acceptance.proofs.Ends.{mid-end, put-end}
 
 -- The output once it is written up to the place of the length.
 module _ (front out first : List ℕ) (a : ℕ) (size : length front ≡ a) (room : a + 4 ≤ length out) (e₁ : first ≡ front ++ drop a out) where

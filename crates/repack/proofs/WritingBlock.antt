@@ -11,10 +11,10 @@ use borrow.Rule.Slice.PartMut.{midOf, putMid}
 use Rattle.refusal.specs.declared.Verdict.the-variants.{Accepted}
 use Rattle.numbers.specs.Numbers.{number32, partOf, bytes32, putAt}
 use Rattle.module.specs.Streams.{streamVerdict}
-use Rattle.grammar.proofs.Locating.{part-length}
+use Rattle.acceptance.proofs.Locating.{part-length}
 use Rattle.repack.specs.Repacked.{packed, repackedStream, repackedBlock}
 use Rattle.repack.proofs.Anew.{block-size}
-use Rattle.grammar.proofs.Ends.{copied}
+use Rattle.acceptance.proofs.Ends.{copied}
 use Rattle.repack.proofs.LengthBefore.{lent-length, third-is}
 
 -- An even stream ends the block; behind an odd one a filler stands.

@@ -11,7 +11,7 @@ use Rattle.layout.specs.declared.Place.{Place}
 use Rattle.blocks.specs.Filling.{dataEnd}
 use Rattle.numbers.specs.Numbers.{bytes32, putAt}
 use Rattle.repack.specs.Steps.{frontAnew, replaced}
-use Rattle.grammar.proofs.Ends.{mid-end, copied, put-next, written-length}
+use Rattle.acceptance.proofs.Ends.{mid-end, copied, put-next, written-length}
 use Rattle.repack.proofs.LengthBefore.{third-is}
 
 module _ (m : List ℕ) (chunk : Place) (anew : List ℕ) (whole : dataEnd chunk ≤ length m) where

@@ -4,8 +4,8 @@ use Prim.Native.Nat.{ℕ, zero, suc, _+_, _≤_}
 use mathlib.Core.Path.{_≡_}
 use mathlib.Core.List.{List, _++_, map}
 use lib.ListN.{length, take, drop}
+use Rattle.vocabulary.specs.Lists.{joined}
 use Rattle.refusal.specs.declared.Verdict.the-variants.{Accepted}
-use Rattle.cells.specs.Cells.{joined}
 use Rattle.layout.specs.declared.Place.{Place}
 use Rattle.blocks.specs.Sizes.{sizeOf, placeAfter, placesFrom, firstBlock}
 use Rattle.blocks.specs.Filling.{dataEnd}

@@ -2,17 +2,17 @@
 use Prim.Native.Nat.{ℕ, _+_}
 use mathlib.Core.Path.{_≡_, refl, sym, ap, subst, _∙_}
 use mathlib.Core.List.{List, _++_, map}
-use Rattle.cells.specs.Cells.{joined}
+use Rattle.vocabulary.specs.Lists.{joined}
+use Rattle.vocabulary.proofs.EveryOne.{every-of}
+use Rattle.vocabulary.proofs.MappedLists.{every-map, map-stays}
+use Rattle.numbers.specs.Numbers.{Bytes}
 use Rattle.layout.specs.Chunks.{PATT}
 use Rattle.layout.specs.declared.Layout.{Layout}
 use Rattle.layout.specs.declared.Outline.the-variants.{Found}
 use Rattle.blocks.specs.Sizes.{sizeOf, placesFrom}
 use Rattle.blocks.specs.declared.Kind.the-variants.{Pattern}
 use Rattle.module.specs.Verdicts.{opened}
-use Rattle.grammar.specs.Rules.{Bytes}
-use Rattle.grammar.proofs.Holding.{every-of}
-use Rattle.grammar.proofs.MappedLists.{every-map, map-stays}
-use Rattle.grammar.proofs.ChangedData.{no-change, data-twice}
+use Rattle.acceptance.proofs.ChangedData.{no-change, data-twice}
 use Rattle.repack.specs.Repacked.{repackedBlock, repackedPatterns, repackedModule, repackedIf, repacked}
 use Rattle.repack.proofs.ChunksAnew.{chunkAnew, module-anew}
 use Rattle.repacking.proofs.BlockAnew.{blockAnew, blocks-anew, anew-again}

@@ -8,10 +8,13 @@ use native.Mathlib.Omega.{arith}
 use lib.ListN.{length, getD, take, drop, replicate, length-drop, length-map, take-append-drop}
 use lib.Dec.{eqb, leb, ltb}
 use lib.Seq.{length-take-le}
+use Rattle.vocabulary.specs.Lists.{Every}
+use Rattle.vocabulary.specs.Letters.{nameLetters, infoLetters, venvLetters, penvLetters}
+use Rattle.vocabulary.proofs.EveryOne.{every-of, every-at}
 use Rattle.refusal.specs.Numbers.{refusal}
 use Rattle.refusal.specs.declared.Cause.the-variants.{NotThere}
 use Rattle.packed_rows.proofs.Shapes.{getD-mapped}
-use Rattle.numbers.specs.Numbers.{number16, partOf, bytesFrom}
+use Rattle.numbers.specs.Numbers.{Bytes, number16, partOf, bytesFrom}
 use Rattle.numbers.proofs.Parts.{bytes-part}
 use Rattle.layout.specs.Chunks.{PATT}
 use Rattle.layout.specs.declared.Place.{Place}
@@ -20,22 +23,23 @@ use Rattle.layout.specs.declared.Outline.the-variants.{Found as Opened}
 use Rattle.blocks.specs.Sizes.{sizeOf, placeAfter, blockAt, envelopeCount}
 use Rattle.blocks.specs.declared.Kind.{Kind}
 use Rattle.blocks.specs.declared.Kind.the-variants.{Song as SongKind, Instrument as InstrumentKind, Pattern as PatternKind, Sample as SampleKind, Envelope as EnvelopeKind}
+use Rattle.blocks.specs.Things.{kindOf, chunkOf, countOf}
+use Rattle.blocks.specs.declared.Thing.{Thing}
+use Rattle.blocks.specs.declared.Thing.the-variants.{Song, Instrument, Pattern, Sample, VolumeEnvelope, PanningEnvelope}
 use Rattle.module.specs.Verdicts.{opened}
-use Rattle.queries.specs.Finding.{kindOf, chunkOf, countOf, firstOf, there, blockOf, foundIn, foundIf, found}
+use Rattle.queries.specs.Finding.{firstOf, there, blockOf, foundIn, foundIf, found}
 use Rattle.queries.specs.declared.Found.the-variants.{At, Refused}
-use Rattle.queries.specs.declared.Thing.{Thing}
-use Rattle.queries.specs.declared.Thing.the-variants.{Song, Instrument, Pattern, Sample, VolumeEnvelope, PanningEnvelope}
 use Rattle.summary.specs.Shown.{nameOf}
-use Rattle.grammar.specs.Rules.{Bytes, Every, Among, EnvelopesRules, Filled, Covered, nameLetters, infoLetters, venvLetters, penvLetters}
-use Rattle.grammar.proofs.Standing.{Stands, Found as Standing, LayoutOf}
-use Rattle.grammar.proofs.Locating.{PartAt, part-inside, part-is}
-use Rattle.grammar.proofs.Holding.{and-says, ltb-says, false-never, every-of, every-at}
-use Rattle.grammar.proofs.Cutting.{Sized, part-rest, block-there}
-use Rattle.grammar.proofs.Identifiers.{identifierOf}
-use Rattle.grammar.proofs.ChunkHalf.{stands-part}
-use Rattle.grammar.proofs.FillingChunks.{BlocksIn, filled-blocks}
-use Rattle.grammar.proofs.BlockFields.{song-sized, instrument-sized, sample-sized, envelope-sized}
-use Rattle.grammar.proofs.ContentHalf.{counted, count-same}
+use Rattle.acceptance.specs.Rules.{Among, EnvelopesRules, Filled, Covered}
+use Rattle.acceptance.proofs.Standing.{Stands, Found as Standing, LayoutOf}
+use Rattle.acceptance.proofs.Locating.{PartAt, part-inside, part-is}
+use Rattle.acceptance.proofs.Holding.{and-says, ltb-says, false-never}
+use Rattle.acceptance.proofs.Cutting.{Sized, part-rest, block-there}
+use Rattle.acceptance.proofs.Identifiers.{identifierOf}
+use Rattle.acceptance.proofs.ChunkHalf.{stands-part}
+use Rattle.acceptance.proofs.FillingChunks.{BlocksIn, filled-blocks}
+use Rattle.acceptance.proofs.BlockFields.{song-sized, instrument-sized, sample-sized, envelope-sized}
+use Rattle.acceptance.proofs.ContentHalf.{counted, count-same}
 use Rattle.showing.proofs.Alike.{SameBlock, SamePattern, SameThing, FoundAlike, neither, both, Alike}
 use Rattle.repack.specs.Repacked.{repackedModule}
 use Rattle.repacking.proofs.BlockAnew.{blockAnew, packed-same, rows-same, SoundBlock, anew-sound, anew-rows, anew-cells}

@@ -6,18 +6,16 @@ use mathlib.Core.List.{List, [], _∷_, _++_, map, append-assoc, append-nil}
 use native.Mathlib.Omega.{arith}
 use lib.ListN.{length, take, replicate, length-append}
 use lib.Seq.{take-at, length-take-le}
+use Rattle.vocabulary.specs.Lists.{joined, Every, none, also}
 use Rattle.refusal.specs.declared.Verdict.the-variants.{Accepted}
-use Rattle.cells.specs.Cells.{joined}
 use Rattle.packed_rows.specs.Packer.{packedStream}
 use Rattle.numbers.specs.Numbers.{number16, number32, partOf, bytes32}
 use Rattle.blocks.specs.Sizes.{sizeOf, placesFrom}
 use Rattle.blocks.specs.declared.Kind.the-variants.{Pattern}
 use Rattle.module.specs.Streams.{packedBytes, streamVerdict}
-use Rattle.grammar.specs.Rules.{Every, none, also}
-use Rattle.grammar.proofs.Locating.{PartAt, number16-start, number16-front, number16-take, part-length, part-there, part-is}
-use Rattle.grammar.proofs.AllBytes.{bytes32-number}
-use Rattle.grammar.proofs.Cutting.{Sized, sized-least, part-first, part-rest, part-front, part-size}
-use Rattle.grammar.proofs.BlockStreams.{stream-same}
+use Rattle.acceptance.proofs.Locating.{number16-front, number16-take, PartAt, number16-start, part-is, part-length, part-there, bytes32-number}
+use Rattle.acceptance.proofs.Cutting.{Sized, sized-least, part-first, part-rest, part-front, part-size}
+use Rattle.acceptance.proofs.BlockStreams.{stream-same}
 use Rattle.repack.specs.Repacked.{packed, repackedStream, repackedBlock}
 use Rattle.repack.proofs.Anew.{block-size, block-shorter}
 use Rattle.repacking.proofs.PackedAgain.{rowsHeld, packed-accepted, packed-rows}

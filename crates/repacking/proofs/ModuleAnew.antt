@@ -7,9 +7,14 @@ use native.Mathlib.Omega.{arith}
 use lib.ListN.{length, take, replicate, length-append, length-map}
 use lib.Seq.{length-take-le}
 use lib.Dec.{eqb}
+use Rattle.vocabulary.specs.Lists.{joined, Every, none, also}
+use Rattle.vocabulary.specs.Letters.{pattLetters}
+use Rattle.vocabulary.proofs.EveryOne.{every-of, every-both, every-first, every-one}
+use Rattle.vocabulary.proofs.JoinedLists.{joined-shorter}
+use Rattle.vocabulary.proofs.MappedLists.{every-map}
 use Rattle.refusal.specs.declared.Verdict.the-variants.{Accepted}
-use Rattle.cells.specs.Cells.{joined}
-use Rattle.numbers.specs.Numbers.{number16, number32, bytes32}
+use Rattle.numbers.specs.Numbers.{Bytes, number16, number32, bytes32}
+use Rattle.numbers.proofs.AllBytes.{bytes-append, bytes-front, bytes-behind, bytes-take, bytes-of-part, bytes-joined, bytes-replicate, bytes32-bytes}
 use Rattle.layout.specs.Chunks.{PATT}
 use Rattle.layout.specs.declared.Layout.{Layout}
 use Rattle.layout.specs.declared.Outline.the-variants.{Found}
@@ -17,34 +22,27 @@ use Rattle.blocks.specs.Sizes.{sizeOf, placesFrom}
 use Rattle.blocks.specs.declared.Kind.the-variants.{Pattern}
 use Rattle.module.specs.Streams.{packedBytes, patternStreamRules, streamVerdict}
 use Rattle.module.specs.Verdicts.{opened, verdictOf}
-use Rattle.grammar.specs.Rules.{Bytes, Every, none, also, ChunkBytes, Among, Covered, ChunkRules, Filled, PatternRules, Rules, pattLetters}
-use Rattle.grammar.proofs.Standing.{LayoutOf}
-use Rattle.grammar.proofs.Locating.{PartAt, part-inside}
-use Rattle.grammar.proofs.Holding.{AllHold, every-of, every-both, every-first, every-one}
-use Rattle.grammar.proofs.AllBytes.{bytes-append, bytes-front, bytes-behind, bytes-take, bytes-of-part, bytes-joined, bytes-replicate, bytes32-bytes}
-use Rattle.grammar.proofs.MappedLists.{every-map}
-use Rattle.grammar.proofs.Cutting.{Sized, part-first, part-rest, places-blocks}
-use Rattle.grammar.proofs.Identifiers.{identifierOf}
-use Rattle.grammar.proofs.Recorded.{every-among}
-use Rattle.grammar.proofs.ChunkHalf.{bytes-split}
-use Rattle.grammar.proofs.ChangedChunks.{Change, among-changed, among-left, left-among, rules-changed, info-left, bytes-changed, alone-length}
-use Rattle.grammar.proofs.ChangedData.{withData, data-size, data-filled, data-bytes, data-same-but, data-there}
-use Rattle.grammar.proofs.FillingChunks.{BlocksIn, filled-blocks}
-use Rattle.grammar.proofs.BlockStreams.{accepted-says, pattern-sized, pattern-holds}
-use Rattle.grammar.proofs.ContentHalf.{counted}
-use Rattle.grammar.proofs.Acceptance.{rules-open, accepted-exactly}
-use Rattle.grammar.proofs.ChangedModule.{BlocksAfter, info-stays, filled-left, changed-opens}
-use Rattle.grammar.proofs.FoundBlocks.{Opens, module-opens}
+use Rattle.acceptance.specs.Rules.{ChunkBytes, Among, Covered, ChunkRules, Filled, PatternRules, Rules}
+use Rattle.acceptance.proofs.Standing.{LayoutOf}
+use Rattle.acceptance.proofs.Locating.{PartAt, part-inside}
+use Rattle.acceptance.proofs.Holding.{AllHold}
+use Rattle.acceptance.proofs.Cutting.{Sized, part-first, part-rest, places-blocks}
+use Rattle.acceptance.proofs.Identifiers.{identifierOf}
+use Rattle.acceptance.proofs.Recorded.{every-among}
+use Rattle.acceptance.proofs.ChunkHalf.{bytes-split}
+use Rattle.acceptance.proofs.ChangedChunks.{Change, among-changed, among-left, left-among, rules-changed, info-left, bytes-changed, alone-length}
+use Rattle.acceptance.proofs.ChangedData.{withData, data-size, data-filled, data-bytes, data-same-but, data-there}
+use Rattle.acceptance.proofs.FillingChunks.{BlocksIn, filled-blocks}
+use Rattle.acceptance.proofs.BlockStreams.{accepted-says, pattern-sized, pattern-holds}
+use Rattle.acceptance.proofs.ContentHalf.{counted}
+use Rattle.acceptance.proofs.Acceptance.{rules-open, accepted-exactly}
+use Rattle.acceptance.proofs.ChangedModule.{BlocksAfter, info-stays, filled-left, changed-opens}
+use Rattle.acceptance.proofs.OpenModules.{Opens, module-opens}
 use Rattle.repack.specs.Repacked.{packed, repackedStream, repackedBlock, repackedPatterns, repackedModule}
 use Rattle.repack.proofs.Anew.{packed-size}
 use Rattle.repack.proofs.ChunksAnew.{chunkAnew, patt-change, module-anew}
 use Rattle.repacking.proofs.PackedBytes.{packed-bytes}
 use Rattle.repacking.proofs.BlockAnew.{blockAnew, packed-same, rows-same, blocks-anew, SoundBlock, anew-sound, anew-shorter}
-
--- Blocks that become no longer, one behind the other.
-pub joined-shorter : (g : List ℕ → List ℕ) {blocks : List (List ℕ)} → Every (λ block. length (g block) ≤ length block) blocks → length (joined (map g blocks)) ≤ length (joined blocks)
-joined-shorter g none = omega arith
-joined-shorter g (also {x = block} {xs = blocks} h e) = omega (arith, length-append (g block) (joined (map g blocks)), length-append block (joined blocks), joined-shorter g e)
 
 -- No block is longer than the module that they stand in.
 blocks-inside : {m : List ℕ} {at : ℕ} (blocks : List (List ℕ)) → PartAt m at (joined blocks) → Every (λ block. length block ≤ length m) blocks

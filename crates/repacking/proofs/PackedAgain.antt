@@ -10,8 +10,7 @@ use Rattle.packed_rows.specs.Packer.{packedStream}
 use Rattle.packed_rows.specs.Answers.{checkAnswer}
 use Rattle.packed_rows.proofs.Accepted.{accepted-stream, accepted-rows, accepted-length}
 use Rattle.packed_rows.proofs.Theorems.{round-trip, accepts-exactly}
-use Rattle.grammar.proofs.BlockStreams.{accepted-sizes}
-use Rattle.grammar.proofs.FoundPatterns.{holds}
+use Rattle.acceptance.proofs.BlockStreams.{accepted-sizes, holds}
 
 -- The rows that a stream holds.
 abbrev pub rowsHeld : ℕ → ℕ → List ℕ → List Row

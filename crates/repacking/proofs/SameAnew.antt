@@ -7,35 +7,37 @@ use native.Mathlib.Omega.{arith}
 use native.Mathlib.Nat.{add-assoc, add-zero}
 use lib.ListN.{length, getD, take, drop, replicate, length-append, length-drop, length-replicate, take-append-drop}
 use lib.Seq.{take-at, drop-at, drop-drop, take-all, length-take-le}
-use Rattle.cells.specs.Cells.{joined}
-use Rattle.numbers.specs.Numbers.{number16, number32, partOf, bytes32}
+use Rattle.vocabulary.specs.Lists.{joined, Every, none, also}
+use Rattle.vocabulary.proofs.EveryOne.{every-at, every-of}
+use Rattle.vocabulary.proofs.MappedLists.{map-stays}
+use Rattle.vocabulary.proofs.JoinedLists.{joined-shorter}
+use Rattle.numbers.specs.Numbers.{Bytes, number16, number32, partOf, bytes32}
+use Rattle.numbers.proofs.AllBytes.{bytes-drop, bytes32-bytes}
 use Rattle.layout.specs.Chunks.{PATT}
 use Rattle.layout.specs.declared.Layout.{Layout}
 use Rattle.layout.specs.declared.Outline.the-variants.{Found}
 use Rattle.blocks.specs.Sizes.{sizeOf, placeAfter}
 use Rattle.blocks.specs.declared.Kind.the-variants.{Pattern as PatternKind}
+use Rattle.blocks.specs.declared.Thing.the-variants.{Pattern}
 use Rattle.module.specs.Streams.{packedBytes}
 use Rattle.module.specs.Verdicts.{opened}
 use Rattle.queries.specs.Finding.{found, blockOf}
 use Rattle.queries.specs.declared.Block.{Block}
 use Rattle.queries.specs.declared.Found.the-variants.{At}
-use Rattle.queries.specs.declared.Thing.the-variants.{Pattern}
-use Rattle.grammar.specs.Rules.{Bytes, Every, none, also, Covered}
-use Rattle.grammar.proofs.Locating.{PartAt, number32-at, number32-drop, part-length, part-there, part-is, part-of-part}
-use Rattle.grammar.proofs.Holding.{every-at, every-of}
-use Rattle.grammar.proofs.AllBytes.{bytes-drop, bytes32-bytes}
-use Rattle.grammar.proofs.MappedLists.{map-stays}
-use Rattle.grammar.proofs.Cutting.{Sized, sized-least, block-there}
-use Rattle.grammar.proofs.Identifiers.{number-letters}
-use Rattle.grammar.proofs.ChangedChunks.{split-alone}
-use Rattle.grammar.proofs.ChangedData.{withData, data-same-but}
-use Rattle.grammar.proofs.FoundBlocks.{found-numbered, counted-found}
+use Rattle.queries.proofs.Numbering.{counted-found}
+use Rattle.acceptance.specs.Rules.{Covered}
+use Rattle.acceptance.proofs.Locating.{PartAt, number32-at, number32-drop, part-length, part-there, part-is, part-of-part}
+use Rattle.acceptance.proofs.Cutting.{Sized, sized-least, block-there}
+use Rattle.acceptance.proofs.Identifiers.{number-letters}
+use Rattle.acceptance.proofs.ChangedChunks.{split-alone}
+use Rattle.acceptance.proofs.ChangedData.{withData, data-same-but}
+use Rattle.query_theorems.proofs.FoundBlocks.{found-numbered}
 use Rattle.repack.specs.Repacked.{packed, repackedStream, repackedPatterns, repackedModule}
 use Rattle.repack.proofs.Accepting.{patterns-in, module-replaced}
 use Rattle.repacking.specs.Packed.{fillerOf, PackedAt}
 use Rattle.numbers.proofs.Stored.{bytes32-again}
 use Rattle.repacking.proofs.BlockAnew.{blockAnew, packed-same, rows-same, SoundBlock, anew-length, anew-stream, filler-part, anew-shorter}
-use Rattle.repacking.proofs.ModuleAnew.{header, patt, pattThere, all-of, blocks, blocks-in, blocks-bytes, sound-blocks, rules, data-is, joined-shorter, patt-bytes, patt-changed, patt-below, patt-size, repacked-size, repacked-bytes}
+use Rattle.repacking.proofs.ModuleAnew.{header, patt, pattThere, all-of, blocks, blocks-in, blocks-bytes, sound-blocks, rules, data-is, patt-bytes, patt-changed, patt-below, patt-size, repacked-size, repacked-bytes}
 
 -- The 4 bytes at a place are those of their number.
 number-small : (xs : List ℕ) (at : ℕ) → Bytes xs → number32 xs at < 0x100000000

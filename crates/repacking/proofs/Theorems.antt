@@ -18,16 +18,16 @@ use native.Mathlib.Omega.{arith}
 use lib.ListN.{length}
 use borrow.Author.Tests.{le-ltb}
 use Rattle.refusal.specs.declared.Verdict.the-variants.{Accepted}
+use Rattle.numbers.specs.Numbers.{Bytes}
 use Rattle.layout.specs.declared.Layout.{Layout}
 use Rattle.layout.specs.declared.Outline.the-variants.{Found}
+use Rattle.blocks.specs.declared.Thing.the-variants.{Pattern}
 use Rattle.module.specs.Verdicts.{opened, verdictOf, moduleVerdict}
 use Rattle.queries.specs.Finding.{found}
 use Rattle.refusal.specs.Lengths.{writtenLength}
 use Rattle.queries.specs.declared.Block.{Block}
 use Rattle.queries.specs.declared.Found.the-variants.{At}
-use Rattle.queries.specs.declared.Thing.the-variants.{Pattern}
-use Rattle.grammar.specs.Rules.{Bytes}
-use Rattle.grammar.proofs.FoundBlocks.{accepted-opens}
+use Rattle.acceptance.proofs.OpenModules.{accepted-opens}
 use Rattle.showing.specs.Showing.{ShowsSame}
 use Rattle.showing.proofs.Theorems.{alike-shows}
 use Rattle.repack.specs.Repacked.{repackedModule, repackAnswerIf, repackAnswer, repacked}

@@ -10,7 +10,7 @@ use native.Mathlib.Omega.{arith}
 use native.Mathlib.Numerals.{add-one, unary-clauses}
 use lib.ListN.{length, drop, set, length-append, length-drop}
 use lib.IntN.{ℤ}
-use Rattle.cells.specs.Cells.{joined}
+use Rattle.vocabulary.specs.Lists.{joined}
 use Rattle.numbers.specs.Numbers.{signed16, eachFrom, bytes16, unsigned16, putAt}
 use Rattle.numbers.proofs.PutBytes.{put-behind, put-sets}
 use Rattle.samples.proofs.SixteenBits.{stored-again}

@@ -1,7 +1,7 @@
 -- A definition that private functions cite: so many frames at 16 bits from a place on, 2 bytes each.
 use Prim.Native.Nat.{ℕ, _+_, _*_}
 use mathlib.Core.List.{List}
-use Rattle.cells.specs.Cells.{joined}
+use Rattle.vocabulary.specs.Lists.{joined}
 use Rattle.numbers.specs.Numbers.{eachFrom, bytes16, unsigned16}
 use Rattle.samples.specs.Shown.{frame16}
 

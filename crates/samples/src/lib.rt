@@ -1,5 +1,6 @@
 // Samples: width and frames, the frames as the part of the module that they are, one frame and all frames at 16 bits. Each query
 // gives the module's own refusal, then 18, then 17.
+use blocks::Thing;
 use blocks::width;
 use numbers::byte;
 use numbers::number16;
@@ -7,7 +8,6 @@ use numbers::number32;
 use numbers::part;
 use numbers::signed;
 use queries::Found;
-use queries::Thing;
 use queries::find;
 use refusal::Cause;
 use refusal::LengthAnswer;

@@ -13,17 +13,18 @@ use Rattle.layout.specs.declared.Layout.{Layout}
 use Rattle.layout.specs.declared.Outline.the-variants.{Found as Opened}
 use Rattle.blocks.specs.Sizes.{envelopeCount}
 use Rattle.blocks.specs.declared.Kind.{Kind}
+use Rattle.blocks.specs.Things.{kindOf}
+use Rattle.blocks.specs.declared.Thing.{Thing}
+use Rattle.blocks.specs.declared.Thing.the-variants.{Song, Instrument, Pattern, Sample, VolumeEnvelope, PanningEnvelope}
 use Rattle.module.specs.Streams.{packedBytes}
 use Rattle.module.specs.Verdicts.{opened}
-use Rattle.queries.specs.Finding.{kindOf, found}
+use Rattle.queries.specs.Finding.{found}
 use Rattle.queries.specs.declared.Block.{Block}
 use Rattle.queries.specs.declared.Found.{Found}
 use Rattle.queries.specs.declared.Found.the-variants.{At, Refused}
-use Rattle.queries.specs.declared.Thing.{Thing}
-use Rattle.queries.specs.declared.Thing.the-variants.{Song, Instrument, Pattern, Sample, VolumeEnvelope, PanningEnvelope}
 use Rattle.summary.specs.Shown.{nameOf}
-use Rattle.grammar.proofs.Locating.{PartAt}
-use Rattle.grammar.proofs.Cutting.{Sized}
+use Rattle.acceptance.proofs.Locating.{PartAt}
+use Rattle.acceptance.proofs.Cutting.{Sized}
 
 -- The same block stands in both modules, at two places.
 pub record SameBlock (kind : Kind) (m n : List ℕ) (at to : ℕ) : Type 0 where

@@ -6,12 +6,12 @@ use mathlib.Core.List.{List}
 use Rattle.refusal.specs.declared.Refusal.{Refusal}
 use Rattle.layout.specs.declared.Outline.{Outline}
 use Rattle.layout.specs.declared.Outline.the-variants.{Found as Opened}
+use Rattle.blocks.specs.declared.Thing.{Thing}
 use Rattle.module.specs.Verdicts.{opened}
 use Rattle.queries.specs.Finding.{found}
 use Rattle.queries.specs.declared.Block.{Block}
 use Rattle.queries.specs.declared.Found.{Found}
 use Rattle.queries.specs.declared.Found.the-variants.{At, Refused}
-use Rattle.queries.specs.declared.Thing.{Thing}
 use Rattle.showing.proofs.Alike.{SameThing, FoundAlike, neither, both, Alike}
 
 module _ {m n : List ℕ} (a : Alike m n) {A : Type 0} where

@@ -10,8 +10,8 @@ use Rattle.numbers.specs.Numbers.{byteAt, number16, number32, partOf, eachFrom,
 use Rattle.numbers.proofs.Parts.{bytes-part}
 use Rattle.blocks.specs.Sizes.{sizeOf}
 use Rattle.blocks.specs.declared.Kind.{Kind}
-use Rattle.grammar.proofs.Locating.{byteAt-at, part-inside, same-number16, same-number32}
-use Rattle.grammar.proofs.Cutting.{part-size}
+use Rattle.acceptance.proofs.Locating.{byteAt-at, part-inside, same-number16, same-number32}
+use Rattle.acceptance.proofs.Cutting.{part-size}
 use Rattle.showing.proofs.Alike.{SameBlock}
 
 -- What two functions give is the same, so many of them from two numbers on.

@@ -5,7 +5,7 @@ use mathlib.Core.List.{List}
 use native.Mathlib.Omega.{arith}
 use Rattle.blocks.specs.Sizes.{sizeOf}
 use Rattle.blocks.specs.declared.Kind.the-variants.{Instrument as InstrumentKind}
-use Rattle.queries.specs.declared.Thing.the-variants.{Instrument}
+use Rattle.blocks.specs.declared.Thing.the-variants.{Instrument}
 use Rattle.instruments.specs.Shown.{shownInstrument, instrumentIf, instrumentAnswer}
 use Rattle.showing.proofs.Alike.{SameBlock, Alike}
 use Rattle.showing.proofs.SameBytes.{same-16, same-32, same-front}

@@ -3,14 +3,15 @@ use Prim.Native.Nat.{ℕ, _+_}
 use mathlib.Core.Path.{_≡_, refl, sym, ap, _∙_}
 use mathlib.Core.List.{List, []}
 use lib.ListN.{length}
-use Rattle.cells.specs.Cells.{joined}
+use Rattle.vocabulary.specs.Lists.{joined}
 use Rattle.numbers.specs.Numbers.{eachFrom, bytes16}
-use Rattle.queries.specs.Finding.{countOf, firstOf, found}
 use Rattle.refusal.specs.Lengths.{lengthIf, outputIf}
+use Rattle.blocks.specs.Things.{countOf}
+use Rattle.blocks.specs.declared.Thing.{Thing}
+use Rattle.blocks.specs.declared.Thing.the-variants.{Song, Instrument, Pattern, Sample, VolumeEnvelope, PanningEnvelope}
+use Rattle.queries.specs.Finding.{firstOf, found}
 use Rattle.queries.specs.declared.Found.{Found}
 use Rattle.queries.specs.declared.Found.the-variants.{At, Refused}
-use Rattle.queries.specs.declared.Thing.{Thing}
-use Rattle.queries.specs.declared.Thing.the-variants.{Song, Instrument, Pattern, Sample, VolumeEnvelope, PanningEnvelope}
 use Rattle.songs.specs.Shown.{shownSong, playlistBytes}
 use Rattle.songs.specs.declared.SongAnswer.{SongAnswer}
 use Rattle.envelopes.specs.declared.EnvelopeKind.the-variants.{Volume, Panning}

@@ -9,13 +9,13 @@ use native.Mathlib.Nat.{add-assoc, mul-le-mul-right}
 use lib.Dec.{ltb}
 use lib.IntN.{ℤ}
 use borrow.Author.Tests.{ltb-true}
-use Rattle.cells.specs.Cells.{joined}
+use Rattle.vocabulary.specs.Lists.{joined}
 use Rattle.numbers.specs.Numbers.{number32, partOf, bytes16, unsigned16}
 use Rattle.blocks.specs.Sizes.{sizeOf}
 use Rattle.blocks.specs.declared.Kind.the-variants.{Sample as SampleKind}
-use Rattle.queries.specs.declared.Thing.the-variants.{Sample}
+use Rattle.blocks.specs.declared.Thing.the-variants.{Sample}
 use Rattle.samples.specs.Shown.{frameBytes, frameCount, shownSample, sampleIf, sampleAnswer, framesIf, frame16, frameOf, frameIn, frameIf, frameAnswer, allFrames, allFramesIf, allFramesAnswer, allFramesOutputIn, allFramesOutputIf, allFramesOutput}
-use Rattle.grammar.proofs.SampleFrames.{frames-in}
+use Rattle.query_theorems.proofs.SampleFrames.{frames-in}
 use Rattle.showing.specs.Showing.{SameFrames}
 use Rattle.showing.proofs.Alike.{SameBlock, Alike}
 use Rattle.showing.proofs.SameBytes.{each-same, same-if, same-byte, same-16, same-32, same-first32, same-part}

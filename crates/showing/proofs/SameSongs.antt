@@ -9,7 +9,7 @@ use borrow.Author.Tests.{ltb-true}
 use Rattle.numbers.specs.Numbers.{number16}
 use Rattle.blocks.specs.Sizes.{sizeOf}
 use Rattle.blocks.specs.declared.Kind.the-variants.{Song as SongKind}
-use Rattle.queries.specs.declared.Thing.the-variants.{Song}
+use Rattle.blocks.specs.declared.Thing.the-variants.{Song}
 use Rattle.songs.specs.Shown.{shownSong, songIf, songAnswer, entryIn, entryIf, entryAnswer, playlistBytes, playlistIf, playlistAnswer, playlistOutputIn, playlistOutputIf, playlistOutput}
 use Rattle.showing.proofs.Alike.{SameBlock, Alike}
 use Rattle.showing.proofs.SameBytes.{same-if, same-16, same-front, same-bytes}

@@ -9,12 +9,12 @@ use Rattle.refusal.specs.Numbers.{refusal, noRefusal, refusedOutcome}
 use Rattle.refusal.specs.declared.Cause.the-variants.{NotThere}
 use Rattle.refusal.specs.declared.Refusal.{Refusal}
 use Rattle.numbers.specs.Numbers.{number16, bytesFrom}
+use Rattle.blocks.specs.declared.Thing.the-variants.{Song}
 use Rattle.queries.specs.Finding.{found}
 use Rattle.refusal.specs.Lengths.{refusedLength, lengthIf, outputIf}
 use Rattle.queries.specs.declared.Found.{Found}
 use Rattle.queries.specs.declared.Found.the-variants.{At, Refused}
 use Rattle.refusal.specs.declared.LengthAnswer.{LengthAnswer}
-use Rattle.queries.specs.declared.Thing.the-variants.{Song}
 use Rattle.songs.specs.declared.SongAnswer.{SongAnswer}
 use Rattle.songs.specs.declared.EntryAnswer.{EntryAnswer}
 

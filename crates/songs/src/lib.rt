@@ -1,8 +1,8 @@
 // Songs: name and length, one entry of a playlist, and a whole playlist. Each query gives the module's own refusal, then 18, then 17.
+use blocks::Thing;
 use numbers::copy;
 use numbers::number16;
 use queries::Found;
-use queries::Thing;
 use queries::find;
 use queries::name44;
 use refusal::Cause;

@@ -1,6 +1,6 @@
 use borrow.Author.Needs.{needs}
 use native.Mathlib.Omega.{arith}
-use Rattle.queries.specs.declared.Thing.the-variants.{Instrument, Pattern, Sample, VolumeEnvelope, PanningEnvelope}
+use Rattle.blocks.specs.declared.Thing.the-variants.{Instrument, Pattern, Sample, VolumeEnvelope, PanningEnvelope}
 use Rattle.records.proofs.Accepting.{songs-told, told, instruments-length, patterns-length, samples-length, volumes-length, pannings-length}
 use Rattle.records.proofs.records_length.Statement.{statement}
 use Rattle.records.proofs.records_length.Tie as tie

@@ -2,7 +2,7 @@ use borrow.Author.Needs.{needs}
 use mathlib.Core.Path.{refl, sym}
 use lib.Seq.{length-take-le}
 use native.Mathlib.Omega.{arith}
-use Rattle.grammar.proofs.Ends.{slice-bytes}
+use Rattle.numbers.proofs.AllBytes.{slice-bytes}
 use Rattle.records.proofs.WritingRecords.{head-points}
 use Rattle.records.proofs.write_envelope.Statement.{statement}
 use Rattle.records.proofs.write_envelope.Tie as tie

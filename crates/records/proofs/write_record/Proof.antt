@@ -1,6 +1,6 @@
 use borrow.Author.Needs.{needs}
 use mathlib.Core.Path.{_∙_, sym}
-use Rattle.grammar.proofs.Ends.{slice-bytes}
+use Rattle.numbers.proofs.AllBytes.{slice-bytes}
 use Rattle.records.proofs.RecordLengths.{song-length, instrument-length, pattern-length, sample-length, volume-length, panning-length}
 use Rattle.records.proofs.WritingRecords.{room-of, song-written, instrument-written, pattern-written, sample-written, envelope-written}
 use Rattle.records.proofs.write_record.Statement.{statement}

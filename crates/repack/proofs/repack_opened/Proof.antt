@@ -1,6 +1,6 @@
 use borrow.Author.Needs.{needs}
 use native.Mathlib.Omega.{arith}
-use Rattle.grammar.proofs.Ends.{slice-bytes}
+use Rattle.numbers.proofs.AllBytes.{slice-bytes}
 use Rattle.repack.proofs.Accepting.{patterns-in, module-lacks, module-done}
 use mathlib.Core.Path.{_∙_, ap}
 use Rattle.refusal.specs.declared.Refusal.{Refusal}

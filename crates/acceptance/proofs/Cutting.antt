@@ -1,0 +1,160 @@
+-- Blocks that stand one behind the other. The reader finds the place of each block by the sizes of those before it; the rules cut
+-- the data into blocks. Both say the same: data that so many sizes lead through exactly are so many blocks of these sizes, and of
+-- such blocks each stands at its place. A size is read only in bytes that every block of the kind has.
+use Prim.Native.Nat.{ℕ, zero, suc, _+_, _≤_, _<_}
+use mathlib.Core.Path.{_≡_, refl, sym, ap, _∙_}
+use mathlib.Core.List.{List, [], _∷_, _++_, append-assoc}
+use native.Mathlib.Omega.{arith}
+use lib.ListN.{length, getD, take, drop, length-append, length-drop, take-append-drop}
+use lib.Seq.{length-take-le, take-at, take-append-add, take-append-le}
+use Rattle.vocabulary.specs.Lists.{joined, Every, none, also}
+use Rattle.numbers.specs.Numbers.{partOf}
+use Rattle.blocks.specs.Sizes.{sizeOf, placesFrom, placeAfter}
+use Rattle.blocks.specs.declared.Kind.{Kind}
+use Rattle.blocks.specs.declared.Kind.the-variants.{Song, Instrument, Pattern, Sample, Envelope}
+use Rattle.acceptance.proofs.Locating.{PartAt, number16-at, number32-at, number32-start, part-is}
+
+-- A part of two parts.
+module _ {m : List ℕ} {at : ℕ} (first rest : List ℕ) (p : PartAt m at (first ++ rest)) where
+  pub part-first : PartAt m at first
+  part-first = record { before = p .before; after = rest ++ p .after; bytes = p .bytes ∙ simp append-assoc; starts = p .starts }
+
+  pub part-rest : PartAt m (at + length first) rest
+  part-rest = record { before = p .before ++ first; after = p .after; bytes = p .bytes ∙ simp append-assoc; starts = rw (length-append, p .starts) }
+
+-- The front of a part, and the module up to the front's end.
+module _ {m part : List ℕ} {at : ℕ} (p : PartAt m at part) (k : ℕ) (h : k ≤ length part) where
+  pub part-front : partOf m at k ≡ take k part
+  part-front =
+      let front : PartAt m at (take k part) = part-first (take k part) (drop k part) (rw (take-append-drop k part) p) in
+      ap (partOf m at) (sym (length-take-le k part h)) ∙ part-is front
+
+  pub front-taken : take (at + k) m ≡ take at m ++ take k part
+  front-taken =
+      let rest : List ℕ = part ++ p .after in
+      let before : take at m ≡ p .before = ap (take at) (p .bytes) ∙ take-at (p .before) rest at (p .starts) in
+      ap (take (at + k)) (p .bytes)
+      ∙ ap (λ (n : ℕ). take (n + k) (p .before ++ rest)) (sym (p .starts))
+      ∙ take-append-add (p .before) rest k
+      ∙ ap (λ (l : List ℕ). p .before ++ l) (take-append-le k part (p .after) h)
+      ∙ ap (λ (l : List ℕ). l ++ take k part) (sym before)
+
+-- The bytes that every block of a kind has.
+abbrev pub least : Kind → ℕ
+least Song = 46
+least Instrument = 50
+least Pattern = 6
+least Sample = 8
+least Envelope = 136
+
+pub size-least : (kind : Kind) (m : List ℕ) (at : ℕ) → least kind ≤ sizeOf kind m at
+unfolding sizeOf
+size-least Song m at = omega arith
+size-least Instrument m at = omega arith
+size-least Pattern m at = omega arith
+size-least Sample m at = omega arith
+size-least Envelope m at = omega arith
+
+pub size-some : (kind : Kind) (m : List ℕ) (at : ℕ) → 0 < sizeOf kind m at
+unfolding sizeOf
+size-some Song m at = omega arith
+size-some Instrument m at = omega arith
+size-some Pattern m at = omega arith
+size-some Sample m at = omega arith
+size-some Envelope m at = omega arith
+
+-- A block that is as long as its own bytes say.
+abbrev pub Sized : Kind → List ℕ → Type 0
+Sized kind block = length block ≡ sizeOf kind block 0
+
+pub sized-least : (kind : Kind) (block : List ℕ) → Sized kind block → least kind ≤ length block
+sized-least kind block s = rw s (size-least kind block 0)
+
+-- The size that is read at the block's place is that in the block.
+pub size-in-part : (kind : Kind) {m block : List ℕ} {at : ℕ} → PartAt m at block → least kind ≤ length block → sizeOf kind m at ≡ sizeOf kind block 0
+unfolding sizeOf
+size-in-part Song p h = rw (number16-at p 44 (omega arith))
+size-in-part Instrument p h = refl
+size-in-part Pattern p h = rw (number32-at p 2 (omega arith))
+size-in-part Sample p h = rw (number32-at p 4 (omega arith), number32-start p (omega arith))
+size-in-part Envelope p h = refl
+
+module _ (kind : Kind) {m : List ℕ} where
+  pub part-size : {block : List ℕ} {at : ℕ} → PartAt m at block → Sized kind block → sizeOf kind m at ≡ length block
+  part-size {block} p s = size-in-part kind p (sized-least kind block s) ∙ sym s
+
+  pub part-sized : {block : List ℕ} {at : ℕ} → PartAt m at block → length block ≡ sizeOf kind m at → Sized kind block
+  part-sized {block} {at} p e = e ∙ size-in-part kind p (rw e (size-least kind m at))
+
+-- No place before the first.
+pub after-least : (size : ℕ → ℕ) (n at : ℕ) → at ≤ placeAfter size n at
+after-least size zero at = omega arith
+after-least size (suc n) at = omega (arith, after-least size n (at + size at))
+
+pub after-first : (size : ℕ → ℕ) (n at first : ℕ) → size at ≡ first → placeAfter size (suc n) at ≡ placeAfter size n (at + first)
+after-first size n at first e = ap (λ (k : ℕ). placeAfter size n (at + k)) e
+
+-- Data cut into so many blocks.
+pub record Cut (kind : Kind) (n : ℕ) (bytes : List ℕ) : Type 0 where
+  pub blocks : List (List ℕ)
+  pub number : length blocks ≡ n
+  pub all : bytes ≡ joined blocks
+  pub sized : Every (Sized kind) blocks
+
+pub cut : (kind : Kind) (m : List ℕ) (n at : ℕ) (bytes : List ℕ) → PartAt m at bytes → placeAfter (sizeOf kind m) n at ≡ at + length bytes → Cut kind n bytes
+cut kind m zero at [] p e = record { blocks = []; number = refl; all = refl; sized = none }
+cut kind m zero at (x ∷ bytes) p e = absurd (omega arith)
+cut kind m (suc n) at bytes p e = more (cut kind m n (at + length block) (drop size bytes) (part-rest block (drop size bytes) parts) (rw (block-size, length-drop) (e ∙ omega (arith, fits))))
+  where
+    size : ℕ
+    size = sizeOf kind m at
+
+    fits : size ≤ length bytes
+    fits = omega (arith, after-least (sizeOf kind m) n (at + size), e)
+
+    block : List ℕ
+    block = take size bytes
+
+    block-size : length block ≡ size
+    block-size = length-take-le size bytes fits
+
+    parts : PartAt m at (block ++ drop size bytes)
+    parts = rw take-append-drop p
+
+    more : Cut kind n (drop size bytes) → Cut kind (suc n) bytes
+    more c = record {
+      blocks = block ∷ c .blocks;
+      number = ap suc (c .number);
+      all = sym (take-append-drop size bytes) ∙ ap (λ (rest : List ℕ). block ++ rest) (c .all);
+      sized = also (part-sized kind (part-first block (drop size bytes) parts) block-size) (c .sized);
+    }
+
+-- Blocks lead to the end of their bytes.
+pub blocks-end : (kind : Kind) {m : List ℕ} {at : ℕ} (blocks : List (List ℕ)) → PartAt m at (joined blocks) → Every (Sized kind) blocks → placeAfter (sizeOf kind m) (length blocks) at ≡ at + length (joined blocks)
+blocks-end kind [] p e = omega arith
+blocks-end kind {at = at} (block ∷ blocks) p (also s e) =
+    after-first (sizeOf kind _) (length blocks) at (length block) (part-size kind (part-first block (joined blocks) p) s)
+    ∙ blocks-end kind blocks (part-rest block (joined blocks) p) e
+    ∙ omega (arith, length-append block (joined blocks))
+
+-- Each block stands at its place.
+pub block-there : (kind : Kind) {m : List ℕ} {at : ℕ} (blocks : List (List ℕ)) (i : ℕ) → i < length blocks → PartAt m at (joined blocks) → Every (Sized kind) blocks → PartAt m (placeAfter (sizeOf kind m) i at) (getD blocks i [])
+block-there kind [] i h p e = absurd (omega arith)
+block-there kind (block ∷ blocks) zero h p e = part-first block (joined blocks) p
+block-there kind (block ∷ blocks) (suc i) h p (also s e) =
+    rw (part-size kind (part-first block (joined blocks) p) s) (block-there kind blocks i (omega arith) (part-rest block (joined blocks) p) e)
+
+-- What holds of every place holds of every block, and back.
+module _ (kind : Kind) {m : List ℕ} {P : ℕ → Type 0} {Q : List ℕ → Type 0} where
+  pub places-blocks : ((at : ℕ) (block : List ℕ) → PartAt m at block → Sized kind block → P at → Q block) → {at : ℕ} (blocks : List (List ℕ)) → PartAt m at (joined blocks) → Every (Sized kind) blocks → Every P (placesFrom (sizeOf kind m) (length blocks) at) → Every Q blocks
+  places-blocks h [] p e f = none
+  places-blocks h {at} (block ∷ blocks) p (also s e) (also x f) =
+      let first = part-first block (joined blocks) p in
+      also (h at block first s x) (places-blocks h blocks (part-rest block (joined blocks) p) e (rw (part-size kind first s) at f))
+
+  pub blocks-places : ((at : ℕ) (block : List ℕ) → PartAt m at block → Sized kind block → Q block → P at) → {at : ℕ} (blocks : List (List ℕ)) → PartAt m at (joined blocks) → Every (Sized kind) blocks → Every Q blocks → Every P (placesFrom (sizeOf kind m) (length blocks) at)
+  blocks-places h [] p e f = none
+  blocks-places h {at} (block ∷ blocks) p (also s e) (also x f) =
+      let first = part-first block (joined blocks) p in
+      let rest = blocks-places h blocks (part-rest block (joined blocks) p) e f in
+      also (h at block first s x) (rw (sym (part-size kind first s)) at rest)

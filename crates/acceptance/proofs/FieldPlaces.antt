@@ -1,0 +1,256 @@
+-- Refusals 12 and 13 (theorem 10): each is at a field of a block, and that field is wrong.
+use Prim.Native.Nat.{ℕ, _+_, _*_, _/_, _%_, _≤_, _<_}
+use mathlib.Core.Path.{_≡_, refl, subst}
+use mathlib.Core.Logic.{_↔_, _⊎_, inl, inr}
+use mathlib.Core.List.{List}
+use mathlib.Core.Bool.{Bool, true, false, not, _&&_, _||_}
+use native.Mathlib.Omega.{arith}
+use lib.ListN.{length}
+use lib.Dec.{eqb, leb, ltb, lit<}
+use borrow.Author.Tests.{leb-true, leb-false, ltb-false, eqb-true}
+use Rattle.vocabulary.proofs.EveryOne.{every-first, every-rest, every-of}
+use Rattle.refusal.specs.Numbers.{refusal}
+use Rattle.refusal.specs.Rules.{Rule, rulesOfEach}
+use Rattle.refusal.specs.declared.Cause.the-variants.{Reference, FieldRange}
+use Rattle.numbers.specs.Numbers.{byteAt, number16}
+use Rattle.layout.specs.declared.Layout.{Layout}
+use Rattle.blocks.specs.Sizes.{blocksOf}
+use Rattle.blocks.specs.declared.Kind.{Kind}
+use Rattle.blocks.specs.declared.Kind.the-variants.{Envelope}
+use Rattle.blocks.specs.Things.{kindOf, chunkOf, countOf}
+use Rattle.blocks.specs.declared.Thing.{Thing}
+use Rattle.blocks.specs.declared.Thing.the-variants.{Song, Instrument, VolumeEnvelope, PanningEnvelope}
+use Rattle.fields.specs.Fields.{panningFits, bit1, bit2, bit3, entryRules, songRules, instrumentRules, envelopeHeadRules, envelopePointRules, valueFits, valueRules, valuesRules, envelopeRules, fieldRules}
+use Rattle.acceptance.specs.Rules.{VolumeFits, PanningValueFits}
+use Rattle.acceptance.specs.Faults.{lettersOf, InstrumentLacks, ReferenceFault, InstrumentFault, EnvelopeFault, FieldFault}
+use Rattle.acceptance.specs.Places.{FieldAt, reference, fieldRange, content}
+use Rattle.acceptance.proofs.Locating.{number16-at, number16-start, part-inside}
+use Rattle.acceptance.proofs.Holding.{leb-says, every-step}
+use Rattle.acceptance.proofs.Recorded.{There}
+use Rattle.acceptance.proofs.ChunkHalf.{Outlined}
+use Rattle.acceptance.proofs.Cutting.{Sized}
+use Rattle.acceptance.proofs.BlockFields.{panning-says, song-size, entry-count, entry-same, instrument-size, envelope-size, byte-same, value-same}
+use Rattle.acceptance.proofs.ContentRules.{BlocksHold}
+use Rattle.acceptance.proofs.ContentHalf.{panning-values}
+use Rattle.acceptance.proofs.FirstBroken.{WhereBroken, no-rule, this-or, broken-append, broken-each, never, both-broken, unless-broken}
+use Rattle.acceptance.proofs.ChunkPlaces.{Placed}
+use Rattle.acceptance.proofs.BlocksThere.{all-chunks, counts, found-of, Begins, each-begins}
+
+module _ {m : List ℕ} {l : Layout} (o : Outlined m l) where
+  abbrev ReferenceAt : ℕ → Type 0
+  ReferenceAt place = Placed m (refusal Reference place)
+
+  abbrev RangeAt : ℕ → Type 0
+  RangeAt place = Placed m (refusal FieldRange place)
+
+  abbrev infoBytes : List ℕ
+  infoBytes = all-chunks o .info
+
+  -- At an offset of a block.
+  module _ {thing : Thing} {at : ℕ} (b : Begins o thing at) where
+    abbrev block : List ℕ
+    block = b .here .block
+
+    module _ {offset : ℕ} (place : ℕ) (same : at + offset ≡ place) (low : offset ≤ length block) where
+      field-at : (Wrong : List ℕ → Thing → ℕ → Type 0) → Wrong block thing offset → FieldAt (all-chunks o) Wrong place
+      field-at Wrong wrong = record { thing = thing; start = at; within = b .here; offset = offset; there = same; wrong = wrong }
+
+      field-inside : place ≤ length m
+      field-inside = omega (arith, part-inside (b .part))
+
+      reference-placed : ReferenceFault infoBytes block thing offset → ReferenceAt place
+      reference-placed fault = (content (all-chunks o) (reference (field-at (ReferenceFault infoBytes) fault)), field-inside)
+
+      range-placed : FieldFault (o .header) block thing offset → RangeAt place
+      range-placed fault = (content (all-chunks o) (fieldRange (field-at (FieldFault (o .header)) fault)), field-inside)
+
+  -- A song: the entries of its playlist.
+  module _ (at : ℕ) (b : Begins o Song at) where
+    entry-placed : (i : ℕ) → i < number16 m (at + 44) → ltb (number16 m (at + 46 + 2 * i)) (l .patterns) ≡ false → ReferenceAt (at + 46 + 2 * i)
+    entry-placed i h e =
+        let p = b .part in
+        let s = b .sized in
+        let low : i < number16 (block b) 44 = rw (entry-count p s) at h in
+        let over = ltb-false (number16 (block b) (46 + 2 * i)) (l .patterns) (rw (entry-same p s i low) at e) in
+        let inside : 46 + 2 * i ≤ length (block b) = omega (arith, song-size p s) in
+        reference-placed b (at + 46 + 2 * i) (omega arith) inside (ReferenceFault.entry i low (omega (arith, counts o .3)))
+
+    song-placed : WhereBroken (Placed m) (songRules m (l .patterns) at)
+    song-placed =
+        broken-each (entryRules m (l .patterns))
+        (every-step _ 2 (number16 m (at + 44)) (at + 46) .1 (λ i h. this-or (entry-placed i h) (λ _. no-rule)))
+
+  -- An instrument: its sample, and volume, panning and flags.
+  module _ (at : ℕ) (b : Begins o Instrument at) where
+    module _ (k : ℕ) (low : k < 49) where
+      number-is : number16 m (at + k) ≡ number16 (block b) k
+      number-is = number16-at (b .part) k (omega (arith, instrument-size (b .part) (b .sized)))
+
+      number-inside : k ≤ length (block b)
+      number-inside = omega (arith, instrument-size (b .part) (b .sized))
+
+      module _ (test : ℕ → Bool) (fault : test (number16 (block b) k) ≡ false → InstrumentFault (block b) k) where
+        number-placed : test (number16 m (at + k)) ≡ false → RangeAt (at + k)
+        number-placed e = range-placed b (at + k) refl number-inside (FieldFault.instrument (fault (rw number-is at e)))
+
+    sample-placed : leb (number16 m (at + 30)) (l .samples) ≡ false → ReferenceAt (at + 30)
+    sample-placed e =
+        let over = leb-false (number16 (block b) 30) (l .samples) (rw (number-is 30 (lit< tt)) at e) in
+        reference-placed b (at + 30) refl (number-inside 30 (lit< tt)) (ReferenceFault.sample (omega (arith, counts o .1)))
+
+    instrument-placed : WhereBroken (Placed m) (instrumentRules m (l .samples) at)
+    instrument-placed =
+        this-or sample-placed λ _.
+        this-or (number-placed 32 (lit< tt) (λ v. leb v 64) (λ e. InstrumentFault.volume (leb-false (number16 (block b) 32) 64 e))) λ _.
+        this-or (number-placed 46 (lit< tt) panningFits (λ e. InstrumentFault.panning (never (panning-says (number16 (block b) 46)) e))) λ _.
+        this-or (number-placed 48 (lit< tt) (λ v. ltb v 4) (λ e. InstrumentFault.flags (ltb-false (number16 (block b) 48) 4 e))) λ _.
+        no-rule
+
+  -- Envelopes: what is wrong in one, as what is wrong in one of volume or of panning; and what its values have to be.
+  record Enveloped (thing : Thing) (signed : Bool) (ValueFits : ℕ → Type 0) : Type 0 where
+    kind : kindOf thing ≡ Envelope
+    absent : chunkOf l thing .present ≡ false → countOf m l thing ≡ 0
+    referring : (block : List ℕ) → InstrumentLacks infoBytes block → ReferenceFault infoBytes block thing 0
+    ranging : (block : List ℕ) (offset : ℕ) → EnvelopeFault ValueFits block offset → FieldFault (o .header) block thing offset
+    says : (v : ℕ) → (valueFits signed v ≡ true) ↔ ValueFits v
+
+  of-volume : Enveloped VolumeEnvelope false VolumeFits
+  of-volume = record {
+    kind = refl;
+    absent = λ e. rw e;
+    referring = λ block. ReferenceFault.ofVolume;
+    ranging = λ block offset. FieldFault.ofVolume;
+    says = λ v. leb-says v 64;
+  }
+
+  of-panning : Enveloped PanningEnvelope (eqb (l .version) 3) (PanningValueFits (byteAt (o .header) 4))
+  of-panning = record {
+    kind = refl;
+    absent = λ e. rw e;
+    referring = λ block. ReferenceFault.ofPanning;
+    ranging = λ block offset. FieldFault.ofPanning;
+    says = λ v. rw (o .layout .version) (panning-values (byteAt (o .header) 4) (o .rules .version) v);
+  }
+
+  module _ {thing : Thing} {signed : Bool} {ValueFits : ℕ → Type 0} (is : Enveloped thing signed ValueFits) (at : ℕ) (b : Begins o thing at) where
+    sized : Sized Envelope (block b)
+    sized = subst (λ (kind : Kind). Sized kind (block b)) (is .kind) (b .sized)
+
+    byte-is : (k : ℕ) → k < 8 → byteAt m (at + k) ≡ byteAt (block b) k
+    byte-is = byte-same (b .part) sized
+
+    module _ {offset : ℕ} (place : ℕ) (same : at + offset ≡ place) (low : offset ≤ 136) where
+      fault-placed : EnvelopeFault ValueFits (block b) offset → RangeAt place
+      fault-placed fault = range-placed b place same (omega (arith, envelope-size (b .part) sized)) (is .ranging (block b) offset fault)
+
+    module _ (k : ℕ) (low : k < 8) (test : ℕ → Bool) (fault : test (byteAt (block b) k) ≡ false → EnvelopeFault ValueFits (block b) k) where
+      byte-placed : test (byteAt m (at + k)) ≡ false → RangeAt (at + k)
+      byte-placed e = fault-placed (at + k) refl (omega arith) (fault (rw (byte-is k low) at e))
+
+    -- The instrument, flags and sections.
+    no-instrument : leb 1 (number16 (block b) 0) && leb (number16 (block b) 0) (l .instruments) ≡ false → InstrumentLacks infoBytes (block b)
+    no-instrument =
+        both-broken (leb 1 (number16 (block b) 0)) (leb (number16 (block b) 0) (l .instruments))
+        (λ none. inl (omega (arith, leb-false 1 (number16 (block b) 0) none)))
+        (λ _ over. inr (omega (arith, leb-false (number16 (block b) 0) (l .instruments) over, counts o .0)))
+
+    instrument-of-placed : leb 1 (number16 m at) && leb (number16 m at) (l .instruments) ≡ false → ReferenceAt at
+    instrument-of-placed e =
+        let start : number16 m at ≡ number16 (block b) 0 = number16-start (b .part) (omega (arith, envelope-size (b .part) sized)) in
+        reference-placed b at (omega arith) (omega arith) (is .referring (block b) (no-instrument (rw start at e)))
+
+    head-placed : WhereBroken (Placed m) (envelopeHeadRules m (l .instruments) at)
+    head-placed =
+        this-or instrument-of-placed λ _.
+        this-or (byte-placed 2 (lit< tt) (λ v. ltb v 16) (λ e. EnvelopeFault.flags (ltb-false (byteAt (block b) 2) 16 e))) λ _.
+        this-or (byte-placed 3 (lit< tt) (λ v. leb v 31) (λ e. EnvelopeFault.sections (leb-false (byteAt (block b) 3) 31 e))) λ _.
+        no-rule
+
+    -- S1, L1, L2 and S2, by the flags and the sections.
+    module _ (flags sections : ℕ) (f : flags ≡ byteAt (block b) 2) (g : sections ≡ byteAt (block b) 3) where
+      module _ (k : ℕ) (low : k < 8) (bit : Bool) (fault : bit ≡ true → byteAt (block b) 3 < byteAt (block b) k → EnvelopeFault ValueFits (block b) k) where
+        point-placed : not bit || leb (byteAt m (at + k)) sections ≡ false → RangeAt (at + k)
+        point-placed e =
+            let (set, over) = unless-broken bit (leb (byteAt m (at + k)) sections) e in
+            byte-placed k low (λ v. leb v sections) (λ broken. fault set (rw g at (leb-false (byteAt (block b) k) sections broken))) over
+
+      first-set : bit1 flags ≡ true → byteAt (block b) 2 / 2 % 2 ≡ 1
+      first-set e = rw f at (eqb-true (flags / 2 % 2) 1 e)
+
+      loop-set : bit2 flags ≡ true → byteAt (block b) 2 / 2 / 2 % 2 ≡ 1
+      loop-set e = rw f at (eqb-true (flags / 2 / 2 % 2) 1 e)
+
+      second-set : bit3 flags ≡ true → byteAt (block b) 2 / 2 / 2 / 2 % 2 ≡ 1
+      second-set e = rw f at (eqb-true (flags / 2 / 2 / 2 % 2) 1 e)
+
+      -- L2 is over the sections, or under L1.
+      module _ (first last : ℕ) where
+        last-over : leb last sections && leb first last ≡ false → (byteAt (block b) 3 < last) ⊎ (last < first)
+        last-over =
+            both-broken (leb last sections) (leb first last)
+            (λ e. inl (rw g at (leb-false last sections e)))
+            (λ _ e. inr (leb-false first last e))
+
+      last-placed : not (bit2 flags) || (leb (byteAt m (at + 6)) sections && leb (byteAt m (at + 5)) (byteAt m (at + 6))) ≡ false → RangeAt (at + 6)
+      last-placed e =
+          let (set, over) = unless-broken (bit2 flags) (leb (byteAt m (at + 6)) sections && leb (byteAt m (at + 5)) (byteAt m (at + 6))) e in
+          let wrong = last-over (byteAt (block b) 5) (byteAt (block b) 6) (rw (byte-is 5 (lit< tt), byte-is 6 (lit< tt)) at over) in
+          fault-placed (at + 6) refl (omega arith) (EnvelopeFault.loopLast (loop-set set) wrong)
+
+      points-placed : WhereBroken (Placed m) (envelopePointRules m flags sections at)
+      points-placed =
+          this-or (point-placed 4 (lit< tt) (bit1 flags) (λ set. EnvelopeFault.firstSustain (first-set set))) λ _.
+          this-or (point-placed 5 (lit< tt) (bit2 flags) (λ set. EnvelopeFault.loopFirst (loop-set set))) λ _.
+          this-or last-placed λ _.
+          this-or (point-placed 7 (lit< tt) (bit3 flags) (λ set. EnvelopeFault.secondSustain (second-set set))) λ _.
+          no-rule
+
+      -- The values, of which there are at most 32.
+      module _ (h : sections ≤ 31) where
+        value-fault : (i : ℕ) → i < sections + 1 → valueFits signed (number16 (block b) (10 + 4 * i)) ≡ false → EnvelopeFault ValueFits (block b) (10 + 4 * i)
+        value-fault i low e = EnvelopeFault.value i (omega arith) (omega arith) (never (is .says (number16 (block b) (10 + 4 * i))) e)
+
+        value-placed : (i : ℕ) → i < sections + 1 → valueFits signed (number16 m (at + 8 + 4 * i + 2)) ≡ false → RangeAt (at + 8 + 4 * i + 2)
+        value-placed i low e =
+            let broken = rw (value-same (b .part) sized i (omega arith)) at e in
+            fault-placed (at + 8 + 4 * i + 2) (omega arith) (omega arith) (value-fault i low broken)
+
+        values-placed : WhereBroken (Placed m) (valuesRules m signed sections at)
+        values-placed =
+            broken-each (valueRules m signed)
+            (every-step _ 4 (sections + 1) (at + 8) .1 (λ i low. this-or (value-placed i low) (λ _. no-rule)))
+
+    -- The values are looked at only where the sections fit.
+    envelope-placed : WhereBroken (Placed m) (envelopeRules m (l .instruments) signed at)
+    envelope-placed =
+        let f = byte-is 2 (lit< tt) in
+        let g = byte-is 3 (lit< tt) in
+        broken-append head-placed λ head.
+        let fits = leb-true (byteAt m (at + 3)) 31 (every-first (every-rest (every-rest head))) in
+        broken-append (points-placed (byteAt m (at + 2)) (byteAt m (at + 3)) f g) λ _.
+        values-placed (byteAt m (at + 2)) (byteAt m (at + 3)) f g fits
+
+  -- The blocks of a thing, where they fill their chunk.
+  module _ (fill : BlocksHold m l) where
+    module _ (thing : Thing) (rulesAt : ℕ → List Rule) where
+      abbrev EachPlaced : Type 0
+      EachPlaced = WhereBroken (Placed m) (rulesOfEach rulesAt (blocksOf m (kindOf thing) (chunkOf l thing) (countOf m l thing)))
+
+      pub each-placed : There (o .chunks) (lettersOf thing) → ((at : ℕ) → Begins o thing at → WhereBroken (Placed m) (rulesAt at)) → EachPlaced
+      each-placed there h = broken-each rulesAt (every-of h (each-begins o fill thing there))
+
+    -- Envelopes, where their chunk is there.
+    module _ {thing : Thing} {signed : Bool} {ValueFits : ℕ → Type 0} (is : Enveloped thing signed ValueFits) where
+      envelopes-placed : EachPlaced thing (envelopeRules m (l .instruments) signed)
+      envelopes-placed = go (chunkOf l thing .present) refl
+        where
+          go : (there : Bool) → chunkOf l thing .present ≡ there → EachPlaced thing (envelopeRules m (l .instruments) signed)
+          go true e = each-placed thing (envelopeRules m (l .instruments) signed) (found-of o thing .chunk e) (envelope-placed is)
+          go false e = rw (is .absent e) no-rule
+
+    pub field-rules-placed : WhereBroken (Placed m) (fieldRules m l)
+    field-rules-placed =
+        broken-append (each-placed Song (songRules m (l .patterns)) (o .mandatory .song) song-placed) λ _.
+        broken-append (each-placed Instrument (instrumentRules m (l .samples)) (o .mandatory .inst) instrument-placed) λ _.
+        broken-append (envelopes-placed of-volume) λ _.
+        envelopes-placed of-panning

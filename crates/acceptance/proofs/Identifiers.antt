@@ -1,0 +1,149 @@
+-- The identifier of a chunk as four letters, which the rules speak of, and as one number, which the check compares: each says the
+-- other, since no letter is 256 or more.
+use Prim.Native.Nat.{ℕ, zero, suc, _≤_, _<_}
+use mathlib.Core.Path.{_≡_, refl, sym, ap, _∙_}
+use mathlib.Core.Logic.{_↔_}
+use mathlib.Core.List.{List, [], _∷_}
+use mathlib.Core.Bool.{Bool, true, false, _&&_, _||_}
+use native.Mathlib.Omega.{arith}
+use lib.ListN.{length, take}
+use lib.Seq.{length-take-le, getD-take, ext-getD}
+use lib.Dec.{eqb, ltb}
+use borrow.Author.Tests.{eqb-true}
+use Rattle.vocabulary.specs.Letters.{nameLetters, infoLetters, songLetters, instLetters, pattLetters, smplLetters, venvLetters, penvLetters}
+use Rattle.numbers.specs.Numbers.{byteAt, number16, number32}
+use Rattle.layout.specs.Chunks.{NAME, INFO, SONG, INST, PATT, SMPL, VENV, PENV, needsInfo, covered}
+use Rattle.acceptance.specs.Rules.{ChunkBytes, Covered, NeedsInfo}
+use Rattle.acceptance.proofs.Locating.{number32-take}
+use Rattle.acceptance.proofs.Holding.{ltb-says, and-says}
+
+-- Four bytes.
+pub record FourBytes (letters : List ℕ) : Type 0 where
+  pub size : length letters ≡ 4
+  pub below : (i : ℕ) → i < 4 → byteAt letters i < 256
+
+-- So it can be computed.
+abbrev allBelow : List ℕ → Bool
+allBelow [] = true
+allBelow (b ∷ bs) = ltb b 256 && allBelow bs
+
+below-at : (bs : List ℕ) → allBelow bs ≡ true → (i : ℕ) → byteAt bs i < 256
+unfolding byteAt
+below-at [] h i = omega arith
+below-at (b ∷ bs) h zero = ltb-says b 256 .0 (and-says (ltb b 256) (allBelow bs) .0 h .0)
+below-at (b ∷ bs) h (suc i) = below-at bs (and-says (ltb b 256) (allBelow bs) .0 h .1) i
+
+pub four-bytes : (letters : List ℕ) → eqb (length letters) 4 && allBelow letters ≡ true → FourBytes letters
+four-bytes letters h =
+    let both = and-says (eqb (length letters) 4) (allBelow letters) .0 h in
+    record { size = eqb-true (length letters) 4 (both .0); below = λ i l. below-at letters (both .1) i }
+
+-- Four bytes are known by their number.
+module _ (xs letters : List ℕ) (long : 4 ≤ length xs) (bytes : (i : ℕ) → i < 4 → byteAt xs i < 256) (four : FourBytes letters) where
+  halves-same : number32 xs 0 ≡ number32 letters 0 → (number16 xs 0 ≡ number16 letters 0) × (number16 xs 2 ≡ number16 letters 2)
+  unfolding number32 number16
+  halves-same e =
+      let a = bytes 2 (omega arith) in
+      let b = bytes 3 (omega arith) in
+      let c = four .below 2 (omega arith) in
+      let d = four .below 3 (omega arith) in
+      omega arith
+
+  bytes-same : number32 xs 0 ≡ number32 letters 0 → (i : ℕ) → i < 4 → byteAt xs i ≡ byteAt letters i
+  unfolding number16
+  bytes-same e zero h = omega (arith, halves-same e .0, bytes 1 (omega arith), four .below 1 (omega arith))
+  bytes-same e (suc zero) h = omega (arith, halves-same e .0, bytes 1 (omega arith), four .below 1 (omega arith))
+  bytes-same e (suc (suc zero)) h = omega (arith, halves-same e .1, bytes 3 (omega arith), four .below 3 (omega arith))
+  bytes-same e (suc (suc (suc zero))) h = omega (arith, halves-same e .1, bytes 3 (omega arith), four .below 3 (omega arith))
+  bytes-same e (suc (suc (suc (suc i)))) h = absurd (omega arith)
+
+  pub number-letters : number32 xs 0 ≡ number32 letters 0 → take 4 xs ≡ letters
+  unfolding byteAt
+  number-letters e =
+      let taken = length-take-le 4 xs long in
+      ext-getD 0 (take 4 xs) letters (omega (arith, four .size)) (λ i h. let low : i < 4 = omega arith in getD-take 4 xs i 0 low ∙ bytes-same e i low)
+
+pub letters-number : (xs letters : List ℕ) → take 4 xs ≡ letters → number32 xs 0 ≡ number32 letters 0
+letters-number xs letters e = sym (number32-take 4 xs 0 (omega arith)) ∙ ap (λ (l : List ℕ). number32 l 0) e
+
+-- The identifier of a covered chunk, as the check has it.
+abbrev pub identifierOf : {letters : List ℕ} → Covered letters → ℕ
+identifierOf Covered.name = NAME
+identifierOf Covered.info = INFO
+identifierOf Covered.song = SONG
+identifierOf Covered.inst = INST
+identifierOf Covered.patt = PATT
+identifierOf Covered.smpl = SMPL
+identifierOf Covered.venv = VENV
+identifierOf Covered.penv = PENV
+
+covered-bytes : {letters : List ℕ} → Covered letters → FourBytes letters
+covered-bytes Covered.name = four-bytes nameLetters refl
+covered-bytes Covered.info = four-bytes infoLetters refl
+covered-bytes Covered.song = four-bytes songLetters refl
+covered-bytes Covered.inst = four-bytes instLetters refl
+covered-bytes Covered.patt = four-bytes pattLetters refl
+covered-bytes Covered.smpl = four-bytes smplLetters refl
+covered-bytes Covered.venv = four-bytes venvLetters refl
+covered-bytes Covered.penv = four-bytes penvLetters refl
+
+covered-number : {letters : List ℕ} (covers : Covered letters) → number32 letters 0 ≡ identifierOf covers
+unfolding number32 number16 byteAt
+covered-number Covered.name = refl
+covered-number Covered.info = refl
+covered-number Covered.song = refl
+covered-number Covered.inst = refl
+covered-number Covered.patt = refl
+covered-number Covered.smpl = refl
+covered-number Covered.venv = refl
+covered-number Covered.penv = refl
+
+-- A chunk has that identifier exactly where it has those letters.
+pub chunk-named : {chunk letters : List ℕ} → ChunkBytes chunk → (covers : Covered letters) → (number32 chunk 0 ≡ identifierOf covers) ↔ (take 4 chunk ≡ letters)
+chunk-named {chunk} {letters} c covers = rw (← covered-number covers) (
+  number-letters chunk letters (omega (arith, c .size)) (λ i h. omega (arith, c .letters i h .1)) (covered-bytes covers),
+  letters-number chunk letters,
+)
+
+-- The check takes exactly these identifiers for covered.
+pub covered-holds : {letters : List ℕ} (covers : Covered letters) → covered (identifierOf covers) ≡ true
+covered-holds Covered.name = refl
+covered-holds Covered.info = refl
+covered-holds Covered.song = refl
+covered-holds Covered.inst = refl
+covered-holds Covered.patt = refl
+covered-holds Covered.smpl = refl
+covered-holds Covered.venv = refl
+covered-holds Covered.penv = refl
+
+-- The four that INFO stands before are covered.
+abbrev pub needing : {letters : List ℕ} → NeedsInfo letters → Covered letters
+needing NeedsInfo.song = Covered.song
+needing NeedsInfo.inst = Covered.inst
+needing NeedsInfo.patt = Covered.patt
+needing NeedsInfo.smpl = Covered.smpl
+
+pub needing-holds : {letters : List ℕ} (needs : NeedsInfo letters) → needsInfo (identifierOf (needing needs)) ≡ true
+needing-holds NeedsInfo.song = refl
+needing-holds NeedsInfo.inst = refl
+needing-holds NeedsInfo.patt = refl
+needing-holds NeedsInfo.smpl = refl
+
+either : {A : Type 0} (a b : Bool) → (a ≡ true → A) → (b ≡ true → A) → a || b ≡ true → A
+either true b f g h = f refl
+either false b f g h = g h
+
+pub needing-letters : (n : ℕ) → needsInfo n ≡ true → (letters : List ℕ) × (needs : NeedsInfo letters) × (n ≡ identifierOf (needing needs))
+needing-letters n =
+    either (eqb n SONG) _ (λ e. (songLetters, NeedsInfo.song, eqb-true n SONG e))
+    (either (eqb n INST) _ (λ e. (instLetters, NeedsInfo.inst, eqb-true n INST e))
+    (either (eqb n PATT) _ (λ e. (pattLetters, NeedsInfo.patt, eqb-true n PATT e))
+    (λ e. (smplLetters, NeedsInfo.smpl, eqb-true n SMPL e))))
+
+pub covered-letters : (n : ℕ) → covered n ≡ true → (letters : List ℕ) × (covers : Covered letters) × (n ≡ identifierOf covers)
+covered-letters n =
+    either (eqb n NAME) _ (λ e. (nameLetters, Covered.name, eqb-true n NAME e))
+    (either (eqb n INFO) _ (λ e. (infoLetters, Covered.info, eqb-true n INFO e))
+    (either (needsInfo n) _ (λ e. let found = needing-letters n e in (found .0, needing (found .1), found .2))
+    (either (eqb n VENV) _ (λ e. (venvLetters, Covered.venv, eqb-true n VENV e))
+    (λ e. (penvLetters, Covered.penv, eqb-true n PENV e)))))

@@ -1,4 +1,0 @@
-pub mod Rules
-pub mod Faults
-pub mod Places
-pub mod Queries

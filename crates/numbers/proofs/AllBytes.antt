@@ -1,0 +1,94 @@
+-- Lists of bytes: each number is below 256. It holds of a list exactly when it holds of each of its parts: of the first byte and the rest,
+-- of two lists one behind the other, of the lists that are joined; and so of what `take` and `drop` leave. A lent slice of bytes is such a
+-- list.
+use Prim.Native.Nat.{ℕ, zero, suc, _/_, _<_}
+use mathlib.Core.Logic.{_↔_}
+use mathlib.Core.List.{List, [], _∷_, _++_}
+use native.Mathlib.Omega.{arith}
+use native.Mathlib.Nat.{mod-lt, div-lt-iff-lt-mul}
+use mir.Val.{Fits}
+use mir.Syntax.{w8}
+use lib.ListN.{getD, take, drop, replicate, take-append-drop}
+use Rattle.vocabulary.specs.Lists.{joined, Every, none, also}
+use Rattle.vocabulary.proofs.EveryOne.{every-first, every-rest, every-append}
+use Rattle.numbers.specs.Numbers.{byteAt, Bytes, partOf, bytes32}
+
+-- One of them, or the 0 past the end.
+pub bytes-getD : (xs : List ℕ) (i : ℕ) → Bytes xs → getD xs i 0 < 256
+unfolding byteAt
+bytes-getD xs i h = h i
+
+-- No byte, and one byte more.
+pub bytes-nil : Bytes []
+unfolding byteAt
+bytes-nil i = omega arith
+
+module _ (b : ℕ) (bs : List ℕ) where
+  pub bytes-cons : b < 256 → Bytes bs → Bytes (b ∷ bs)
+  unfolding byteAt
+  bytes-cons h t zero = h
+  bytes-cons h t (suc i) = t i
+
+  pub bytes-first : Bytes (b ∷ bs) → b < 256
+  unfolding byteAt
+  bytes-first h = h 0
+
+  pub bytes-rest : Bytes (b ∷ bs) → Bytes bs
+  unfolding byteAt
+  bytes-rest h i = h (suc i)
+
+-- The same, of every one of the list.
+pub bytes-every : (xs : List ℕ) → Bytes xs ↔ Every (λ b. b < 256) xs
+bytes-every [] = (λ h. none, λ e. bytes-nil)
+bytes-every (b ∷ bs) = (
+  λ h. also (bytes-first b bs h) (bytes-every bs .0 (bytes-rest b bs h)),
+  λ e. bytes-cons b bs (every-first e) (bytes-every bs .1 (every-rest e)),
+)
+
+-- Two lists, one behind the other.
+module _ (xs ys : List ℕ) where
+  pub bytes-append : Bytes xs → Bytes ys → Bytes (xs ++ ys)
+  bytes-append h k = bytes-every (xs ++ ys) .1 (every-append xs ys .1 (bytes-every xs .0 h, bytes-every ys .0 k))
+
+  pub bytes-front : Bytes (xs ++ ys) → Bytes xs
+  bytes-front h = bytes-every xs .1 (every-append xs ys .0 (bytes-every (xs ++ ys) .0 h) .0)
+
+  pub bytes-behind : Bytes (xs ++ ys) → Bytes ys
+  bytes-behind h = bytes-every ys .1 (every-append xs ys .0 (bytes-every (xs ++ ys) .0 h) .1)
+
+-- What `take` and `drop` leave, and a part.
+module _ (n : ℕ) (xs : List ℕ) where
+  pub bytes-take : Bytes xs → Bytes (take n xs)
+  bytes-take h = bytes-front (take n xs) (drop n xs) (rw take-append-drop h)
+
+  pub bytes-drop : Bytes xs → Bytes (drop n xs)
+  bytes-drop h = bytes-behind (take n xs) (drop n xs) (rw take-append-drop h)
+
+pub bytes-of-part : (m : List ℕ) (at n : ℕ) → Bytes m → Bytes (partOf m at n)
+bytes-of-part m at n h = bytes-take n (drop at m) (bytes-drop at m h)
+
+-- Lists that are joined.
+pub bytes-joined : (xss : List (List ℕ)) → Every Bytes xss ↔ Bytes (joined xss)
+bytes-joined [] = (λ e. bytes-nil, λ h. none)
+bytes-joined (xs ∷ xss) = (
+  λ e. bytes-append xs (joined xss) (every-first e) (bytes-joined xss .0 (every-rest e)),
+  λ h. also (bytes-front xs (joined xss) h) (bytes-joined xss .1 (bytes-behind xs (joined xss) h)),
+)
+
+-- Zeros.
+pub bytes-replicate : (n : ℕ) → Bytes (replicate n 0)
+bytes-replicate zero = bytes-nil
+bytes-replicate (suc n) = bytes-cons 0 (replicate n 0) (omega arith) (bytes-replicate n)
+
+-- A number as four bytes.
+pub bytes32-bytes : (n : ℕ) → n < 0x100000000 → Bytes (bytes32 n)
+bytes32-bytes n h =
+    bytes-cons _ _ (div-lt-iff-lt-mul {k = 16777216} {x = n} {y = 256} (omega arith) .1 h)
+    (bytes-cons _ _ (mod-lt (n / 65536) (omega arith))
+    (bytes-cons _ _ (mod-lt (n / 256) (omega arith))
+    (bytes-cons _ _ (mod-lt n (omega arith)) bytes-nil)))
+
+-- The elements of a slice of bytes are below 256.
+pub slice-bytes : (m : List ℕ) → ((i : ℕ) → Fits w8 (getD m i 0)) → Bytes m
+unfolding byteAt
+slice-bytes m h i = omega (arith, h i)

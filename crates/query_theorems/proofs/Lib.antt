@@ -1,0 +1,10 @@
+pub mod FoundBlocks
+pub mod SampleFrames
+pub mod ShownBytes
+pub mod FoundPatterns
+pub mod EnvelopeValues
+pub mod Tables
+pub mod SmallModules
+pub mod Samples
+pub mod WorkedRefusals
+pub mod Theorems

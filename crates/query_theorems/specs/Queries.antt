@@ -1,0 +1,77 @@
+-- FORMAT.md, B1 to B6 and Q9 to Q12: the terms that the theorems about queries use: where a block that a query finds lies, the frames of
+-- a sample, the cells of a pattern and the values of an envelope. A thing is what a query asks for: a song, an instrument, a pattern, a
+-- sample, an envelope of volume or of panning.
+use Prim.Native.Nat.{ℕ, _+_, _-_, _*_, _≤_, _<_}
+use mathlib.Core.Path.{_≡_}
+use mathlib.Core.Logic.{_⊎_}
+use mathlib.Core.List.{List, []}
+use mathlib.Core.Bool.{true}
+use lib.ListN.{length, getD}
+use lib.IntN.{ℤ, pos}
+use lib.Signed.{_≤ℤ_}
+use Rattle.cells.specs.Cells.{rowsOf, emptyCell}
+use Rattle.packed_rows.specs.Stream.{cellsRead}
+use Rattle.numbers.specs.Numbers.{number16, number32, partOf}
+use Rattle.layout.specs.Chunks.{SONG, INST, PATT, SMPL, VENV, PENV}
+use Rattle.layout.specs.declared.Layout.{Layout}
+use Rattle.layout.specs.declared.Outline.the-variants.{Found as Opened}
+use Rattle.blocks.specs.Sizes.{sizeOf}
+use Rattle.blocks.specs.Filling.{dataEnd}
+use Rattle.blocks.specs.Things.{kindOf, chunkOf}
+use Rattle.blocks.specs.declared.Thing.{Thing}
+use Rattle.blocks.specs.declared.Thing.the-variants.{Song, Instrument, Pattern, Sample, VolumeEnvelope, PanningEnvelope}
+use Rattle.module.specs.Streams.{packedBytes}
+use Rattle.module.specs.Verdicts.{opened}
+use Rattle.queries.specs.declared.Block.{Block}
+use Rattle.envelopes.specs.Shown.{envelopeAnswer}
+use Rattle.envelopes.specs.declared.EnvelopeKind.{EnvelopeKind}
+use Rattle.samples.specs.Shown.{frameBytes, frameCount, framesPart}
+use Rattle.acceptance.specs.Places.{HeaderAt}
+
+-- The identifier of the chunk that holds a thing.
+abbrev pub identifierOf : Thing → ℕ
+identifierOf Song = SONG
+identifierOf Instrument = INST
+identifierOf Pattern = PATT
+identifierOf Sample = SMPL
+identifierOf VolumeEnvelope = VENV
+identifierOf PanningEnvelope = PENV
+
+-- The block of a thing at a place lies within the data of its chunk. The module is accepted and has this layout; the chunk is there, with
+-- its own identifier and the length that its header says; and it is whole.
+pub record InChunk (m : List ℕ) (thing : Thing) (at : ℕ) : Type 0 where
+  pub layout : Layout
+  pub opens : opened m ≡ Opened layout
+  pub present : chunkOf layout thing .present ≡ true
+  pub header : HeaderAt m (chunkOf layout thing .at)
+  pub named : number32 m (chunkOf layout thing .at) ≡ identifierOf thing
+  pub size : number32 m (chunkOf layout thing .at + 4) ≡ chunkOf layout thing .length
+  pub behind : chunkOf layout thing .at + 8 ≤ at
+  pub inside : at + sizeOf (kindOf thing) m at ≤ dataEnd (chunkOf layout thing)
+  pub whole : dataEnd (chunkOf layout thing) ≤ length m
+
+-- The frames of a sample whose block stands at a place: as many bytes as the block says, behind its flags and its number of frames, and
+-- within the data of SMPL; a frame has 1, 2 or 4 bytes.
+pub record FramesIn (m : List ℕ) (sample at : ℕ) : Type 0 where
+  pub chunk : InChunk m Sample at
+  pub width : (frameBytes m at ≡ 1) ⊎ ((frameBytes m at ≡ 2) ⊎ (frameBytes m at ≡ 4))
+  pub bytes : framesPart m sample ≡ partOf m (at + 8) (frameCount m at * frameBytes m at)
+  pub size : length (framesPart m sample) ≡ frameCount m at * frameBytes m at
+  pub inside : at + 8 + length (framesPart m sample) ≤ dataEnd (chunk .layout .places .smpl)
+
+-- Q10: the pattern whose block this is has this row and this track. Rows are counted from 0, tracks from 1.
+abbrev pub HasCell : List ℕ → Block → ℕ → ℕ → Type 0
+HasCell m b row track = (row < number16 m (b .at)) × (1 ≤ track) × (track ≤ b .tracks)
+
+-- The cell there, of the cells that the pattern's packed bytes hold (C3).
+abbrev pub storedCell : List ℕ → Block → ℕ → ℕ → List ℕ
+storedCell m b row track =
+    getD (getD (rowsOf (number16 m (b .at)) (b .tracks) (cellsRead (number16 m (b .at)) (b .tracks) (packedBytes m (b .at)))) row []) (track - 1) emptyCell
+
+-- Q9: the value that is shown for a point of an envelope, both counted from 0; 0 where there is no such point.
+abbrev pub valueAt : List ℕ → EnvelopeKind → ℕ → ℕ → ℤ
+valueAt m kind envelope point = getD (envelopeAnswer m kind envelope .values) point (pos 0)
+
+-- A number from the one to the other.
+abbrev pub Between : ℤ → ℤ → ℤ → Type 0
+Between least most z = (least ≤ℤ z) × (z ≤ℤ most)

@@ -1,0 +1,26 @@
+-- Lists that are joined: of two lists of lists, of one list more at the end, and of lists that become no longer.
+use Prim.Native.Nat.{_≤_}
+use mathlib.Core.Path.{_≡_, refl, sym}
+use mathlib.Core.List.{List, [], _∷_, _++_, map, append-assoc, append-nil}
+use native.Mathlib.Omega.{arith}
+use lib.ListN.{length, length-append}
+use Rattle.vocabulary.specs.Lists.{joined, Every, none, also}
+
+pub joined-append : {A : Type 0} (xs ys : List (List A)) → joined (xs ++ ys) ≡ joined xs ++ joined ys
+joined-append [] ys = refl
+joined-append (x ∷ xs) ys = rw (joined-append xs ys) (sym (append-assoc x (joined xs) (joined ys)))
+
+-- One list more at the end; and the same where a list is before them.
+pub joined-last : {A : Type 0} (xs : List (List A)) (x : List A) → joined (xs ++ (x ∷ [])) ≡ joined xs ++ x
+joined-last xs x = rw (joined-append xs (x ∷ []), append-nil x)
+
+pub joined-next : {A : Type 0} (front : List A) (before : List (List A)) (x : List A) (rest : List (List A))
+    → (front ++ joined before) ++ joined (x ∷ rest) ≡ (front ++ joined (before ++ (x ∷ []))) ++ joined rest
+joined-next front before x rest = rw (joined-last before x) (simp append-assoc)
+
+-- Lists that become no longer.
+pub joined-shorter : {A : Type 0} (g : List A → List A) {xs : List (List A)}
+    → Every (λ x. length (g x) ≤ length x) xs → length (joined (map g xs)) ≤ length (joined xs)
+joined-shorter g none = omega arith
+joined-shorter g (also {x = x} {xs = xs} h e) =
+    omega (arith, length-append (g x) (joined (map g xs)), length-append x (joined xs), joined-shorter g e)

@@ -1,0 +1,4 @@
+pub mod EveryOne
+pub mod JoinedLists
+pub mod MappedLists
+pub mod Splits
