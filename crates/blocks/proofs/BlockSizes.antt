@@ -1,23 +1,11 @@
--- How long a block is: past the module's end, and at least.
-use Prim.Native.Nat.{ℕ, _+_, _*_, _<_, _≤_}
-use mathlib.Core.Path.{_≡_, refl}
-use mathlib.Core.List.{List, []}
+-- How long a block is at least, and at most.
+use Prim.Native.Nat.{ℕ, _*_, _<_, _≤_}
+use mathlib.Core.List.{List}
 use native.Mathlib.Omega.{arith}
 use native.Mathlib.Nat.{mul-le-mul}
-use lib.ListN.{length}
-use Rattle.numbers.specs.Numbers.{byteAt, number16, number32}
-use Rattle.numbers.proofs.Bytes.{number16-past, number32-past}
 use Rattle.blocks.specs.Sizes.{sizeOf}
 use Rattle.blocks.specs.declared.Kind.{Kind}
 use Rattle.blocks.specs.declared.Kind.the-variants.{Song, Instrument, Pattern, Sample, Envelope}
-
-pub size-past : (kind : Kind) (m : List ℕ) (at : ℕ) → length m ≤ at → sizeOf kind [] 0 ≡ sizeOf kind m at
-unfolding sizeOf byteAt number16 number32
-size-past Song m at h = simp (number16-past m (at + 44) (omega arith))
-size-past Instrument m at h = refl
-size-past Pattern m at h = simp (number32-past m (at + 2) (omega arith))
-size-past Sample m at h = simp (number32-past m at h, number32-past m (at + 4) (omega arith))
-size-past Envelope m at h = refl
 
 pub size-some : (kind : Kind) (m : List ℕ) (at : ℕ) → 0 < sizeOf kind m at
 unfolding sizeOf

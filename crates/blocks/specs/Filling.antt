@@ -5,9 +5,9 @@ use mathlib.Core.Bool.{Bool, not, _||_}
 use lib.Dec.{eqb}
 use Rattle.refusal.specs.Rules.{Rule, rule, rulesOfEach}
 use Rattle.refusal.specs.declared.Cause.the-variants.{Blocks}
-use Rattle.numbers.specs.Numbers.{number32}
 use Rattle.layout.specs.declared.Place.{Place}
 use Rattle.layout.specs.declared.Layout.{Layout}
+use Rattle.blocks.specs.StoredFields.{sampleFlags}
 use Rattle.blocks.specs.Sizes.{widthOf, blockAt, envelopeCount, sampleBlocks}
 use Rattle.blocks.specs.declared.Kind.{Kind}
 use Rattle.blocks.specs.declared.Kind.the-variants.{Song, Instrument, Pattern, Sample, Envelope}
@@ -29,7 +29,7 @@ envelopesRule m chunk = rule (not (chunk .present) || fills m Envelope chunk (en
 
 -- B5: the flags of the sample at a place are 1, 2 or 4.
 abbrev pub flagsRules : List ℕ → Place → ℕ → List Rule
-flagsRules m chunk at = rule (not (eqb (widthOf (number32 m at)) 0)) Blocks (chunk .at) ∷ []
+flagsRules m chunk at = rule (not (eqb (widthOf (sampleFlags m at)) 0)) Blocks (chunk .at) ∷ []
 
 -- F14: 11 for SONG, INST, PATT, SMPL, VENV, PENV, wherever they stand.
 abbrev pub blockRules : List ℕ → Layout → List Rule

@@ -1,3 +1,4 @@
+pub mod StoredFields
 pub mod Sizes
 pub mod Filling
 pub mod Things

@@ -3,9 +3,10 @@ use Prim.Native.Nat.{ℕ, zero, suc, _+_, _*_, _%_}
 use mathlib.Core.List.{List, [], _∷_}
 use mathlib.Core.Bool.{cond}
 use lib.Dec.{eqb}
-use Rattle.numbers.specs.Numbers.{number16, number32}
+use Rattle.numbers.specs.Numbers.{number16}
 use Rattle.layout.specs.declared.Place.{Place}
 use Rattle.layout.specs.declared.Layout.{Layout}
+use Rattle.blocks.specs.StoredFields.{songLength, patternPackedLength, sampleFlags, sampleFrames}
 use Rattle.blocks.specs.declared.Kind.{Kind}
 use Rattle.blocks.specs.declared.Kind.the-variants.{Song, Instrument, Pattern, Sample, Envelope}
 
@@ -18,10 +19,10 @@ widthOf flags = cond (eqb flags 1) 1 (cond (eqb flags 2) 2 (cond (eqb flags 4) 4
 -- B4: a pattern: rows 2, packed length 4, packed bytes, and a filler if their number is odd.
 -- B5: a sample: flags 4, frames 4, and the frames. B6: an envelope, 136.
 unfoldable pub sizeOf : Kind → List ℕ → ℕ → ℕ
-sizeOf Song m at = 46 + 2 * number16 m (at + 44)
+sizeOf Song m at = 46 + 2 * songLength m at
 sizeOf Instrument m at = 50
-sizeOf Pattern m at = 6 + number32 m (at + 2) + number32 m (at + 2) % 2
-sizeOf Sample m at = 8 + number32 m (at + 4) * widthOf (number32 m at)
+sizeOf Pattern m at = 6 + patternPackedLength m at + patternPackedLength m at % 2
+sizeOf Sample m at = 8 + sampleFrames m at * widthOf (sampleFlags m at)
 sizeOf Envelope m at = 136
 
 -- B1: blocks stand one behind the other: the places of so many from a place on, and the place that so many lead to.

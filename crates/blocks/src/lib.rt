@@ -1,8 +1,13 @@
 // The blocks of a chunk: how long each is, where it stands, and whether they fill their chunk: refusal 11.
+pub mod stored;
+
+use crate::stored::pattern_packed_length;
+use crate::stored::sample_flags;
+use crate::stored::sample_frames;
+use crate::stored::song_length;
 use layout::Layout;
 use layout::Place;
 use numbers::number16;
-use numbers::number32;
 use refusal::Cause;
 use refusal::Verdict;
 use refusal::refuse;
@@ -52,19 +57,6 @@ pub fn width(flags: u32) -> usize
     0
 }
 
-// How many bytes a block has whose numbers are all 0.
-fn least(kind: Kind) -> usize
-    ensures { λ r. ⌜ (r ≡ sizeOf kind [] 0) × (r < 0x800000000) ⌝ }
-{
-    match kind {
-        Kind::Song => 46,
-        Kind::Instrument => 50,
-        Kind::Pattern => 6,
-        Kind::Sample => 8,
-        Kind::Envelope => 136,
-    }
-}
-
 // How many bytes a song has, with so many entries in its playlist.
 fn song_size(entries: u16) -> usize
     ensures { λ r. ⌜ (r ≡ 46 + 2 * entries) × (r < 0x800000000) ⌝ }
@@ -91,14 +83,11 @@ fn sample_size(flags: u32, frames: u32) -> usize
 pub fn size(m: &[u8], kind: Kind, at: usize) -> usize
     ensures { λ r. ⌜ (r ≡ sizeOf kind (now (m .entry)) at) × (r < 0x800000000) ⌝ }
 {
-    if m.len() <= at {
-        return least(kind);
-    }
     match kind {
-        Kind::Song => song_size(number16(m, at + 44)),
+        Kind::Song => song_size(song_length(m, at)),
         Kind::Instrument => 50,
-        Kind::Pattern => pattern_size(number32(m, at + 2)),
-        Kind::Sample => sample_size(number32(m, at), number32(m, at + 4)),
+        Kind::Pattern => pattern_size(pattern_packed_length(m, at)),
+        Kind::Sample => sample_size(sample_flags(m, at), sample_frames(m, at)),
         Kind::Envelope => 136,
     }
 }
@@ -124,9 +113,9 @@ fn data_end(chunk: Place) -> usize
     (chunk.at as usize) + 8 + (chunk.length as usize)
 }
 
-// The place of a block, counted from 0.
+// The place of a block, counted from 0. Each block before it has less than 2 ^ 35 bytes.
 pub fn block_at(m: &[u8], kind: Kind, chunk: Place, i: u16) -> usize
-    ensures { λ r. ⌜ (r ≡ blockAt (now (m .entry)) kind chunk i) × (r < 0x10000000000000) ⌝ }
+    ensures { λ r. ⌜ (r ≡ blockAt (now (m .entry)) kind chunk i) × (r < 0x200000000 + i * 0x800000000) ⌝ }
 {
     let mut at = first_block(kind, chunk);
     let mut left = i;
@@ -181,7 +170,7 @@ fn check_flags(m: &[u8], chunk: Place, count: u16) -> Verdict
     let mut at = block_at(m, Kind::Sample, chunk, 0);
     let mut left = count;
     while 0 < left {
-        if width(number32(m, at)) == 0 {
+        if width(sample_flags(m, at)) == 0 {
             return Verdict::Refused(refuse(Cause::Blocks, chunk.at as usize));
         }
         at = at + size(m, Kind::Sample, at);

@@ -1,5 +1,5 @@
 -- The rules of the fields in their order, part by part.
-use Prim.Native.Nat.{ℕ, _+_}
+use Prim.Native.Nat.{ℕ}
 use mathlib.Core.Path.{_≡_}
 use mathlib.Core.List.{List, _++_}
 use mathlib.Core.Bool.{Bool, false}
@@ -8,8 +8,8 @@ use Rattle.refusal.specs.Rules.{Rule, firstBroken, rulesOfEach}
 use Rattle.refusal.specs.declared.Refusal.{Refusal}
 use Rattle.refusal.specs.declared.Verdict.{Verdict}
 use Rattle.refusal.specs.declared.Verdict.the-variants.{Accepted, Refused}
-use Rattle.numbers.specs.Numbers.{byteAt}
 use Rattle.layout.specs.declared.Layout.{Layout}
+use Rattle.blocks.specs.StoredFields.{envelopeFlags, envelopeSections}
 use Rattle.blocks.specs.Sizes.{songBlocks, instrumentBlocks, envelopeBlocks}
 use Rattle.refusal.proofs.InOrder.{rules-stopped, rules-passed}
 use Rattle.fields.specs.Fields.{songRules, instrumentRules, envelopeHeadRules, envelopePointRules, valuesRules, envelopeRules}
@@ -31,17 +31,17 @@ module _ (m : List ℕ) (l : Layout) where
 -- An envelope: its head, its points, its values.
 module _ (m : List ℕ) (instruments : ℕ) (signed : Bool) (at : ℕ) {head : Verdict} (head-is : head ≡ firstBroken (envelopeHeadRules m instruments at)) where
   pub head-stopped : {r : Refusal} → head ≡ Refused r → Refused r ≡ firstBroken (envelopeRules m instruments signed at)
-  head-stopped e = rules-stopped (envelopeHeadRules m instruments at) (envelopePointRules m (byteAt m (at + 2)) (byteAt m (at + 3)) at ++ valuesRules m signed (byteAt m (at + 3)) at) head-is e
+  head-stopped e = rules-stopped (envelopeHeadRules m instruments at) (envelopePointRules m (envelopeFlags m at) (envelopeSections m at) at ++ valuesRules m signed (envelopeSections m at) at) head-is e
 
-  module _ {flags sections : ℕ} {points : Verdict} (head-passed : head ≡ Accepted) (flags-are : flags ≡ byteAt m (at + 2)) (sections-are : sections ≡ byteAt m (at + 3)) (points-are : points ≡ firstBroken (envelopePointRules m flags sections at)) where
-    points-told : points ≡ firstBroken (envelopePointRules m (byteAt m (at + 2)) (byteAt m (at + 3)) at)
+  module _ {flags sections : ℕ} {points : Verdict} (head-passed : head ≡ Accepted) (flags-are : flags ≡ envelopeFlags m at) (sections-are : sections ≡ envelopeSections m at) (points-are : points ≡ firstBroken (envelopePointRules m flags sections at)) where
+    points-told : points ≡ firstBroken (envelopePointRules m (envelopeFlags m at) (envelopeSections m at) at)
     points-told = rw (← flags-are, ← sections-are) points-are
 
-    behind-head : {v : Verdict} → v ≡ firstBroken (envelopePointRules m (byteAt m (at + 2)) (byteAt m (at + 3)) at ++ valuesRules m signed (byteAt m (at + 3)) at) → v ≡ firstBroken (envelopeRules m instruments signed at)
-    behind-head e = rules-passed (envelopeHeadRules m instruments at) (envelopePointRules m (byteAt m (at + 2)) (byteAt m (at + 3)) at ++ valuesRules m signed (byteAt m (at + 3)) at) head-is head-passed e
+    behind-head : {v : Verdict} → v ≡ firstBroken (envelopePointRules m (envelopeFlags m at) (envelopeSections m at) at ++ valuesRules m signed (envelopeSections m at) at) → v ≡ firstBroken (envelopeRules m instruments signed at)
+    behind-head e = rules-passed (envelopeHeadRules m instruments at) (envelopePointRules m (envelopeFlags m at) (envelopeSections m at) at ++ valuesRules m signed (envelopeSections m at) at) head-is head-passed e
 
     pub points-stopped : {r : Refusal} → points ≡ Refused r → Refused r ≡ firstBroken (envelopeRules m instruments signed at)
-    points-stopped e = behind-head (rules-stopped (envelopePointRules m (byteAt m (at + 2)) (byteAt m (at + 3)) at) (valuesRules m signed (byteAt m (at + 3)) at) points-told e)
+    points-stopped e = behind-head (rules-stopped (envelopePointRules m (envelopeFlags m at) (envelopeSections m at) at) (valuesRules m signed (envelopeSections m at) at) points-told e)
 
     pub values-told : {v : Verdict} → points ≡ Accepted → v ≡ firstBroken (valuesRules m signed sections at) → v ≡ firstBroken (envelopeRules m instruments signed at)
-    values-told e values-are = behind-head (rules-passed (envelopePointRules m (byteAt m (at + 2)) (byteAt m (at + 3)) at) (valuesRules m signed (byteAt m (at + 3)) at) points-told e (rw (← sections-are) values-are))
+    values-told e values-are = behind-head (rules-passed (envelopePointRules m (envelopeFlags m at) (envelopeSections m at) at) (valuesRules m signed (envelopeSections m at) at) points-told e (rw (← sections-are) values-are))

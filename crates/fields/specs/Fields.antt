@@ -7,8 +7,11 @@ use lib.IntN.{pos, negsuc}
 use lib.Signed.{leZ}
 use Rattle.refusal.specs.Rules.{Rule, rule, rulesOfEach}
 use Rattle.refusal.specs.declared.Cause.the-variants.{Reference, FieldRange}
-use Rattle.numbers.specs.Numbers.{byteAt, number16, signed16}
+use Rattle.numbers.specs.Numbers.{number16, signed16}
 use Rattle.layout.specs.declared.Layout.{Layout}
+use Rattle.blocks.specs.StoredFields.{songLength, instrumentSample, instrumentVolume, instrumentPanning, instrumentFlags}
+use Rattle.blocks.specs.StoredFields.{envelopeInstrument, envelopeFlags, envelopeSections}
+use Rattle.blocks.specs.StoredFields.{envelopeFirstSustain, envelopeLoopFirst, envelopeLoopLast, envelopeSecondSustain}
 use Rattle.blocks.specs.Sizes.{placesFrom, songBlocks, instrumentBlocks, envelopeBlocks}
 
 -- −128 to 128.
@@ -33,33 +36,33 @@ abbrev pub entryRules : List ℕ → ℕ → ℕ → List Rule
 entryRules m patterns at = rule (ltb (number16 m at) patterns) Reference at ∷ []
 
 abbrev pub songRules : List ℕ → ℕ → ℕ → List Rule
-songRules m patterns at = rulesOfEach (entryRules m patterns) (placesFrom (λ entry. 2) (number16 m (at + 44)) (at + 46))
+songRules m patterns at = rulesOfEach (entryRules m patterns) (placesFrom (λ entry. 2) (songLength m at) (at + 46))
 
 -- V2: an instrument: its sample (from 1; 0 is none), volume 0 to 64, panning −128 to 128, and no flag but bits 0 and 1. Panning is
 -- taken as stored in version 2 too.
 abbrev pub instrumentRules : List ℕ → ℕ → ℕ → List Rule
 instrumentRules m samples at =
-    rule (leb (number16 m (at + 30)) samples) Reference (at + 30)
-    ∷ rule (leb (number16 m (at + 32)) 64) FieldRange (at + 32)
-    ∷ rule (panningFits (number16 m (at + 46))) FieldRange (at + 46)
-    ∷ rule (ltb (number16 m (at + 48)) 4) FieldRange (at + 48)
+    rule (leb (instrumentSample m at) samples) Reference (at + 30)
+    ∷ rule (leb (instrumentVolume m at) 64) FieldRange (at + 32)
+    ∷ rule (panningFits (instrumentPanning m at)) FieldRange (at + 46)
+    ∷ rule (ltb (instrumentFlags m at) 4) FieldRange (at + 48)
     ∷ []
 
 -- V3: an envelope: its instrument, from 1; no flag but bits 0 to 3; sections 0 to 31.
 abbrev pub envelopeHeadRules : List ℕ → ℕ → ℕ → List Rule
 envelopeHeadRules m instruments at =
-    rule (leb 1 (number16 m at) && leb (number16 m at) instruments) Reference at
-    ∷ rule (ltb (byteAt m (at + 2)) 16) FieldRange (at + 2)
-    ∷ rule (leb (byteAt m (at + 3)) 31) FieldRange (at + 3)
+    rule (leb 1 (envelopeInstrument m at) && leb (envelopeInstrument m at) instruments) Reference at
+    ∷ rule (ltb (envelopeFlags m at) 16) FieldRange (at + 2)
+    ∷ rule (leb (envelopeSections m at) 31) FieldRange (at + 3)
     ∷ []
 
 -- V4: S1 where bit 1 is set, L1 and L2 where bit 2 is, S2 where bit 3 is: each at most sections, and L1 at most L2.
 abbrev pub envelopePointRules : List ℕ → ℕ → ℕ → ℕ → List Rule
 envelopePointRules m flags sections at =
-    rule (not (bit1 flags) || leb (byteAt m (at + 4)) sections) FieldRange (at + 4)
-    ∷ rule (not (bit2 flags) || leb (byteAt m (at + 5)) sections) FieldRange (at + 5)
-    ∷ rule (not (bit2 flags) || (leb (byteAt m (at + 6)) sections && leb (byteAt m (at + 5)) (byteAt m (at + 6)))) FieldRange (at + 6)
-    ∷ rule (not (bit3 flags) || leb (byteAt m (at + 7)) sections) FieldRange (at + 7)
+    rule (not (bit1 flags) || leb (envelopeFirstSustain m at) sections) FieldRange (at + 4)
+    ∷ rule (not (bit2 flags) || leb (envelopeLoopFirst m at) sections) FieldRange (at + 5)
+    ∷ rule (not (bit2 flags) || (leb (envelopeLoopLast m at) sections && leb (envelopeLoopFirst m at) (envelopeLoopLast m at))) FieldRange (at + 6)
+    ∷ rule (not (bit3 flags) || leb (envelopeSecondSustain m at) sections) FieldRange (at + 7)
     ∷ []
 
 -- V5: a value is 0 to 64; where it is signed, −128 to 128.
@@ -76,8 +79,8 @@ valuesRules m signed sections at = rulesOfEach (valueRules m signed) (placesFrom
 abbrev pub envelopeRules : List ℕ → ℕ → Bool → ℕ → List Rule
 envelopeRules m instruments signed at =
     envelopeHeadRules m instruments at
-    ++ (envelopePointRules m (byteAt m (at + 2)) (byteAt m (at + 3)) at
-    ++ valuesRules m signed (byteAt m (at + 3)) at)
+    ++ (envelopePointRules m (envelopeFlags m at) (envelopeSections m at) at
+    ++ valuesRules m signed (envelopeSections m at) at)
 
 -- F15: 12 and 13 by field: SONG, INST, VENV, PENV, by ascending offset (PATT and SMPL have no such field). Panning values are signed
 -- in version 3.

@@ -7,6 +7,16 @@ use crate::envelopes::panning_fits;
 use blocks::Kind;
 use blocks::block_at;
 use blocks::size;
+use blocks::stored::INSTRUMENT_FLAGS;
+use blocks::stored::INSTRUMENT_PANNING;
+use blocks::stored::INSTRUMENT_SAMPLE;
+use blocks::stored::INSTRUMENT_VOLUME;
+use blocks::stored::SONG_ENTRIES;
+use blocks::stored::instrument_flags;
+use blocks::stored::instrument_panning;
+use blocks::stored::instrument_sample;
+use blocks::stored::instrument_volume;
+use blocks::stored::song_length;
 use layout::Layout;
 use layout::Place;
 use numbers::number16;
@@ -14,20 +24,20 @@ use refusal::Cause;
 use refusal::Verdict;
 use refusal::refuse;
 ghost use mathlib.Core.Path.{_≡_};
-ghost use Prim.Native.Nat.{_<_};
 ghost use Rattle.refusal.specs.Numbers.{verdictNumbers, IsAnswer};
 ghost use Rattle.refusal.specs.Rules.{firstBroken, rulesOfEach};
+ghost use Rattle.numbers.specs.Numbers.{SmallPlace};
 ghost use Rattle.blocks.specs.Sizes.{blocksOf};
 ghost use Rattle.blocks.specs.declared.Kind.the-variants.{Song, Instrument};
 ghost use Rattle.fields.specs.Fields.{songRules, instrumentRules, fieldRules};
 
 // Checks the playlist of the song at a place.
 fn check_song(m: &[u8], at: usize, patterns: u16) -> Verdict
-    requires { ⌜ at < 0x1000000000000000 ⌝ }
+    requires { ⌜ SmallPlace at ⌝ }
     ensures { λ r. ⌜ r ≡ firstBroken (songRules (now (m .entry)) patterns at) ⌝ }
 {
-    let mut entry = at + 46;
-    let mut left = number16(m, at + 44);
+    let mut entry = at + SONG_ENTRIES;
+    let mut left = song_length(m, at);
     while 0 < left {
         if patterns <= number16(m, entry) {
             return Verdict::Refused(refuse(Cause::Reference, entry));
@@ -56,20 +66,22 @@ fn check_songs(m: &[u8], chunk: Place, songs: u16, patterns: u16) -> Verdict
 
 // Checks the fields of the instrument at a place.
 fn check_instrument(m: &[u8], at: usize, samples: u16) -> Verdict
-    requires { ⌜ at < 0x1000000000000000 ⌝ }
+    requires { ⌜ SmallPlace at ⌝ }
     ensures { λ r. ⌜ r ≡ firstBroken (instrumentRules (now (m .entry)) samples at) ⌝ }
 {
-    if samples < number16(m, at + 30) {
-        return Verdict::Refused(refuse(Cause::Reference, at + 30));
+    let sample = instrument_sample(m, at);
+    let volume = instrument_volume(m, at);
+    if samples < sample {
+        return Verdict::Refused(refuse(Cause::Reference, at + INSTRUMENT_SAMPLE));
     }
-    if 64 < number16(m, at + 32) {
-        return Verdict::Refused(refuse(Cause::FieldRange, at + 32));
+    if 64 < volume {
+        return Verdict::Refused(refuse(Cause::FieldRange, at + INSTRUMENT_VOLUME));
     }
-    if !panning_fits(number16(m, at + 46)) {
-        return Verdict::Refused(refuse(Cause::FieldRange, at + 46));
+    if !panning_fits(instrument_panning(m, at)) {
+        return Verdict::Refused(refuse(Cause::FieldRange, at + INSTRUMENT_PANNING));
     }
-    if 4 <= number16(m, at + 48) {
-        return Verdict::Refused(refuse(Cause::FieldRange, at + 48));
+    if 4 <= instrument_flags(m, at) {
+        return Verdict::Refused(refuse(Cause::FieldRange, at + INSTRUMENT_FLAGS));
     }
     Verdict::Accepted
 }

@@ -14,6 +14,7 @@ ghost use mathlib.Core.Bool.{true, cond};
 ghost use Prim.Native.Nat.{ℕ, _+_, _<_, _≤_};
 ghost use lib.ListN.{length};
 ghost use Rattle.refusal.specs.Rules.{firstBroken};
+ghost use Rattle.numbers.specs.Numbers.{SmallPlace};
 ghost use Rattle.layout.specs.Chunks.{isLetter, fourLetters, needsInfo, covered, tracksFit, infoRules, chunks};
 ghost use Rattle.layout.specs.Outlines.{absent as absentPlace, placesOf};
 ghost use Rattle.layout.specs.Steps.{presentIn, putIn, lengthOf, isOther, OthersTo, metRules, placedRules, walked};
@@ -186,7 +187,7 @@ fn is_covered(identifier: u32) -> bool
 
 // Whether a whole chunk that is stepped over begins at a place.
 fn is_other(m: &[u8], at: usize) -> bool
-    requires { ⌜ at < 0x1000000000000000 ⌝ }
+    requires { ⌜ SmallPlace at ⌝ }
     ensures { λ r. ⌜ r ≡ isOther (now (m .entry)) at ⌝ }
 {
     if m.len() < at + 8 {
@@ -198,7 +199,7 @@ fn is_other(m: &[u8], at: usize) -> bool
 
 // The place after the chunks that are stepped over, from a place on.
 fn skip_others(m: &[u8], start: usize) -> usize
-    requires { ⌜ (start < 0x1000000000000000) × (length (now m) ≤ 16777216) ⌝ }
+    requires { ⌜ SmallPlace start × (length (now m) ≤ 16777216) ⌝ }
     ensures { λ r. ⌜ ((n : ℕ) × OthersTo (now (m .entry)) n start r) × (start ≤ r) ⌝ }
 {
     let mut at = start;

@@ -5,9 +5,9 @@ use mathlib.Core.Bool.{Bool, true, false, cond, not, _&&_, _||_}
 use lib.Dec.{eqb, leb}
 use Rattle.refusal.specs.Rules.{Rule, rule, rulesOfEach}
 use Rattle.refusal.specs.declared.Cause.the-variants.{Loop}
-use Rattle.numbers.specs.Numbers.{number16, number32}
 use Rattle.layout.specs.declared.Place.{Place}
 use Rattle.layout.specs.declared.Layout.{Layout}
+use Rattle.blocks.specs.StoredFields.{instrumentSample, instrumentLoopStart, instrumentLoopLength, instrumentFlags, sampleFrames}
 use Rattle.blocks.specs.Sizes.{blockAt, instrumentBlocks}
 use Rattle.blocks.specs.declared.Kind.the-variants.{Sample}
 use Rattle.fields.specs.Fields.{bit0, bit1}
@@ -26,17 +26,18 @@ isLoop forward = true
 isLoop pingPong = true
 
 abbrev pub looped : List ℕ → ℕ → Bool
-looped m at = isLoop (loopKind (number16 m (at + 48)) (number32 m (at + 42)))
+looped m at = isLoop (loopKind (instrumentFlags m at) (instrumentLoopLength m at))
 
 -- The frames of a sample, counted from 1.
 abbrev pub framesOf : List ℕ → Place → ℕ → ℕ
-framesOf m chunk sample = number32 m (blockAt m Sample chunk (sample - 1) + 4)
+framesOf m chunk sample = sampleFrames m (blockAt m Sample chunk (sample - 1))
 
 -- V6: then the sample is not 0, and start + length, as whole numbers, is at most its frames.
 abbrev pub loopFits : List ℕ → Place → ℕ → Bool
 loopFits m chunk at =
     not (looped m at)
-    || (leb 1 (number16 m (at + 30)) && leb (number32 m (at + 38) + number32 m (at + 42)) (framesOf m chunk (number16 m (at + 30))))
+    || (leb 1 (instrumentSample m at)
+    && leb (instrumentLoopStart m at + instrumentLoopLength m at) (framesOf m chunk (instrumentSample m at)))
 
 -- F16: 14 by instrument.
 abbrev pub instrumentLoopRules : List ℕ → Place → ℕ → List Rule

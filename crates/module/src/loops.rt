@@ -2,10 +2,13 @@
 use blocks::Kind;
 use blocks::block_at;
 use blocks::size;
+use blocks::stored::instrument_flags;
+use blocks::stored::instrument_loop_length;
+use blocks::stored::instrument_loop_start;
+use blocks::stored::instrument_sample;
+use blocks::stored::sample_frames;
 use layout::Layout;
 use layout::Place;
-use numbers::number16;
-use numbers::number32;
 use refusal::Cause;
 use refusal::Verdict;
 use refusal::refuse;
@@ -26,23 +29,23 @@ fn frames(m: &[u8], chunk: Place, sample: u16) -> u32
     requires { ⌜ 0 < sample ⌝ }
     ensures { λ r. ⌜ r ≡ framesOf (now (m .entry)) chunk sample ⌝ }
 {
-    number32(m, block_at(m, Kind::Sample, chunk, sample - 1) + 4)
+    sample_frames(m, block_at(m, Kind::Sample, chunk, sample - 1))
 }
 
 // Whether the loop of the instrument at a place, if it has one, is within its sample.
 fn loop_fits(m: &[u8], chunk: Place, at: usize) -> bool
-    requires { ⌜ at < 0x1000000000000000 ⌝ }
     ensures { λ r. ⌜ r ≡ loopFits (now (m .entry)) chunk at ⌝ }
 {
-    let length = number32(m, at + 42);
-    if !is_looped(number16(m, at + 48), length) {
+    let length = instrument_loop_length(m, at);
+    if !is_looped(instrument_flags(m, at), length) {
         return true;
     }
-    let sample = number16(m, at + 30);
+    let sample = instrument_sample(m, at);
     if sample < 1 {
         return false;
     }
-    (number32(m, at + 38) as usize) + (length as usize) <= (frames(m, chunk, sample) as usize)
+    (instrument_loop_start(m, at) as usize) + (length as usize)
+        <= (frames(m, chunk, sample) as usize)
 }
 
 // Checks the loops of the instruments.

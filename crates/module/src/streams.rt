@@ -2,26 +2,22 @@
 use blocks::Kind;
 use blocks::block_at;
 use blocks::size;
+use blocks::stored::packed_bytes;
+use blocks::stored::pattern_rows;
 use layout::Layout;
-use numbers::number16;
-use numbers::number32;
-use numbers::part;
 use refusal::Cause;
 use refusal::Verdict;
 use refusal::refuse;
 ghost use mathlib.Core.Path.{_≡_};
-ghost use Prim.Native.Nat.{_<_};
 ghost use Rattle.refusal.specs.Rules.{firstBroken, accepted};
 ghost use Rattle.module.specs.Streams.{streamVerdict, streamRules};
 
 // Whether the stream of the pattern at a place is sound.
 fn stream_fits(m: &[u8], tracks: u16, at: usize) -> bool
-    requires { ⌜ at < 0x1000000000000000 ⌝ }
     ensures { λ r. ⌜ r ≡ accepted (streamVerdict (now (m .entry)) tracks at) ⌝ }
 {
-    let packed = number32(m, at + 2) as usize;
-    let stream = part(m, at + 6, packed);
-    match packed_rows::check(stream, number16(m, at) as usize, tracks as usize) {
+    let rows = pattern_rows(m, at) as usize;
+    match packed_rows::check(packed_bytes(m, at), rows, tracks as usize) {
         Verdict::Accepted => true,
         Verdict::Refused(_) => false,
     }

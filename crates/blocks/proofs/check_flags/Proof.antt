@@ -18,10 +18,10 @@ loop-holds : tie.Need-loop-holds Inv-loop μ-loop
 loop-holds c = passing-first
 
 returns : tie.Need-returns Inv-loop μ-loop
-returns c = rule-stopped (c .before .before .before .before .before .before .loop .inv) refl (c .before .before .before .before .before .before .before .block-at .ensures .0) (c .before .before .before .before .before .loop-test .taken) (simp (← c .before .before .before .before .number32 .ensures, ← c .before .before .before .width .ensures .0, eq-eqb _ _ (c .before .before .if1 .taken))) (c .refuse .ensures)
+returns c = rule-stopped (c .before .before .before .before .before .before .loop .inv) refl (c .before .before .before .before .before .before .before .block-at .ensures .0) (c .before .before .before .before .before .loop-test .taken) (simp (← c .before .before .before .before .sample-flags .ensures, ← c .before .before .before .width .ensures .0, eq-eqb _ _ (c .before .before .if1 .taken))) (c .refuse .ensures)
 
 loop-again : tie.Need-loop-again Inv-loop μ-loop
-loop-again c = rule-turn (c .before .before .before .before .before .loop .inv) (c .before .before .before .before .loop-test .taken) (simp (← c .before .before .before .number32 .ensures, ← c .before .before .width .ensures .0, ne-eqb _ _ (c .before .if1 .left))) (c .size .ensures)
+loop-again c = rule-turn (c .before .before .before .before .before .loop .inv) (c .before .before .before .before .loop-test .taken) (simp (← c .before .before .before .sample-flags .ensures, ← c .before .before .width .ensures .0, ne-eqb _ _ (c .before .if1 .left))) (c .size .ensures)
 
 returns-2 : tie.Need-returns-2 Inv-loop μ-loop
 returns-2 c = passing-last (c .before .loop .inv) refl (c .before .before .block-at .ensures .0) (c .loop-test .left)

@@ -1,25 +1,24 @@
 use borrow.Author.Needs.{needs}
-use borrow.Author.Tests.{lt-ltb, le-ltb, le-leb, lt-leb}
-use borrow.Author.Tests.{not-true, not-false}
+use borrow.Author.Tests.{lt-ltb, le-ltb, le-leb, lt-leb, not-true, not-false}
 use Rattle.fields.proofs.check_instrument.Statement.{statement}
 use Rattle.fields.proofs.check_instrument.Tie as tie
 
 returns : tie.Need-returns
-returns c = simp (← c .before .before .number16 .ensures, lt-leb _ _ (c .before .if1 .taken), c .refuse .ensures)
+returns c = simp (← c .before .before .before .instrument-sample .ensures, lt-leb _ _ (c .before .if1 .taken), c .refuse .ensures)
 
 returns-2 : tie.Need-returns-2
-returns-2 c = simp (← c .before .before .before .before .number16 .ensures, le-leb _ _ (c .before .before .before .if1 .left), ← c .before .before .number162 .ensures, lt-leb _ _ (c .before .if2 .taken), c .refuse2 .ensures)
+returns-2 c = simp (← c .before .before .before .before .instrument-sample .ensures, le-leb _ _ (c .before .before .if1 .left), ← c .before .before .before .instrument-volume .ensures, lt-leb _ _ (c .before .if2 .taken), c .refuse2 .ensures)
 
 returns-3 : tie.Need-returns-3
-returns-3 c = simp (← c .before .before .before .before .before .before .before .number16 .ensures, le-leb _ _ (c .before .before .before .before .before .before .if1 .left), ← c .before .before .before .before .before .number162 .ensures, le-leb _ _ (c .before .before .before .before .if2 .left), ← c .before .before .before .number163 .ensures, ← c .before .before .panning-fits .ensures, not-true (c .before .before .panning-fits .result) (c .before .if3 .taken), c .refuse3 .ensures)
+returns-3 c = simp (← c .before .before .before .before .before .before .before .instrument-sample .ensures, le-leb _ _ (c .before .before .before .before .before .if1 .left), ← c .before .before .before .before .before .before .instrument-volume .ensures, le-leb _ _ (c .before .before .before .before .if2 .left), ← c .before .before .before .instrument-panning .ensures, ← c .before .before .panning-fits .ensures, not-true (c .before .before .panning-fits .result) (c .before .if3 .taken), c .refuse3 .ensures)
 
 returns-4 : tie.Need-returns-4
-returns-4 c = simp (← c .before .before .before .before .before .before .before .before .before .number16 .ensures, le-leb _ _ (c .before .before .before .before .before .before .before .before .if1 .left), ← c .before .before .before .before .before .before .before .number162 .ensures, le-leb _ _ (c .before .before .before .before .before .before .if2 .left), ← c .before .before .before .before .before .number163 .ensures, ← c .before .before .before .before .panning-fits .ensures, not-false (c .before .before .before .before .panning-fits .result) (c .before .before .before .if3 .left), ← c .before .before .number164 .ensures, le-ltb _ _ (c .before .if4 .taken), c .refuse4 .ensures)
+returns-4 c = simp (← c .before .before .before .before .before .before .before .before .before .instrument-sample .ensures, le-leb _ _ (c .before .before .before .before .before .before .before .if1 .left), ← c .before .before .before .before .before .before .before .before .instrument-volume .ensures, le-leb _ _ (c .before .before .before .before .before .before .if2 .left), ← c .before .before .before .before .before .instrument-panning .ensures, ← c .before .before .before .before .panning-fits .ensures, not-false (c .before .before .before .before .panning-fits .result) (c .before .before .before .if3 .left), ← c .before .before .instrument-flags .ensures, le-ltb _ _ (c .before .if4 .taken), c .refuse4 .ensures)
 
 returns-5 : tie.Need-returns-5
-returns-5 c = simp (← c .before .before .before .before .before .before .before .before .number16 .ensures, le-leb _ _ (c .before .before .before .before .before .before .before .if1 .left), ← c .before .before .before .before .before .before .number162 .ensures, le-leb _ _ (c .before .before .before .before .before .if2 .left), ← c .before .before .before .before .number163 .ensures, ← c .before .before .before .panning-fits .ensures, not-false (c .before .before .before .panning-fits .result) (c .before .before .if3 .left), ← c .before .number164 .ensures, lt-ltb _ _ (c .if4 .left))
+returns-5 c = simp (← c .before .before .before .before .before .before .before .before .instrument-sample .ensures, le-leb _ _ (c .before .before .before .before .before .before .if1 .left), ← c .before .before .before .before .before .before .before .instrument-volume .ensures, le-leb _ _ (c .before .before .before .before .before .if2 .left), ← c .before .before .before .before .instrument-panning .ensures, ← c .before .before .before .panning-fits .ensures, not-false (c .before .before .before .panning-fits .result) (c .before .before .if3 .left), ← c .before .instrument-flags .ensures, lt-ltb _ _ (c .if4 .left))
 
 pub check-instrument-spec : {M : Type 1} → statement M
 check-instrument-spec =
     tie.close
-    (tie.spec (λ c. search needs) (λ c κs. search needs) (λ c. search needs) (λ c κs. search needs) returns (λ c. search needs) (λ c κs. search needs) (λ c. search needs) (λ c κs. search needs) returns-2 (λ c. search needs) (λ c κs. search needs) (λ c κs. search needs) (λ c. search needs) (λ c κs. search needs) returns-3 (λ c. search needs) (λ c κs. search needs) (λ c. search needs) (λ c κs. search needs) returns-4 returns-5)
+    (tie.spec (λ c κs. search needs) (λ c κs. search needs) (λ c. search needs) (λ c κs. search needs) returns (λ c. search needs) (λ c κs. search needs) returns-2 (λ c κs. search needs) (λ c κs. search needs) (λ c. search needs) (λ c κs. search needs) returns-3 (λ c κs. search needs) (λ c. search needs) (λ c κs. search needs) returns-4 returns-5)

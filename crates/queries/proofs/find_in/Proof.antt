@@ -12,7 +12,7 @@ returns-2 : tie.Need-returns-2
 returns-2 c = is-answer-with foundNumbers ((simp (← c .before .before .before .before .first-of .ensures, le-leb _ _ (c .before .before .before .if1 .left), ← c .before .before .count-of .ensures, le-ltb _ _ (c .before .if2 .taken), c .refuse2 .ensures), search needs))
 
 returns-3 : tie.Need-returns-3
-returns-3 c = is-answer-with foundNumbers ((simp (← c .before .before .before .before .before .before .first-of .ensures, le-leb _ _ (c .before .before .before .before .before .if1 .left), ← c .before .before .before .before .count-of .ensures, lt-ltb _ _ (c .before .before .before .if2 .left), c .block-at .ensures .0, c .before .before .kind-of .ensures, c .before .chunk-of .ensures), c .block-at .ensures .1))
+returns-3 c = is-answer-with foundNumbers ((simp (← c .before .before .before .before .before .before .first-of .ensures, le-leb _ _ (c .before .before .before .before .before .if1 .left), ← c .before .before .before .before .count-of .ensures, lt-ltb _ _ (c .before .before .before .if2 .left), c .block-at .ensures .0, c .before .before .kind-of .ensures, c .before .chunk-of .ensures), search needs))
 
 pub find-in-spec : {M : Type 1} → statement M
 find-in-spec =

@@ -3,13 +3,14 @@ use mathlib.Core.Path.{refl, sym, _∙_}
 use native.Mathlib.Omega.{arith}
 use lib.ListN.{length}
 use borrow.Author.Needs.{needs}
+use Rattle.numbers.specs.Numbers.{SmallPlace}
 use Rattle.layout.specs.Steps.{OthersTo}
 use Rattle.layout.proofs.Others.{other-end, others-more}
 use Rattle.layout.proofs.walk.skip_others.Statement.{statement}
 use Rattle.layout.proofs.walk.skip_others.Tie as tie
 
 abbrev Inv-loop : tie.InvT-loop
-Inv-loop m start at₀ at = ((n : ℕ) × OthersTo m n start at) × (start ≤ at) × (at < 0x1000000000000000)
+Inv-loop m start at₀ at = ((n : ℕ) × OthersTo m n start at) × (start ≤ at) × SmallPlace at
 
 abbrev μ-loop : tie.MeasureT-loop
 μ-loop m start at₀ at = length m - at

@@ -1,0 +1,13 @@
+use borrow.Author.Needs.{needs}
+use native.Mathlib.Omega.{arith}
+use mathlib.Core.Path.{sym}
+use Prim.Native.Nat.{_+_}
+use Rattle.numbers.proofs.Bytes.{number32-past}
+use Rattle.blocks.proofs.stored.number32_after.Statement.{statement}
+use Rattle.blocks.proofs.stored.number32_after.Tie as tie
+
+returns : tie.Need-returns
+returns c = sym (number32-past (c .before .before .args .m .now) (c .before .before .args .at + c .before .before .args .offset) (omega (arith, c .if1 .taken)))
+
+pub number32-after-spec : {M : Type 1} → statement M
+number32-after-spec = tie.close (tie.spec returns (λ c. search needs) (λ c κs. search needs) (λ c. search needs))
