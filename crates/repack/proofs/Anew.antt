@@ -22,10 +22,11 @@ use Rattle.packed_rows.proofs.StreamLength.{packed-length}
 use Rattle.packed_rows.proofs.Repacking.{repack-found}
 use Rattle.packed_rows.proofs.Accepted.{accepted-rows}
 use Rattle.packed_rows.proofs.Theorems.{none-shorter}
-use Rattle.numbers.specs.Numbers.{number16, number32, partOf}
+use Rattle.numbers.specs.Numbers.{partOf}
+use Rattle.blocks.specs.StoredFields.{patternRows, patternPackedLength, packedBytes}
 use Rattle.blocks.specs.Sizes.{sizeOf}
 use Rattle.blocks.specs.declared.Kind.the-variants.{Pattern}
-use Rattle.module.specs.Streams.{packedBytes, streamVerdict}
+use Rattle.module.specs.Streams.{streamVerdict}
 use Rattle.acceptance.proofs.Locating.{part-length}
 use Rattle.acceptance.proofs.BlockStreams.{accepted-sizes, holds}
 use Rattle.repack.specs.Repacked.{packed, repackedStream, repackedBlock}
@@ -40,33 +41,33 @@ filled-shorter : (n k : ℕ) → n ≤ k → n + n % 2 ≤ k + k % 2
 filled-shorter n k h = omega arith
 
 module _ (m : List ℕ) (tracks at : ℕ) (sound : streamVerdict m tracks at ≡ Accepted) where
-  fits : sizesFit (number16 m at) tracks ≡ true
-  fits = accepted-sizes (packedBytes m at) (number16 m at) tracks sound
+  fits : sizesFit (patternRows m at) tracks ≡ true
+  fits = accepted-sizes (packedBytes m at) (patternRows m at) tracks sound
 
   read : Reading
-  read = readStream (number16 m at) tracks (packedBytes m at)
+  read = readStream (patternRows m at) tracks (packedBytes m at)
 
-  read-sound : verdictOf (readStream (number16 m at) tracks (packedBytes m at)) ≡ Accepted
+  read-sound : verdictOf (readStream (patternRows m at) tracks (packedBytes m at)) ≡ Accepted
   read-sound = simp fits at sound
 
-  stream-length : length (repackedStream m tracks at) ≡ packedLength (rowsFrom tracks (entriesRead (readStream (number16 m at) tracks (packedBytes m at))))
-  stream-length = packed-length (rowsFrom tracks (entriesRead (readStream (number16 m at) tracks (packedBytes m at))))
+  stream-length : length (repackedStream m tracks at) ≡ packedLength (rowsFrom tracks (entriesRead (readStream (patternRows m at) tracks (packedBytes m at))))
+  stream-length = packed-length (rowsFrom tracks (entriesRead (readStream (patternRows m at) tracks (packedBytes m at))))
 
-  pub stream-answer : (room : ℕ) → repackAnswer (packedBytes m at) (number16 m at) tracks room ≡ packedIf (length (repackedStream m tracks at)) room
-  stream-answer room = rw stream-length (simp fits (sym (repack-found (readStream (number16 m at) tracks (packedBytes m at)) tracks room read-sound)))
+  pub stream-answer : (room : ℕ) → repackAnswer (packedBytes m at) (patternRows m at) tracks room ≡ packedIf (length (repackedStream m tracks at)) room
+  stream-answer room = rw stream-length (simp fits (sym (repack-found (readStream (patternRows m at) tracks (packedBytes m at)) tracks room read-sound)))
 
-  pub stream-output : (out : List ℕ) → length (repackedStream m tracks at) ≤ length out → repackOutput (packedBytes m at) (number16 m at) tracks out ≡ repackedStream m tracks at ++ drop (length (repackedStream m tracks at)) out
+  pub stream-output : (out : List ℕ) → length (repackedStream m tracks at) ≤ length out → repackOutput (packedBytes m at) (patternRows m at) tracks out ≡ repackedStream m tracks at ++ drop (length (repackedStream m tracks at)) out
   stream-output out h = simp (stream-answer (length out), le-ltb (length out) (length (repackedStream m tracks at)) h)
 
   pub stream-shorter : length (repackedStream m tracks at) ≤ length (packedBytes m at)
   stream-shorter =
-      let accepted = holds (packedBytes m at) (number16 m at) tracks sound in
-      let least = none-shorter (number16 m at) tracks (packedBytes m at) (cellsRead (number16 m at) tracks (packedBytes m at)) accepted in
-      let same : packedLength (rowsOf (number16 m at) tracks (cellsRead (number16 m at) tracks (packedBytes m at))) ≡ packedLength (rowsFrom tracks (entriesRead (readStream (number16 m at) tracks (packedBytes m at)))) = ap packedLength (accepted-rows accepted ∙ ap (λ (r : Reading). rowsFrom tracks (entriesRead r)) (sym (accepted .read))) in
+      let accepted = holds (packedBytes m at) (patternRows m at) tracks sound in
+      let least = none-shorter (patternRows m at) tracks (packedBytes m at) (cellsRead (patternRows m at) tracks (packedBytes m at)) accepted in
+      let same : packedLength (rowsOf (patternRows m at) tracks (cellsRead (patternRows m at) tracks (packedBytes m at))) ≡ packedLength (rowsFrom tracks (entriesRead (readStream (patternRows m at) tracks (packedBytes m at)))) = ap packedLength (accepted-rows accepted ∙ ap (λ (r : Reading). rowsFrom tracks (entriesRead r)) (sym (accepted .read))) in
       omega (arith, stream-length, least, same)
 
-  pub stream-least : length (repackedStream m tracks at) ≤ number32 m (at + 2)
-  stream-least = omega (arith, stream-shorter, length-take (number32 m (at + 2)) (drop (at + 6) m))
+  pub stream-least : length (repackedStream m tracks at) ≤ patternPackedLength m at
+  stream-least = omega (arith, stream-shorter, length-take (patternPackedLength m at) (drop (at + 6) m))
 
   module _ (inside : at + 2 ≤ length m) where
     pub block-size : length (repackedBlock m tracks at) ≡ 6 + length (repackedStream m tracks at) + length (repackedStream m tracks at) % 2
@@ -74,7 +75,7 @@ module _ (m : List ℕ) (tracks at : ℕ) (sound : streamVerdict m tracks at ≡
 
     pub block-shorter : length (repackedBlock m tracks at) ≤ sizeOf Pattern m at
     unfolding sizeOf
-    block-shorter = omega (arith, block-size, filled-shorter (length (repackedStream m tracks at)) (number32 m (at + 2)) stream-least)
+    block-shorter = omega (arith, block-size, filled-shorter (length (repackedStream m tracks at)) (patternPackedLength m at) stream-least)
 
 -- The length that repacking a stream answers, whether there is room or not.
 abbrev pub lengthTold : Packing → ℕ
@@ -89,17 +90,14 @@ told-needed needed room = go (ltb room needed)
     go false = refl
 
 -- What repacking the stream of a pattern leaves, by what its call was given and answered.
-pub stream-done : (m : List ℕ) (tracks at : ℕ) → streamVerdict m tracks at ≡ Accepted → (p : Packing) (stream out out′ : List ℕ) (rows size n : ℕ) → size ≡ number32 m (at + 2) → size < 0x100000000 → stream ≡ partOf m (at + 6) size → rows ≡ number16 m at → p ≡ repackAnswer stream rows tracks (length out) → out′ ≡ repackOutput stream rows tracks out → n ≡ lengthTold p → (n ≡ length (repackedStream m tracks at)) × (n ≤ number32 m (at + 2)) × (n < 0x100000000) × (n ≤ length out → out′ ≡ repackedStream m tracks at ++ drop n out)
-stream-done m tracks at sound p stream out out′ rows size n sized below s r answered written told =
-    (is, omega (arith, is, least), omega (arith, is, least, sized, below), λ h. rw is (written ∙ rw (same, r) (stream-output m tracks at sound out (rw is at h))))
+pub stream-done : (m : List ℕ) (tracks at : ℕ) → streamVerdict m tracks at ≡ Accepted → (p : Packing) (stream out out′ : List ℕ) (rows n : ℕ) → (stream ≡ packedBytes m at) × (length stream < 0x100000000) → rows ≡ patternRows m at → p ≡ repackAnswer stream rows tracks (length out) → out′ ≡ repackOutput stream rows tracks out → n ≡ lengthTold p → (n ≡ length (repackedStream m tracks at)) × (n ≤ patternPackedLength m at) × (n < 0x100000000) × (n ≤ length out → out′ ≡ repackedStream m tracks at ++ drop n out)
+stream-done m tracks at sound p stream out out′ rows n (same, below) r answered written told =
+    (is, omega (arith, is, least), omega (arith, is, stream-shorter m tracks at sound, ap length same, below), λ h. rw is (written ∙ rw (same, r) (stream-output m tracks at sound out (rw is at h))))
   where
-    same : stream ≡ packedBytes m at
-    same = rw sized at s
-
     is : n ≡ length (repackedStream m tracks at)
     is =
         let answer : p ≡ packedIf (length (repackedStream m tracks at)) (length out) = answered ∙ rw (same, r) (stream-answer m tracks at sound (length out)) in
         told ∙ ap lengthTold answer ∙ told-needed (length (repackedStream m tracks at)) (length out)
 
-    least : length (repackedStream m tracks at) ≤ number32 m (at + 2)
+    least : length (repackedStream m tracks at) ≤ patternPackedLength m at
     least = stream-least m tracks at sound

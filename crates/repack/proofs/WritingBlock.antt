@@ -9,7 +9,8 @@ use lib.ListN.{length, getD, take, drop, set, replicate, length-append}
 use lib.Seq.{drop-cons, set-at}
 use borrow.Rule.Slice.PartMut.{midOf, putMid}
 use Rattle.refusal.specs.declared.Verdict.the-variants.{Accepted}
-use Rattle.numbers.specs.Numbers.{number32, partOf, bytes32, putAt}
+use Rattle.numbers.specs.Numbers.{partOf, bytes32, putAt}
+use Rattle.blocks.specs.StoredFields.{patternPackedLength}
 use Rattle.module.specs.Streams.{streamVerdict}
 use Rattle.acceptance.proofs.Locating.{part-length}
 use Rattle.repack.specs.Repacked.{packed, repackedStream, repackedBlock}
@@ -50,7 +51,7 @@ module _ (m : List ℕ) (tracks at : ℕ) (inside : at + 6 ≤ length m) (sound 
     pub rows-fit : length source ≤ length out
     rows-fit = omega (arith, ap length s, two, six-fit)
 
-    module _ {first : List ℕ} (copy : first ≡ take (length source) source ++ drop (length source) out) {n : ℕ} {mid : List ℕ} (told : (n ≡ length (repackedStream m tracks at)) × (n ≤ number32 m (at + 2)) × (n < 0x100000000) × (n ≤ length (midOf 6 (length first - 6) first) → mid ≡ repackedStream m tracks at ++ drop n (midOf 6 (length first - 6) first))) where
+    module _ {first : List ℕ} (copy : first ≡ take (length source) source ++ drop (length source) out) {n : ℕ} {mid : List ℕ} (told : (n ≡ length (repackedStream m tracks at)) × (n ≤ patternPackedLength m at) × (n < 0x100000000) × (n ≤ length (midOf 6 (length first - 6) first) → mid ≡ repackedStream m tracks at ++ drop n (midOf 6 (length first - 6) first))) where
       rows-first : first ≡ partOf m at 2 ++ drop 2 out
       rows-first = copied source (partOf m at 2) out first s copy ∙ ap (λ (k : ℕ). partOf m at 2 ++ drop k out) two
 

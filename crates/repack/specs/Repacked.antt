@@ -9,20 +9,20 @@ use Rattle.vocabulary.specs.Lists.{joined}
 use Rattle.packed_rows.specs.Entries.{rowsFrom}
 use Rattle.packed_rows.specs.Stream.{readStream, entriesRead}
 use Rattle.packed_rows.specs.Packer.{packedStream}
-use Rattle.numbers.specs.Numbers.{number16, partOf, bytes32}
+use Rattle.numbers.specs.Numbers.{partOf, bytes32}
 use Rattle.layout.specs.Chunks.{PATT, Chunk, Walk, whole, stopped, chunks}
 use Rattle.layout.specs.declared.Layout.{Layout}
 use Rattle.layout.specs.declared.Outline.{Outline}
 use Rattle.layout.specs.declared.Outline.the-variants.{Found, Refused}
+use Rattle.blocks.specs.StoredFields.{patternRows, packedBytes}
 use Rattle.blocks.specs.Sizes.{patternBlocks}
-use Rattle.module.specs.Streams.{packedBytes}
 use Rattle.module.specs.Verdicts.{opened}
 use Rattle.refusal.specs.Lengths.{refusedLength, lengthIf, outputIf}
 use Rattle.refusal.specs.declared.LengthAnswer.{LengthAnswer}
 
 -- X3: the packer's stream (W1 to W3) of the cells of the pattern at a place, with its rows and the module's tracks.
 abbrev pub repackedStream : List ℕ → ℕ → ℕ → List ℕ
-repackedStream m tracks at = packedStream (rowsFrom tracks (entriesRead (readStream (number16 m at) tracks (packedBytes m at))))
+repackedStream m tracks at = packedStream (rowsFrom tracks (entriesRead (readStream (patternRows m at) tracks (packedBytes m at))))
 
 -- X3: a stream as it stands in a block: its length in 4 bytes, the stream, and a filler, 0, if its length is odd.
 abbrev pub packed : List ℕ → List ℕ

@@ -4,11 +4,11 @@
 use blocks::Kind;
 use blocks::block_at;
 use blocks::size;
+use blocks::stored::packed_bytes;
+use blocks::stored::pattern_rows;
 use layout::Layout;
 use layout::Outline;
 use layout::Place;
-use numbers::number16;
-use numbers::number32;
 use numbers::part;
 use numbers::put32;
 use packed_rows::Packing;
@@ -22,8 +22,8 @@ ghost use mathlib.Core.List.{_++_};
 ghost use Prim.Native.Nat.{_+_, _<_, _≤_};
 ghost use lib.ListN.{length, drop};
 ghost use Rattle.refusal.specs.declared.Verdict.the-variants.{Accepted};
-ghost use Rattle.numbers.specs.Numbers.{number32 as number32At};
 ghost use Rattle.layout.specs.declared.Outline.the-variants.{Found};
+ghost use Rattle.blocks.specs.StoredFields.{patternPackedLength};
 ghost use Rattle.blocks.specs.Sizes.{firstBlock};
 ghost use Rattle.blocks.specs.declared.Kind.the-variants.{Pattern};
 ghost use Rattle.module.specs.Streams.{streamVerdict};
@@ -34,12 +34,11 @@ ghost use Rattle.repack.specs.Steps.{blocksAnew, frontAnew, replaced, Pa
 // Writes the packer's stream of the pattern at a place to the front of an output that has room for it, and answers its length, also
 // where there is no room.
 fn repack_stream(m: &[u8], tracks: u16, at: usize, out: &mut [u8]) -> usize
-    requires { ⌜ (at + 6 ≤ length (now m)) × (streamVerdict (now m) tracks at ≡ Accepted) ⌝ }
-    ensures { λ r. ⌜ (r ≡ length (repackedStream (now (m .entry)) tracks at)) × (r ≤ number32At (now (m .entry)) (at + 2)) × (r < 0x100000000) × (r ≤ length (now (out .entry)) → now (out .exit) ≡ repackedStream (now (m .entry)) tracks at ++ drop r (now (out .entry))) ⌝ }
+    requires { ⌜ streamVerdict (now m) tracks at ≡ Accepted ⌝ }
+    ensures { λ r. ⌜ (r ≡ length (repackedStream (now (m .entry)) tracks at)) × (r ≤ patternPackedLength (now (m .entry)) at) × (r < 0x100000000) × (r ≤ length (now (out .entry)) → now (out .exit) ≡ repackedStream (now (m .entry)) tracks at ++ drop r (now (out .entry))) ⌝ }
 {
-    let packed = number32(m, at + 2) as usize;
-    let stream = part(m, at + 6, packed);
-    match packed_rows::repack(stream, number16(m, at) as usize, tracks as usize, out) {
+    let rows = pattern_rows(m, at) as usize;
+    match packed_rows::repack(packed_bytes(m, at), rows, tracks as usize, out) {
         Packing::Packed(n) => n,
         Packing::Refused(r) => r.place,
     }
