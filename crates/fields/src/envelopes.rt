@@ -1,8 +1,4 @@
 // The checked fields of envelopes: refusals 12 and 13.
-use blocks::Kind;
-use blocks::block_at;
-use blocks::envelope_count;
-use blocks::size;
 use blocks::stored::ENVELOPE_FIRST_SUSTAIN;
 use blocks::stored::ENVELOPE_FLAGS;
 use blocks::stored::ENVELOPE_LOOP_FIRST;
@@ -18,15 +14,13 @@ use blocks::stored::envelope_loop_first;
 use blocks::stored::envelope_loop_last;
 use blocks::stored::envelope_second_sustain;
 use blocks::stored::envelope_sections;
-use layout::Place;
 use numbers::number16;
 use refusal::Cause;
 use refusal::Verdict;
 use refusal::refuse;
 ghost use mathlib.Core.Path.{_≡_};
-ghost use Rattle.refusal.specs.Rules.{firstBroken, rulesOfEach};
+ghost use Rattle.refusal.specs.Rules.{firstBroken};
 ghost use Rattle.numbers.specs.Numbers.{SmallPlace};
-ghost use Rattle.blocks.specs.Sizes.{envelopeBlocks};
 ghost use Rattle.fields.specs.Fields.{panningFits, envelopeHeadRules, envelopePointRules, valueFits, valuesRules, envelopeRules};
 
 // Checks instrument, flags and sections of the envelope at a place.
@@ -105,7 +99,7 @@ fn check_values(m: &[u8], signed: bool, sections: u8, at: usize) -> Verdict
 }
 
 // Checks the envelope at a place.
-fn check_envelope(m: &[u8], at: usize, instruments: u16, signed: bool) -> Verdict
+pub fn check_envelope(m: &[u8], at: usize, instruments: u16, signed: bool) -> Verdict
     requires { ⌜ SmallPlace at ⌝ }
     ensures { λ r. ⌜ r ≡ firstBroken (envelopeRules (now (m .entry)) instruments signed at) ⌝ }
 {
@@ -117,20 +111,4 @@ fn check_envelope(m: &[u8], at: usize, instruments: u16, signed: bool) -> Verdic
         return Verdict::Refused(r);
     }
     check_values(m, signed, sections, at)
-}
-
-// Checks the envelopes of a chunk.
-pub fn check_envelopes(m: &[u8], chunk: Place, instruments: u16, signed: bool) -> Verdict
-    ensures { λ r. ⌜ r ≡ firstBroken (rulesOfEach (envelopeRules (now (m .entry)) instruments signed) (envelopeBlocks (now (m .entry)) chunk)) ⌝ }
-{
-    let mut at = block_at(m, Kind::Envelope, chunk, 0);
-    let mut left = envelope_count(m, chunk);
-    while 0 < left {
-        if let Verdict::Refused(r) = check_envelope(m, at, instruments, signed) {
-            return Verdict::Refused(r);
-        }
-        at = at + size(m, Kind::Envelope, at);
-        left = left - 1;
-    }
-    Verdict::Accepted
 }

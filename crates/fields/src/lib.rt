@@ -2,10 +2,13 @@
 // refusals 12 and 13.
 mod envelopes;
 
-use crate::envelopes::check_envelopes;
+use crate::envelopes::check_envelope;
 use crate::envelopes::panning_fits;
-use blocks::Kind;
+use blocks::Thing;
 use blocks::block_at;
+use blocks::chunk_of;
+use blocks::count_of;
+use blocks::kind_of;
 use blocks::size;
 use blocks::stored::INSTRUMENT_FLAGS;
 use blocks::stored::INSTRUMENT_PANNING;
@@ -18,18 +21,15 @@ use blocks::stored::instrument_sample;
 use blocks::stored::instrument_volume;
 use blocks::stored::song_length;
 use layout::Layout;
-use layout::Place;
 use numbers::number16;
 use refusal::Cause;
 use refusal::Verdict;
 use refusal::refuse;
 ghost use mathlib.Core.Path.{_≡_};
 ghost use Rattle.refusal.specs.Numbers.{verdictNumbers, IsAnswer};
-ghost use Rattle.refusal.specs.Rules.{firstBroken, rulesOfEach};
+ghost use Rattle.refusal.specs.Rules.{firstBroken};
 ghost use Rattle.numbers.specs.Numbers.{SmallPlace};
-ghost use Rattle.blocks.specs.Sizes.{blocksOf};
-ghost use Rattle.blocks.specs.declared.Kind.the-variants.{Song, Instrument};
-ghost use Rattle.fields.specs.Fields.{songRules, instrumentRules, fieldRules};
+ghost use Rattle.fields.specs.Fields.{songRules, instrumentRules, rulesOfBlock, rulesOfBlocks, fieldRules};
 
 // Checks the playlist of the song at a place.
 fn check_song(m: &[u8], at: usize, patterns: u16) -> Verdict
@@ -43,22 +43,6 @@ fn check_song(m: &[u8], at: usize, patterns: u16) -> Verdict
             return Verdict::Refused(refuse(Cause::Reference, entry));
         }
         entry = entry + 2;
-        left = left - 1;
-    }
-    Verdict::Accepted
-}
-
-// Checks the songs.
-fn check_songs(m: &[u8], chunk: Place, songs: u16, patterns: u16) -> Verdict
-    ensures { λ r. ⌜ r ≡ firstBroken (rulesOfEach (songRules (now (m .entry)) patterns) (blocksOf (now (m .entry)) Song chunk songs)) ⌝ }
-{
-    let mut at = block_at(m, Kind::Song, chunk, 0);
-    let mut left = songs;
-    while 0 < left {
-        if let Verdict::Refused(r) = check_song(m, at, patterns) {
-            return Verdict::Refused(r);
-        }
-        at = at + size(m, Kind::Song, at);
         left = left - 1;
     }
     Verdict::Accepted
@@ -86,17 +70,33 @@ fn check_instrument(m: &[u8], at: usize, samples: u16) -> Verdict
     Verdict::Accepted
 }
 
-// Checks the fields of the instruments.
-fn check_instruments(m: &[u8], chunk: Place, instruments: u16, samples: u16) -> Verdict
-    ensures { λ r. ⌜ r ≡ firstBroken (rulesOfEach (instrumentRules (now (m .entry)) samples) (blocksOf (now (m .entry)) Instrument chunk instruments)) ⌝ }
+// Checks the fields of the block at a place, by what it is. A pattern and a sample have no such field.
+fn check_block(m: &[u8], l: Layout, thing: Thing, at: usize) -> Verdict
+    requires { ⌜ SmallPlace at ⌝ }
+    ensures { λ r. ⌜ r ≡ firstBroken (rulesOfBlock (now (m .entry)) l thing at) ⌝ }
 {
-    let mut at = block_at(m, Kind::Instrument, chunk, 0);
-    let mut left = instruments;
+    match thing {
+        Thing::Song => check_song(m, at, l.patterns),
+        Thing::Instrument => check_instrument(m, at, l.samples),
+        Thing::Pattern => Verdict::Accepted,
+        Thing::Sample => Verdict::Accepted,
+        Thing::VolumeEnvelope => check_envelope(m, at, l.instruments, false),
+        Thing::PanningEnvelope => check_envelope(m, at, l.instruments, l.version == 3),
+    }
+}
+
+// Checks the fields of all blocks of a chunk.
+fn check_blocks(m: &[u8], l: Layout, thing: Thing) -> Verdict
+    ensures { λ r. ⌜ r ≡ firstBroken (rulesOfBlocks (now (m .entry)) l thing) ⌝ }
+{
+    let kind = kind_of(thing);
+    let mut at = block_at(m, kind, chunk_of(l, thing), 0);
+    let mut left = count_of(m, l, thing);
     while 0 < left {
-        if let Verdict::Refused(r) = check_instrument(m, at, samples) {
+        if let Verdict::Refused(r) = check_block(m, l, thing, at) {
             return Verdict::Refused(r);
         }
-        at = at + size(m, Kind::Instrument, at);
+        at = at + size(m, kind, at);
         left = left - 1;
     }
     Verdict::Accepted
@@ -106,15 +106,14 @@ fn check_instruments(m: &[u8], chunk: Place, instruments: u16, samples: u16) -> 
 pub fn check(m: &[u8], l: Layout) -> Verdict
     ensures { λ r. ⌜ IsAnswer verdictNumbers r (firstBroken (fieldRules (now (m .entry)) l)) ⌝ }
 {
-    let p = l.places;
-    if let Verdict::Refused(r) = check_songs(m, p.song, l.songs, l.patterns) {
+    if let Verdict::Refused(r) = check_blocks(m, l, Thing::Song) {
         return Verdict::Refused(r);
     }
-    if let Verdict::Refused(r) = check_instruments(m, p.inst, l.instruments, l.samples) {
+    if let Verdict::Refused(r) = check_blocks(m, l, Thing::Instrument) {
         return Verdict::Refused(r);
     }
-    if let Verdict::Refused(r) = check_envelopes(m, p.venv, l.instruments, false) {
+    if let Verdict::Refused(r) = check_blocks(m, l, Thing::VolumeEnvelope) {
         return Verdict::Refused(r);
     }
-    check_envelopes(m, p.penv, l.instruments, l.version == 3)
+    check_blocks(m, l, Thing::PanningEnvelope)
 }
