@@ -1,6 +1,6 @@
 -- FORMAT.md, B6, Q3 and Q9 (document 01, "Layout"): envelopes as they are shown. Each answer begins with the refusal's number and
 -- place, 0 and 0 where there is none; on a refusal all else is 0.
-use Prim.Native.Nat.{ℕ, _+_, _*_}
+use Prim.Native.Nat.{ℕ, _*_}
 use mathlib.Core.List.{List}
 use mathlib.Core.Bool.{cond}
 use lib.ListN.{replicate}
@@ -8,9 +8,12 @@ use lib.Dec.{eqb, leb}
 use lib.IntN.{ℤ, pos, _-ℤ_}
 use Rattle.refusal.specs.Numbers.{noRefusal, refusedOutcome}
 use Rattle.refusal.specs.declared.Refusal.{Refusal}
-use Rattle.numbers.specs.Numbers.{byteAt, number16, signed16, eachFrom}
+use Rattle.numbers.specs.Numbers.{signed16, eachFrom}
 use Rattle.layout.specs.declared.Outline.{Outline}
 use Rattle.layout.specs.declared.Outline.the-variants.{Found as Opened, Refused as OpeningRefused}
+use Rattle.blocks.specs.StoredFields.{envelopeInstrument, envelopeFlags, envelopeSections}
+use Rattle.blocks.specs.StoredFields.{envelopeFirstSustain, envelopeLoopFirst, envelopeLoopLast, envelopeSecondSustain}
+use Rattle.blocks.specs.StoredFields.{envelopePosition, envelopeValue}
 use Rattle.blocks.specs.Sizes.{envelopeCount}
 use Rattle.blocks.specs.Things.{chunkOf}
 use Rattle.blocks.specs.declared.Thing.{Thing}
@@ -42,7 +45,7 @@ countAnswer m kind = countIf m kind (opened m)
 
 -- Q9: the points in use are sections + 1, so the last of them has the number of the sections; the others are shown as zeros.
 abbrev pub positionShown : List ℕ → ℕ → ℕ → ℕ → ℕ
-positionShown m at sections point = cond (leb point sections) (number16 m (at + 8 + 4 * point)) 0
+positionShown m at sections point = cond (leb point sections) (envelopePosition m at point) 0
 
 -- Q9: a value of volume as stored; a value of panning is signed, and in version 2 a stored v is shown as 4v − 128.
 abbrev pub valueOf : EnvelopeKind → ℕ → ℕ → ℤ
@@ -50,7 +53,7 @@ valueOf Volume version v = pos v
 valueOf Panning version v = cond (eqb version 2) (pos (4 * v) -ℤ pos 128) (signed16 v)
 
 abbrev pub valueShown : List ℕ → EnvelopeKind → ℕ → ℕ → ℕ → ℕ → ℤ
-valueShown m kind version at sections point = cond (leb point sections) (valueOf kind version (number16 m (at + 10 + 4 * point))) (pos 0)
+valueShown m kind version at sections point = cond (leb point sections) (valueOf kind version (envelopeValue m at point)) (pos 0)
 
 abbrev pub noEnvelope : Refusal → EnvelopeAnswer
 noEnvelope r = record {
@@ -70,15 +73,15 @@ noEnvelope r = record {
 abbrev pub shownEnvelope : List ℕ → EnvelopeKind → ℕ → ℕ → EnvelopeAnswer
 shownEnvelope m kind version at = record {
   outcome = noRefusal;
-  instrument = number16 m at;
-  flags = byteAt m (at + 2);
-  sections = byteAt m (at + 3);
-  «first_sustain» = byteAt m (at + 4);
-  «loop_first» = byteAt m (at + 5);
-  «loop_last» = byteAt m (at + 6);
-  «second_sustain» = byteAt m (at + 7);
-  positions = eachFrom (positionShown m at (byteAt m (at + 3))) 0 32;
-  values = eachFrom (valueShown m kind version at (byteAt m (at + 3))) 0 32;
+  instrument = envelopeInstrument m at;
+  flags = envelopeFlags m at;
+  sections = envelopeSections m at;
+  «first_sustain» = envelopeFirstSustain m at;
+  «loop_first» = envelopeLoopFirst m at;
+  «loop_last» = envelopeLoopLast m at;
+  «second_sustain» = envelopeSecondSustain m at;
+  positions = eachFrom (positionShown m at (envelopeSections m at)) 0 32;
+  values = eachFrom (valueShown m kind version at (envelopeSections m at)) 0 32;
 }
 
 abbrev pub envelopeIf : List ℕ → EnvelopeKind → Found → EnvelopeAnswer

@@ -1,11 +1,18 @@
 // Envelopes: how many there are, and one of them. Each query gives the module's own refusal, then 18.
 use blocks::Thing;
 use blocks::envelope_count;
+use blocks::stored::envelope_first_sustain;
+use blocks::stored::envelope_flags;
+use blocks::stored::envelope_instrument;
+use blocks::stored::envelope_loop_first;
+use blocks::stored::envelope_loop_last;
+use blocks::stored::envelope_position;
+use blocks::stored::envelope_second_sustain;
+use blocks::stored::envelope_sections;
+use blocks::stored::envelope_value;
 use layout::Layout;
 use layout::Outline;
 use layout::Place;
-use numbers::byte;
-use numbers::number16;
 use numbers::signed;
 use queries::Found;
 use queries::find;
@@ -100,11 +107,11 @@ fn in_use(sections: u8, point: usize) -> bool
 
 // The position of a point of the envelope at a place.
 fn position(m: &[u8], at: usize, sections: u8, point: usize) -> u16
-    requires { ⌜ (at < 0x10000000000000) × (point < 32) ⌝ }
+    requires { ⌜ point < 32 ⌝ }
     ensures { λ r. ⌜ r ≡ positionShown (now (m .entry)) at sections point ⌝ }
 {
     if in_use(sections, point) {
-        return number16(m, at + 8 + 4 * point);
+        return envelope_position(m, at, point as u8);
     }
     0
 }
@@ -126,18 +133,18 @@ fn value_of(kind: EnvelopeKind, version: u8, v: u16) -> i32
 
 // The value of a point of the envelope at a place.
 fn value(m: &[u8], kind: EnvelopeKind, version: u8, at: usize, sections: u8, point: usize) -> i32
-    requires { ⌜ (at < 0x10000000000000) × (point < 32) ⌝ }
+    requires { ⌜ point < 32 ⌝ }
     ensures { λ r. ⌜ r ≡ valueShown (now (m .entry)) kind version at sections point ⌝ }
 {
     if in_use(sections, point) {
-        return value_of(kind, version, number16(m, at + 10 + 4 * point));
+        return value_of(kind, version, envelope_value(m, at, point as u8));
     }
     0
 }
 
 // Fills in the positions of all points.
 fn fill_positions(m: &[u8], at: usize, sections: u8, out: &mut [u16])
-    requires { ⌜ (at < 0x10000000000000) × (length (now out) ≡ 32) ⌝ }
+    requires { ⌜ length (now out) ≡ 32 ⌝ }
     ensures { λ r. ⌜ now (out .exit) ≡ eachFrom (positionShown (now (m .entry)) at sections) 0 32 ⌝ }
 {
     let mut i = 0;
@@ -149,7 +156,7 @@ fn fill_positions(m: &[u8], at: usize, sections: u8, out: &mut [u16])
 
 // Fills in the values of all points.
 fn fill_values(m: &[u8], kind: EnvelopeKind, version: u8, at: usize, sections: u8, out: &mut [i32])
-    requires { ⌜ (at < 0x10000000000000) × (length (now out) ≡ 32) ⌝ }
+    requires { ⌜ length (now out) ≡ 32 ⌝ }
     ensures { λ r. ⌜ now (out .exit) ≡ eachFrom (valueShown (now (m .entry)) kind version at sections) 0 32 ⌝ }
 {
     let mut i = 0;
@@ -161,7 +168,6 @@ fn fill_values(m: &[u8], kind: EnvelopeKind, version: u8, at: usize, sections: u
 }
 
 fn positions(m: &[u8], at: usize, sections: u8) -> [u16; 32]
-    requires { ⌜ at < 0x10000000000000 ⌝ }
     ensures { λ r. ⌜ r ≡ eachFrom (positionShown (now (m .entry)) at sections) 0 32 ⌝ }
 {
     let mut all = [0u16; 32];
@@ -170,7 +176,6 @@ fn positions(m: &[u8], at: usize, sections: u8) -> [u16; 32]
 }
 
 fn values(m: &[u8], kind: EnvelopeKind, version: u8, at: usize, sections: u8) -> [i32; 32]
-    requires { ⌜ at < 0x10000000000000 ⌝ }
     ensures { λ r. ⌜ r ≡ eachFrom (valueShown (now (m .entry)) kind version at sections) 0 32 ⌝ }
 {
     let mut all = [0i32; 32];
@@ -197,19 +202,18 @@ fn no_envelope(r: Refusal) -> EnvelopeAnswer
 
 // The envelope whose block stands at a place.
 fn envelope_at(m: &[u8], kind: EnvelopeKind, version: u8, at: usize) -> EnvelopeAnswer
-    requires { ⌜ at < 0x10000000000000 ⌝ }
     ensures { λ r. ⌜ r ≡ shownEnvelope (now (m .entry)) kind version at ⌝ }
 {
-    let sections = byte(m, at + 3);
+    let sections = envelope_sections(m, at);
     EnvelopeAnswer {
         outcome: outcome_of(Verdict::Accepted),
-        instrument: number16(m, at),
-        flags: byte(m, at + 2),
+        instrument: envelope_instrument(m, at),
+        flags: envelope_flags(m, at),
         sections,
-        first_sustain: byte(m, at + 4),
-        loop_first: byte(m, at + 5),
-        loop_last: byte(m, at + 6),
-        second_sustain: byte(m, at + 7),
+        first_sustain: envelope_first_sustain(m, at),
+        loop_first: envelope_loop_first(m, at),
+        loop_last: envelope_loop_last(m, at),
+        second_sustain: envelope_second_sustain(m, at),
         positions: positions(m, at, sections),
         values: values(m, kind, version, at, sections),
     }

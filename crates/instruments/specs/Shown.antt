@@ -1,12 +1,14 @@
 -- FORMAT.md, B3, Q3 and Q8 (document 01, "Layout"): an instrument as it is shown. The answer begins with the refusal's number and
 -- place, 0 and 0 where there is none; on a refusal all else is 0.
-use Prim.Native.Nat.{ℕ, _+_}
+use Prim.Native.Nat.{ℕ}
 use mathlib.Core.List.{List}
 use lib.ListN.{replicate}
 use lib.IntN.{pos}
 use Rattle.refusal.specs.Numbers.{noRefusal, refusedOutcome}
 use Rattle.refusal.specs.declared.Refusal.{Refusal}
-use Rattle.numbers.specs.Numbers.{number16, number32, signed16, bytesFrom}
+use Rattle.numbers.specs.Numbers.{signed16}
+use Rattle.blocks.specs.StoredFields.{instrumentName, instrumentSample, instrumentVolume, instrumentRate}
+use Rattle.blocks.specs.StoredFields.{instrumentLoopStart, instrumentLoopLength, instrumentPanning, instrumentFlags}
 use Rattle.blocks.specs.declared.Thing.the-variants.{Instrument}
 use Rattle.queries.specs.Finding.{found}
 use Rattle.queries.specs.declared.Found.{Found}
@@ -31,14 +33,14 @@ noInstrument r = record {
 abbrev pub shownInstrument : List ℕ → ℕ → InstrumentAnswer
 shownInstrument m at = record {
   outcome = noRefusal;
-  name = bytesFrom m at 30;
-  sample = number16 m (at + 30);
-  volume = number16 m (at + 32);
-  panning = signed16 (number16 m (at + 46));
-  flags = number16 m (at + 48);
-  rate = number32 m (at + 34);
-  «loop_start» = number32 m (at + 38);
-  «loop_length» = number32 m (at + 42);
+  name = instrumentName m at;
+  sample = instrumentSample m at;
+  volume = instrumentVolume m at;
+  panning = signed16 (instrumentPanning m at);
+  flags = instrumentFlags m at;
+  rate = instrumentRate m at;
+  «loop_start» = instrumentLoopStart m at;
+  «loop_length» = instrumentLoopLength m at;
 }
 
 abbrev pub instrumentIf : List ℕ → Found → InstrumentAnswer

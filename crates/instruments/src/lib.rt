@@ -1,8 +1,13 @@
 // Instruments, all fields as stored. The query gives the module's own refusal, then 18.
 use blocks::Thing;
+use blocks::stored::instrument_flags;
+use blocks::stored::instrument_loop_length;
+use blocks::stored::instrument_loop_start;
+use blocks::stored::instrument_panning;
+use blocks::stored::instrument_rate;
+use blocks::stored::instrument_sample;
+use blocks::stored::instrument_volume;
 use numbers::copy;
-use numbers::number16;
-use numbers::number32;
 use numbers::signed;
 use queries::Found;
 use queries::find;
@@ -11,7 +16,6 @@ use refusal::Refusal;
 use refusal::Verdict;
 use refusal::outcome_of;
 ghost use mathlib.Core.Path.{_≡_};
-ghost use Prim.Native.Nat.{_<_};
 ghost use Rattle.numbers.specs.Numbers.{bytesFrom};
 ghost use Rattle.instruments.specs.Shown.{noInstrument, shownInstrument, instrumentAnswer};
 
@@ -56,19 +60,18 @@ fn no_instrument(r: Refusal) -> InstrumentAnswer
 
 // The instrument whose block stands at a place.
 fn instrument_at(m: &[u8], at: usize) -> InstrumentAnswer
-    requires { ⌜ at < 0x10000000000000 ⌝ }
     ensures { λ r. ⌜ r ≡ shownInstrument (now (m .entry)) at ⌝ }
 {
     InstrumentAnswer {
         outcome: outcome_of(Verdict::Accepted),
         name: name30(m, at),
-        sample: number16(m, at + 30),
-        volume: number16(m, at + 32),
-        panning: signed(number16(m, at + 46)),
-        flags: number16(m, at + 48),
-        rate: number32(m, at + 34),
-        loop_start: number32(m, at + 38),
-        loop_length: number32(m, at + 42),
+        sample: instrument_sample(m, at),
+        volume: instrument_volume(m, at),
+        panning: signed(instrument_panning(m, at)),
+        flags: instrument_flags(m, at),
+        rate: instrument_rate(m, at),
+        loop_start: instrument_loop_start(m, at),
+        loop_length: instrument_loop_length(m, at),
     }
 }
 

@@ -5,14 +5,13 @@ use mathlib.Core.List.{List}
 use lib.ListN.{length}
 use Rattle.refusal.specs.Numbers.{noRefusal, refusedOutcome}
 use Rattle.refusal.specs.declared.Refusal.{Refusal}
-use Rattle.numbers.specs.Numbers.{number16}
 use Rattle.packed_rows.specs.Answers.{cellOf, unpackAnswer as streamAnswer, unpackOutput as streamOutput}
 use Rattle.packed_rows.specs.declared.CellAnswer.{CellAnswer}
 use Rattle.packed_rows.specs.declared.CellAnswer.the-variants.{Refused as CellRefused}
 use Rattle.packed_rows.specs.declared.Unpacking.{Unpacking}
 use Rattle.packed_rows.specs.declared.Unpacking.the-variants.{Unpacked, Refused as UnpackingRefused}
 use Rattle.blocks.specs.declared.Thing.the-variants.{Pattern}
-use Rattle.module.specs.Streams.{packedBytes}
+use Rattle.blocks.specs.StoredFields.{patternRows, packedBytes}
 use Rattle.queries.specs.Finding.{found}
 use Rattle.refusal.specs.Lengths.{refusedLength, writtenLength}
 use Rattle.queries.specs.declared.Block.{Block}
@@ -26,7 +25,7 @@ noRows r = record { outcome = refusedOutcome r; rows = 0 }
 
 -- B4: the rows stand first.
 abbrev pub rowsIf : List ℕ → Found → RowsAnswer
-rowsIf m (At b) = record { outcome = noRefusal; rows = number16 m (b .at) }
+rowsIf m (At b) = record { outcome = noRefusal; rows = patternRows m (b .at) }
 rowsIf m (Refused r) = noRows r
 
 -- Q1: the module's own refusal, then 18, else the rows.
@@ -35,7 +34,7 @@ rowsAnswer m pattern = rowsIf m (found m Pattern pattern)
 
 -- Q10: a cell of the pattern's packed bytes, by its rows and the module's tracks.
 abbrev pub cellIn : List ℕ → Block → ℕ → ℕ → CellAnswer
-cellIn m b row track = cellOf (packedBytes m (b .at)) (number16 m (b .at)) (b .tracks) row track
+cellIn m b row track = cellOf (packedBytes m (b .at)) (patternRows m (b .at)) (b .tracks) row track
 
 abbrev pub cellIf : List ℕ → ℕ → ℕ → Found → CellAnswer
 cellIf m row track (At b) = cellIn m b row track
@@ -51,10 +50,10 @@ lengthOf (UnpackingRefused r) = refusedLength r
 
 -- Q10: the pattern's packed bytes, unpacked by its rows and the module's tracks.
 abbrev pub unpackIn : List ℕ → Block → ℕ → LengthAnswer
-unpackIn m b room = lengthOf (streamAnswer (packedBytes m (b .at)) (number16 m (b .at)) (b .tracks) room)
+unpackIn m b room = lengthOf (streamAnswer (packedBytes m (b .at)) (patternRows m (b .at)) (b .tracks) room)
 
 abbrev pub unpackOutputIn : List ℕ → Block → List ℕ → List ℕ
-unpackOutputIn m b out = streamOutput (packedBytes m (b .at)) (number16 m (b .at)) (b .tracks) out
+unpackOutputIn m b out = streamOutput (packedBytes m (b .at)) (patternRows m (b .at)) (b .tracks) out
 
 abbrev pub unpackIf : List ℕ → ℕ → Found → LengthAnswer
 unpackIf m room (At b) = unpackIn m b room

@@ -1,9 +1,8 @@
 // Patterns: rows, one cell, and the whole pattern unpacked. Each query gives the module's own refusal, then 18, then 17. Of the
 // packed rows only the promises of `pattern` are used.
 use blocks::Thing;
-use numbers::number16;
-use numbers::number32;
-use numbers::part;
+use blocks::stored::packed_bytes;
+use blocks::stored::pattern_rows;
 use packed_rows::CellAnswer;
 use packed_rows::Unpacking;
 use queries::Block;
@@ -17,11 +16,9 @@ use refusal::outcome_of;
 use refusal::refused;
 use refusal::written;
 ghost use mathlib.Core.Path.{_≡_};
-ghost use Prim.Native.Nat.{_<_};
 ghost use lib.ListN.{length};
 ghost use Rattle.refusal.specs.Numbers.{IsAnswer};
 ghost use Rattle.packed_rows.specs.Answers.{cellNumbers};
-ghost use Rattle.module.specs.Streams.{packedBytes};
 ghost use Rattle.patterns.specs.Shown.{noRows, rowsAnswer, cellIn, cellAnswer, unpackIn, unpackOutputIn, unpackAnswer, unpackOutput};
 
 // How many rows a pattern has.
@@ -47,27 +44,18 @@ pub fn rows(m: &[u8], pattern: usize) -> RowsAnswer
     match find(m, Thing::Pattern, pattern) {
         Found::At(b) => RowsAnswer {
             outcome: outcome_of(Verdict::Accepted),
-            rows: number16(m, b.at),
+            rows: pattern_rows(m, b.at),
         },
         Found::Refused(r) => no_rows(r),
     }
 }
 
-// The packed bytes of the pattern whose block stands at a place.
-fn packed(m: &[u8], at: usize) -> &[u8]
-    requires { ⌜ at < 0x10000000000000 ⌝ }
-    ensures { λ r. ⌜ now r ≡ packedBytes (now (m .entry)) at ⌝ }
-{
-    part(m, at + 6, number32(m, at + 2) as usize)
-}
-
 // A cell of the pattern of a block.
 fn cell_in(m: &[u8], b: Block, row: usize, track: usize) -> CellAnswer
-    requires { ⌜ b .at < 0x10000000000000 ⌝ }
     ensures { λ r. ⌜ r ≡ cellIn (now (m .entry)) b row track ⌝ }
 {
-    let rows = number16(m, b.at) as usize;
-    packed_rows::cell(packed(m, b.at), rows, b.tracks as usize, row, track)
+    let rows = pattern_rows(m, b.at) as usize;
+    packed_rows::cell(packed_bytes(m, b.at), rows, b.tracks as usize, row, track)
 }
 
 // A cell of a pattern: pattern and row counted from 0, track from 1.
@@ -82,11 +70,10 @@ pub fn cell(m: &[u8], pattern: usize, row: usize, track: usize) -> CellAnswer
 
 // Unpacks the pattern of a block.
 fn unpack_in(m: &[u8], b: Block, out: &mut [u8]) -> LengthAnswer
-    requires { ⌜ b .at < 0x10000000000000 ⌝ }
     ensures { λ r. ⌜ (r ≡ unpackIn (now (m .entry)) b (length (now (out .entry)))) × (now (out .exit) ≡ unpackOutputIn (now (m .entry)) b (now (out .entry))) ⌝ }
 {
-    let rows = number16(m, b.at) as usize;
-    match packed_rows::unpack(packed(m, b.at), rows, b.tracks as usize, out) {
+    let rows = pattern_rows(m, b.at) as usize;
+    match packed_rows::unpack(packed_bytes(m, b.at), rows, b.tracks as usize, out) {
         Unpacking::Unpacked(n) => written(n),
         Unpacking::Refused(r) => refused(r),
     }

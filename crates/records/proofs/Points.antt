@@ -9,8 +9,9 @@ use lib.ListN.{length, drop}
 use lib.Dec.{ltb}
 use lib.IntN.{pos, negsuc, _-ℤ_}
 use borrow.Author.Tests.{ltb-true, ltb-false, eq-eqb, ne-eqb}
-use Rattle.numbers.specs.Numbers.{byteAt, number16, bytes16, unsigned16, putAt}
+use Rattle.numbers.specs.Numbers.{bytes16, unsigned16, putAt}
 use Rattle.numbers.proofs.PutBytes.{put-front}
+use Rattle.blocks.specs.StoredFields.{envelopeSections, envelopeValue}
 use Rattle.samples.proofs.SixteenBits.{stored-again}
 use Rattle.envelopes.specs.Shown.{thingOf, positionShown, valueOf, valueShown}
 use Rattle.envelopes.specs.declared.EnvelopeKind.{EnvelopeKind}
@@ -40,12 +41,12 @@ pub value-scaled : (version v r : ℕ) → version ≡ 2 → r ≡ unsigned16 (p
 value-scaled version v r two e = rw (eq-eqb version 2 two) e
 
 -- What is asked of a value in use.
-pub value-ready : (m : List ℕ) (kind : EnvelopeKind) (version at : ℕ) → ValuesFit m version (thingOf kind) at → (point : ℕ) → point ≤ byteAt m (at + 3) → ValueFits kind version (number16 m (at + 10 + 4 * point))
+pub value-ready : (m : List ℕ) (kind : EnvelopeKind) (version at : ℕ) → ValuesFit m version (thingOf kind) at → (point : ℕ) → point ≤ envelopeSections m at → ValueFits kind version (envelopeValue m at point)
 value-ready m Volume version at fits point h = tt
 value-ready m Panning version at fits point h = fits point h
 
 -- A point: two numbers.
-module _ (m : List ℕ) (kind : EnvelopeKind) (version at point sections p v : ℕ) (out : List ℕ) (s : sections ≡ byteAt m (at + 3)) where
+module _ (m : List ℕ) (kind : EnvelopeKind) (version at point sections p v : ℕ) (out : List ℕ) (s : sections ≡ envelopeSections m at) where
   abbrev is-position : Type 0
   is-position = p ≡ positionShown m at sections point
 

@@ -6,9 +6,10 @@ use native.Mathlib.Omega.{arith}
 use lib.ListN.{length, take, drop, set, length-append}
 use lib.Seq.{length-take-le, sets-eq}
 use borrow.Rule.Slice.PartMut.{midOf, putMid}
-use Rattle.numbers.specs.Numbers.{Bytes, number32, bytesFrom, bytes16, bytes32, putAt}
+use Rattle.numbers.specs.Numbers.{Bytes, bytesFrom, bytes16, bytes32, putAt}
 use Rattle.numbers.proofs.PutBytes.{putEach, put-each, put-front}
 use Rattle.layout.specs.declared.Layout.{Layout}
+use Rattle.blocks.specs.StoredFields.{sampleFlags, sampleFrames}
 use Rattle.blocks.specs.Sizes.{widthOf, sizeOf, envelopeCount}
 use Rattle.blocks.specs.declared.Kind.the-variants.{Song as SongKind}
 use Rattle.blocks.specs.declared.Thing.{Thing}
@@ -64,7 +65,7 @@ module _ (m : List ℕ) (bytes : Bytes m) (version at : ℕ) (thing : Thing) whe
     envelope-written {kind} e size w = written-as out kind (recordAt m version kind at) e refl size w
 
 -- A sample's record: two numbers.
-module _ (m : List ℕ) (at w frames : ℕ) (out : List ℕ) (e : w ≡ widthOf (number32 m at)) (f : frames ≡ number32 m (at + 4)) where
+module _ (m : List ℕ) (at w frames : ℕ) (out : List ℕ) (e : w ≡ widthOf (sampleFlags m at)) (f : frames ≡ sampleFrames m at) where
   pub bits-frames : 6 ≤ length out → putAt (bytes32 frames) 2 (putAt (bytes16 (8 * w)) 0 out) ≡ sampleRecord (shownSample m at) ++ drop 6 out
   unfolding flatten
   bits-frames room = put-front (bytes16 (8 * w) ∷ bytes32 frames ∷ []) out room ∙ rw (e, f) refl

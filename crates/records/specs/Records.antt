@@ -4,10 +4,11 @@ use mathlib.Core.List.{List, [], _∷_, _++_, map}
 use lib.ListN.{length}
 use lib.IntN.{ℤ}
 use Rattle.vocabulary.specs.Lists.{joined}
-use Rattle.numbers.specs.Numbers.{number16, bytes16, bytes32, unsigned16}
+use Rattle.numbers.specs.Numbers.{bytes16, bytes32, unsigned16}
 use Rattle.layout.specs.declared.Layout.{Layout}
 use Rattle.layout.specs.declared.Outline.{Outline}
 use Rattle.layout.specs.declared.Outline.the-variants.{Found, Refused}
+use Rattle.blocks.specs.StoredFields.{patternRows}
 use Rattle.blocks.specs.Sizes.{blocksOf, envelopeCount}
 use Rattle.blocks.specs.Things.{kindOf, chunkOf, countOf}
 use Rattle.blocks.specs.declared.Thing.{Thing}
@@ -80,7 +81,7 @@ envelopeRecord a =
 unfoldable pub recordAt : List ℕ → ℕ → Thing → ℕ → List ℕ
 recordAt m version Song at = songRecord (shownSong m at) (playlistBytes m at)
 recordAt m version Instrument at = instrumentRecord (shownInstrument m at)
-recordAt m version Pattern at = bytes16 (number16 m at)
+recordAt m version Pattern at = bytes16 (patternRows m at)
 recordAt m version Sample at = sampleRecord (shownSample m at)
 recordAt m version VolumeEnvelope at = envelopeRecord (shownEnvelope m Volume version at)
 recordAt m version PanningEnvelope at = envelopeRecord (shownEnvelope m Panning version at)

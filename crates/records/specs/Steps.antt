@@ -4,8 +4,9 @@ use Prim.Native.Nat.{ℕ, _+_, _*_, _≤_}
 use mathlib.Core.Path.{_≡_}
 use mathlib.Core.List.{List, _++_, map}
 use Rattle.vocabulary.specs.Lists.{joined}
-use Rattle.numbers.specs.Numbers.{byteAt, number16, bytes16, unsigned16}
+use Rattle.numbers.specs.Numbers.{bytes16, unsigned16}
 use Rattle.layout.specs.declared.Layout.{Layout}
+use Rattle.blocks.specs.StoredFields.{envelopeSections, envelopeValue}
 use Rattle.blocks.specs.Sizes.{sizeOf, placesFrom}
 use Rattle.blocks.specs.declared.Kind.{Kind}
 use Rattle.blocks.specs.declared.Thing.{Thing}
@@ -18,7 +19,7 @@ use Rattle.records.specs.Records.{recordAt, recordsOf}
 -- A point of the envelope at a place.
 abbrev pub pointRecord : List ℕ → EnvelopeKind → ℕ → ℕ → ℕ → List ℕ
 pointRecord m kind version at point =
-    bytes16 (positionShown m at (byteAt m (at + 3)) point) ++ bytes16 (unsigned16 (valueShown m kind version at (byteAt m (at + 3)) point))
+    bytes16 (positionShown m at (envelopeSections m at) point) ++ bytes16 (unsigned16 (valueShown m kind version at (envelopeSections m at) point))
 
 -- So many points of it from one on.
 abbrev pub pointsFrom : List ℕ → EnvelopeKind → ℕ → ℕ → ℕ → ℕ → List ℕ
@@ -44,4 +45,4 @@ ValuesFit m version Instrument at = Unit {0}
 ValuesFit m version Pattern at = Unit {0}
 ValuesFit m version Sample at = Unit {0}
 ValuesFit m version VolumeEnvelope at = Unit {0}
-ValuesFit m version PanningEnvelope at = (point : ℕ) → point ≤ byteAt m (at + 3) → ValueFits Panning version (number16 m (at + 10 + 4 * point))
+ValuesFit m version PanningEnvelope at = (point : ℕ) → point ≤ envelopeSections m at → ValueFits Panning version (envelopeValue m at point)

@@ -8,14 +8,16 @@ use blocks::count_of;
 use blocks::envelope_count;
 use blocks::kind_of;
 use blocks::size;
+use blocks::stored::envelope_position;
+use blocks::stored::envelope_sections;
+use blocks::stored::envelope_value;
+use blocks::stored::sample_flags;
+use blocks::stored::sample_frames;
 use blocks::width;
 use envelopes::EnvelopeKind;
 use layout::Layout;
 use layout::Outline;
-use numbers::byte;
 use numbers::copy;
-use numbers::number16;
-use numbers::number32;
 use numbers::put16;
 use numbers::put32;
 use refusal::Cause;
@@ -30,8 +32,9 @@ ghost use Prim.Native.Nat.{_+_, _*_, _<_, _≤_};
 ghost use lib.ListN.{length, drop};
 ghost use lib.IntN.{pos, _-ℤ_};
 ghost use Rattle.vocabulary.specs.Lists.{Every};
-ghost use Rattle.numbers.specs.Numbers.{byteAt, bytesFrom, unsigned16, putAt};
+ghost use Rattle.numbers.specs.Numbers.{SmallPlace, bytesFrom, unsigned16, putAt};
 ghost use Rattle.layout.specs.declared.Outline.the-variants.{Found};
+ghost use Rattle.blocks.specs.StoredFields.{envelopeSections};
 ghost use Rattle.blocks.specs.Sizes.{sizeOf, placesFrom};
 ghost use Rattle.module.specs.Verdicts.{opened};
 ghost use Rattle.summary.specs.Shown.{shownInfo};
@@ -80,22 +83,22 @@ fn write_stored(m: &[u8], at: usize, n: usize, out: &mut [u8]) -> usize
 
 // Writes the record of the sample at a place to the front of an output, and answers its length.
 fn write_sample(m: &[u8], at: usize, out: &mut [u8]) -> usize
-    requires { ⌜ (at < 0x20000000000000) × (6 ≤ length (now out)) ⌝ }
+    requires { ⌜ 6 ≤ length (now out) ⌝ }
     ensures { λ r. ⌜ (r ≡ 6) × (now (out .exit) ≡ sampleRecord (shownSample (now (m .entry)) at) ++ drop 6 (now (out .entry))) ⌝ }
 {
-    let bits = 8 * width(number32(m, at));
+    let bits = 8 * width(sample_flags(m, at));
     put16(bits as u16, 0, out);
-    put32(number32(m, at + 4), 2, out);
+    put32(sample_frames(m, at), 2, out);
     6
 }
 
 // The position of a point of the envelope at a place, as it is shown.
 fn position(m: &[u8], at: usize, sections: u8, point: usize) -> u16
-    requires { ⌜ (at < 0x20000000000000) × (point < 32) ⌝ }
+    requires { ⌜ point < 32 ⌝ }
     ensures { λ r. ⌜ r ≡ positionShown (now (m .entry)) at sections point ⌝ }
 {
     if point <= (sections as usize) {
-        return number16(m, at + 8 + 4 * point);
+        return envelope_position(m, at, point as u8);
     }
     0
 }
@@ -126,11 +129,11 @@ fn value_of(kind: EnvelopeKind, version: u8, v: u16) -> u16
 
 // The value of a point of the envelope at a place, as it is shown, in 2 bytes.
 fn value(m: &[u8], kind: EnvelopeKind, version: u8, at: usize, sections: u8, point: usize) -> u16
-    requires { ⌜ (at < 0x20000000000000) × (point < 32) × (sections ≡ byteAt (now m) (at + 3)) × ValuesFit (now m) version (thingOf kind) at ⌝ }
+    requires { ⌜ (point < 32) × (sections ≡ envelopeSections (now m) at) × ValuesFit (now m) version (thingOf kind) at ⌝ }
     ensures { λ r. ⌜ r ≡ unsigned16 (valueShown (now (m .entry)) kind version at sections point) ⌝ }
 {
     if point <= (sections as usize) {
-        return value_of(kind, version, number16(m, at + 10 + 4 * point));
+        return value_of(kind, version, envelope_value(m, at, point as u8));
     }
     0
 }
@@ -145,7 +148,7 @@ fn write_point(
     point: usize,
     out: &mut [u8],
 )
-    requires { ⌜ (at < 0x20000000000000) × (point < 32) × (sections ≡ byteAt (now m) (at + 3)) × ValuesFit (now m) version (thingOf kind) at × (4 ≤ length (now out)) ⌝ }
+    requires { ⌜ (point < 32) × (sections ≡ envelopeSections (now m) at) × ValuesFit (now m) version (thingOf kind) at × (4 ≤ length (now out)) ⌝ }
     ensures { λ r. ⌜ now (out .exit) ≡ pointRecord (now (m .entry)) kind version at point ++ drop 4 (now (out .entry)) ⌝ }
 {
     let p = position(m, at, sections, point);
@@ -156,10 +159,10 @@ fn write_point(
 
 // Writes the points of the envelope at a place to the front of an output.
 fn write_points(m: &[u8], kind: EnvelopeKind, version: u8, at: usize, out: &mut [u8])
-    requires { ⌜ (at < 0x20000000000000) × ValuesFit (now m) version (thingOf kind) at × (128 ≤ length (now out)) ⌝ }
+    requires { ⌜ ValuesFit (now m) version (thingOf kind) at × (128 ≤ length (now out)) ⌝ }
     ensures { λ r. ⌜ now (out .exit) ≡ pointsFrom (now (m .entry)) kind version at 32 0 ++ drop 128 (now (out .entry)) ⌝ }
 {
-    let sections = byte(m, at + 3);
+    let sections = envelope_sections(m, at);
     let mut point: usize = 0;
     let mut to: usize = 0;
     let mut left: u8 = 32;
@@ -173,7 +176,7 @@ fn write_points(m: &[u8], kind: EnvelopeKind, version: u8, at: usize, out: &mut 
 
 // Writes the record of the envelope at a place to the front of an output, and answers its length.
 fn write_envelope(m: &[u8], kind: EnvelopeKind, version: u8, at: usize, out: &mut [u8]) -> usize
-    requires { ⌜ (at < 0x20000000000000) × ValuesFit (now m) version (thingOf kind) at × (136 ≤ length (now out)) ⌝ }
+    requires { ⌜ ValuesFit (now m) version (thingOf kind) at × (136 ≤ length (now out)) ⌝ }
     ensures { λ r. ⌜ (r ≡ 136) × (now (out .exit) ≡ recordAt (now (m .entry)) version (thingOf kind) at ++ drop 136 (now (out .entry))) ⌝ }
 {
     copy(m, at, &mut out[..8]);
@@ -183,7 +186,7 @@ fn write_envelope(m: &[u8], kind: EnvelopeKind, version: u8, at: usize, out: &mu
 
 // Writes the record of what stands at a place to the front of an output, and answers its length.
 fn write_record(m: &[u8], thing: Thing, version: u8, at: usize, out: &mut [u8]) -> usize
-    requires { ⌜ (at < 0x20000000000000) × ValuesFit (now m) version thing at × (length (recordAt (now m) version thing at) ≤ length (now out)) ⌝ }
+    requires { ⌜ ValuesFit (now m) version thing at × (length (recordAt (now m) version thing at) ≤ length (now out)) ⌝ }
     ensures { λ r. ⌜ (r ≡ length (recordAt (now (m .entry)) version thing at)) × (now (out .exit) ≡ recordAt (now (m .entry)) version thing at ++ drop r (now (out .entry))) ⌝ }
 {
     match thing {
@@ -206,7 +209,7 @@ fn write_blocks(
     count: u16,
     out: &mut [u8],
 ) -> usize
-    requires { ⌜ (start < 0x10000000000000) × Every (ValuesFit (now m) version thing) (placesFrom (sizeOf kind (now m)) count start) × (length (recordsFrom (now m) kind thing version count start) ≤ length (now out)) ⌝ }
+    requires { ⌜ SmallPlace start × Every (ValuesFit (now m) version thing) (placesFrom (sizeOf kind (now m)) count start) × (length (recordsFrom (now m) kind thing version count start) ≤ length (now out)) ⌝ }
     ensures { λ r. ⌜ (r ≡ length (recordsFrom (now (m .entry)) kind thing version count start)) × (now (out .exit) ≡ recordsFrom (now (m .entry)) kind thing version count start ++ drop r (now (out .entry))) ⌝ }
 {
     let mut at = start;

@@ -1,3 +1,2 @@
-pub mod FramePlaces
 pub mod SixteenBits
 pub mod WritingFrames

@@ -11,6 +11,7 @@ use Rattle.vocabulary.specs.Lists.{joined}
 use Rattle.refusal.specs.declared.Cause.the-variants.{NotThere}
 use Rattle.refusal.specs.declared.Refusal.{Refusal}
 use Rattle.numbers.specs.Numbers.{byteAt, number16, number32, partOf, signedBy, signed16, eachFrom, bytes16, unsigned16}
+use Rattle.blocks.specs.StoredFields.{sampleFlags, sampleFrames}
 use Rattle.blocks.specs.Sizes.{widthOf}
 use Rattle.blocks.specs.declared.Thing.the-variants.{Sample}
 use Rattle.queries.specs.Finding.{found}
@@ -24,10 +25,10 @@ use Rattle.samples.specs.declared.FrameAnswer.{FrameAnswer}
 
 -- B5: the bytes of a frame, by the flags; and how many frames there are.
 abbrev pub frameBytes : List ℕ → ℕ → ℕ
-frameBytes m at = widthOf (number32 m at)
+frameBytes m at = widthOf (sampleFlags m at)
 
 abbrev pub frameCount : List ℕ → ℕ → ℕ
-frameCount m at = number32 m (at + 4)
+frameCount m at = sampleFrames m at
 
 abbrev pub noSample : Refusal → SampleAnswer
 noSample r = record { outcome = refusedOutcome r; width = 0; frames = 0 }

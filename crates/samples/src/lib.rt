@@ -1,6 +1,9 @@
 // Samples: width and frames, the frames as the part of the module that they are, one frame and all frames at 16 bits. Each query
 // gives the module's own refusal, then 18, then 17.
 use blocks::Thing;
+use blocks::stored::SAMPLE_BYTES;
+use blocks::stored::sample_flags;
+use blocks::stored::sample_frames;
 use blocks::width;
 use numbers::byte;
 use numbers::number16;
@@ -21,7 +24,7 @@ use refusal::written;
 ghost use mathlib.Core.Path.{_≡_};
 ghost use Prim.Native.Nat.{_*_, _/_, _<_, _+_, min};
 ghost use lib.ListN.{length};
-ghost use Rattle.numbers.specs.Numbers.{signed16};
+ghost use Rattle.numbers.specs.Numbers.{SmallPlace, signed16};
 ghost use Rattle.samples.specs.Shown.{frameBytes, frame16, noSample, shownSample, sampleAnswer, noFrames, shownFrames, framesAnswer, framesPart, noFrame, frameIn, frameAnswer, allFramesIn, allFramesOutputIn, allFramesAnswer, allFramesOutput};
 ghost use Rattle.samples.specs.Steps.{framesFrom};
 
@@ -52,7 +55,7 @@ pub struct FrameAnswer {
 fn frame_bytes(m: &[u8], at: usize) -> usize
     ensures { λ r. ⌜ (r ≡ frameBytes (now (m .entry)) at) × (r < 5) ⌝ }
 {
-    width(number32(m, at))
+    width(sample_flags(m, at))
 }
 
 fn no_sample(r: Refusal) -> SampleAnswer
@@ -67,13 +70,12 @@ fn no_sample(r: Refusal) -> SampleAnswer
 
 // The sample whose block stands at a place.
 fn sample_at(m: &[u8], at: usize) -> SampleAnswer
-    requires { ⌜ at < 0x10000000000000 ⌝ }
     ensures { λ r. ⌜ r ≡ shownSample (now (m .entry)) at ⌝ }
 {
     SampleAnswer {
         outcome: outcome_of(Verdict::Accepted),
         width: (8 * frame_bytes(m, at)) as u8,
-        frames: number32(m, at + 4),
+        frames: sample_frames(m, at),
     }
 }
 
@@ -99,13 +101,13 @@ fn no_frames(r: Refusal) -> FramesAnswer
 
 // The frames of the sample whose block stands at a place.
 fn frames_at(m: &[u8], at: usize) -> FramesAnswer
-    requires { ⌜ at < 0x10000000000000 ⌝ }
+    requires { ⌜ SmallPlace at ⌝ }
     ensures { λ r. ⌜ r ≡ shownFrames (now (m .entry)) at ⌝ }
 {
     FramesAnswer {
         outcome: outcome_of(Verdict::Accepted),
-        offset: at + 8,
-        length: (number32(m, at + 4) as usize) * frame_bytes(m, at),
+        offset: at + SAMPLE_BYTES,
+        length: (sample_frames(m, at) as usize) * frame_bytes(m, at),
     }
 }
 
@@ -161,16 +163,16 @@ fn no_frame(r: Refusal) -> FrameAnswer
 
 // A frame of the sample whose block stands at a place: 18.
 fn frame_in(m: &[u8], at: usize, frame: usize) -> FrameAnswer
-    requires { ⌜ at < 0x10000000000000 ⌝ }
+    requires { ⌜ SmallPlace at ⌝ }
     ensures { λ r. ⌜ r ≡ frameIn (now (m .entry)) at frame ⌝ }
 {
-    if (number32(m, at + 4) as usize) <= frame {
+    if (sample_frames(m, at) as usize) <= frame {
         return no_frame(refuse(Cause::NotThere, 0));
     }
     let bytes = frame_bytes(m, at);
     FrameAnswer {
         outcome: outcome_of(Verdict::Accepted),
-        frame: signed(at_16_bits(m, bytes, at + 8 + frame * bytes)),
+        frame: signed(at_16_bits(m, bytes, at + SAMPLE_BYTES + frame * bytes)),
     }
 }
 
@@ -184,14 +186,14 @@ pub fn frame(m: &[u8], sample: usize, frame: usize) -> FrameAnswer
     }
 }
 
-// Writes so many frames at 16 bits, from a place on: each has so many bytes.
-fn write_frames(m: &[u8], bytes: usize, start: usize, frames: usize, out: &mut [u8])
-    requires { ⌜ (start < 0x20000000000000) × ((bytes < 5) × ((frames < 0x100000000) × (length (now out) ≡ 2 * frames))) ⌝ }
-    ensures { λ r. ⌜ now (out .exit) ≡ framesFrom (now (m .entry)) bytes start frames ⌝ }
+// Writes so many frames of the sample at a place at 16 bits: each has so many bytes.
+fn write_frames(m: &[u8], bytes: usize, at: usize, frames: usize, out: &mut [u8])
+    requires { ⌜ SmallPlace at × ((bytes < 5) × ((frames < 0x100000000) × (length (now out) ≡ 2 * frames))) ⌝ }
+    ensures { λ r. ⌜ now (out .exit) ≡ framesFrom (now (m .entry)) bytes (at + 8) frames ⌝ }
 {
     let mut i = 0;
     while i < frames {
-        let v = at_16_bits(m, bytes, start + i * bytes);
+        let v = at_16_bits(m, bytes, at + SAMPLE_BYTES + i * bytes);
         out[2 * i] = (v / 256) as u8;
         out[2 * i + 1] = (v % 256) as u8;
         i = i + 1;
@@ -200,15 +202,15 @@ fn write_frames(m: &[u8], bytes: usize, start: usize, frames: usize, out: &mut [
 
 // Writes all frames of the sample whose block stands at a place: 17.
 fn all_frames_in(m: &[u8], at: usize, out: &mut [u8]) -> LengthAnswer
-    requires { ⌜ at < 0x10000000000000 ⌝ }
+    requires { ⌜ SmallPlace at ⌝ }
     ensures { λ r. ⌜ (r ≡ allFramesIn (now (m .entry)) at (length (now (out .entry)))) × (now (out .exit) ≡ allFramesOutputIn (now (m .entry)) at (now (out .entry))) ⌝ }
 {
-    let frames = number32(m, at + 4) as usize;
+    let frames = sample_frames(m, at) as usize;
     let needed = 2 * frames;
     if out.len() < needed {
         return refused(refuse(Cause::Room, needed));
     }
-    write_frames(m, frame_bytes(m, at), at + 8, frames, &mut out[..needed]);
+    write_frames(m, frame_bytes(m, at), at, frames, &mut out[..needed]);
     written(needed)
 }
 

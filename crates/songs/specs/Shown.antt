@@ -8,7 +8,8 @@ use lib.Dec.{ltb}
 use Rattle.refusal.specs.Numbers.{refusal, noRefusal, refusedOutcome}
 use Rattle.refusal.specs.declared.Cause.the-variants.{NotThere}
 use Rattle.refusal.specs.declared.Refusal.{Refusal}
-use Rattle.numbers.specs.Numbers.{number16, bytesFrom}
+use Rattle.numbers.specs.Numbers.{bytesFrom}
+use Rattle.blocks.specs.StoredFields.{songName, songLength, songEntry}
 use Rattle.blocks.specs.declared.Thing.the-variants.{Song}
 use Rattle.queries.specs.Finding.{found}
 use Rattle.refusal.specs.Lengths.{refusedLength, lengthIf, outputIf}
@@ -23,7 +24,7 @@ noSong r = record { outcome = refusedOutcome r; name = replicate 44 0; length = 
 
 -- B2, Q7: name 44, length 2.
 abbrev pub shownSong : List ℕ → ℕ → SongAnswer
-shownSong m at = record { outcome = noRefusal; name = bytesFrom m at 44; length = number16 m (at + 44) }
+shownSong m at = record { outcome = noRefusal; name = songName m at; length = songLength m at }
 
 abbrev pub songIf : List ℕ → Found → SongAnswer
 songIf m (At b) = shownSong m (b .at)
@@ -39,8 +40,8 @@ noEntry r = record { outcome = refusedOutcome r; pattern = 0 }
 -- B2, Q7: the entries stand behind the length, 2 bytes each; 18 past the last.
 abbrev pub entryIn : List ℕ → ℕ → ℕ → EntryAnswer
 entryIn m at entry =
-    cond (ltb entry (number16 m (at + 44)))
-    (record { outcome = noRefusal; pattern = number16 m (at + 46 + 2 * entry) })
+    cond (ltb entry (songLength m at))
+    (record { outcome = noRefusal; pattern = songEntry m at entry })
     (noEntry (refusal NotThere 0))
 
 abbrev pub entryIf : List ℕ → ℕ → Found → EntryAnswer
@@ -52,11 +53,11 @@ entryAnswer m song entry = entryIf m entry (found m Song song)
 
 -- Q7: a playlist as it is stored: so many entries of 2 bytes.
 abbrev pub playlistBytes : List ℕ → ℕ → List ℕ
-playlistBytes m at = bytesFrom m (at + 46) (2 * number16 m (at + 44))
+playlistBytes m at = bytesFrom m (at + 46) (2 * songLength m at)
 
 -- 17, else the length of the playlist.
 abbrev pub playlistIn : List ℕ → ℕ → ℕ → LengthAnswer
-playlistIn m at room = lengthIf (2 * number16 m (at + 44)) room
+playlistIn m at room = lengthIf (2 * songLength m at) room
 
 abbrev pub playlistOutputIn : List ℕ → ℕ → List ℕ → List ℕ
 playlistOutputIn m at out = outputIf (playlistIn m at (length out)) (playlistBytes m at) out

@@ -1,7 +1,9 @@
 // Songs: name and length, one entry of a playlist, and a whole playlist. Each query gives the module's own refusal, then 18, then 17.
 use blocks::Thing;
+use blocks::stored::SONG_ENTRIES;
+use blocks::stored::song_entry;
+use blocks::stored::song_length;
 use numbers::copy;
-use numbers::number16;
 use queries::Found;
 use queries::find;
 use queries::name44;
@@ -15,8 +17,8 @@ use refusal::refuse;
 use refusal::refused;
 use refusal::written;
 ghost use mathlib.Core.Path.{_≡_};
-ghost use Prim.Native.Nat.{_<_};
 ghost use lib.ListN.{length};
+ghost use Rattle.numbers.specs.Numbers.{SmallPlace};
 ghost use Rattle.songs.specs.Shown.{noSong, shownSong, songAnswer, noEntry, entryIn, entryAnswer, playlistIn, playlistBytes, playlistAnswer, playlistOutput, playlistOutputIn};
 
 // A song: its name, and the number of entries of its playlist.
@@ -46,13 +48,12 @@ fn no_song(r: Refusal) -> SongAnswer
 
 // The song whose block stands at a place.
 fn song_at(m: &[u8], at: usize) -> SongAnswer
-    requires { ⌜ at < 0x10000000000000 ⌝ }
     ensures { λ r. ⌜ r ≡ shownSong (now (m .entry)) at ⌝ }
 {
     SongAnswer {
         outcome: outcome_of(Verdict::Accepted),
         name: name44(m, at),
-        length: number16(m, at + 44),
+        length: song_length(m, at),
     }
 }
 
@@ -77,15 +78,14 @@ fn no_entry(r: Refusal) -> EntryAnswer
 
 // An entry of the song whose block stands at a place: 18.
 fn entry_in(m: &[u8], at: usize, entry: usize) -> EntryAnswer
-    requires { ⌜ at < 0x10000000000000 ⌝ }
     ensures { λ r. ⌜ r ≡ entryIn (now (m .entry)) at entry ⌝ }
 {
-    if (number16(m, at + 44) as usize) <= entry {
+    if (song_length(m, at) as usize) <= entry {
         return no_entry(refuse(Cause::NotThere, 0));
     }
     EntryAnswer {
         outcome: outcome_of(Verdict::Accepted),
-        pattern: number16(m, at + 46 + 2 * entry),
+        pattern: song_entry(m, at, entry as u16),
     }
 }
 
@@ -101,14 +101,14 @@ pub fn entry(m: &[u8], song: usize, entry: usize) -> EntryAnswer
 
 // Writes the playlist of the song whose block stands at a place: 17.
 fn write_playlist(m: &[u8], at: usize, out: &mut [u8]) -> LengthAnswer
-    requires { ⌜ at < 0x10000000000000 ⌝ }
+    requires { ⌜ SmallPlace at ⌝ }
     ensures { λ r. ⌜ (r ≡ playlistIn (now (m .entry)) at (length (now (out .entry)))) × (now (out .exit) ≡ playlistOutputIn (now (m .entry)) at (now (out .entry))) ⌝ }
 {
-    let needed = 2 * (number16(m, at + 44) as usize);
+    let needed = 2 * (song_length(m, at) as usize);
     if out.len() < needed {
         return refused(refuse(Cause::Room, needed));
     }
-    copy(m, at + 46, &mut out[..needed]);
+    copy(m, at + SONG_ENTRIES, &mut out[..needed]);
     written(needed)
 }
 

@@ -22,7 +22,7 @@ loop-holds : tie.Need-loop-holds Inv-loop μ-loop
 loop-holds c = filling-first _ _ _
 
 value-requires : tie.Need-value-requires Inv-loop μ-loop
-value-requires c κs = let kept = filling-length _ _ _ _ _ (c .before .loop .inv) in (c .before .before .before .pre .0, omega (arith, kept, c .loop-test .taken, c .before .before .before .pre .1))
+value-requires c κs = let kept = filling-length _ _ _ _ _ (c .before .loop .inv) in omega (arith, kept, c .loop-test .taken, c .before .before .before .pre)
 
 loop-less : tie.Need-loop-less Inv-loop μ-loop
 loop-less c = let kept = filling-length _ _ _ _ _ (c .before .before .loop .inv) in omega (arith, kept, c .before .loop-test .taken)
@@ -34,7 +34,7 @@ same-length : tie.Need-same-length Inv-loop μ-loop
 same-length c = filling-length _ _ _ _ _ (c .before .loop .inv)
 
 returns : tie.Need-returns Inv-loop μ-loop
-returns c = filling-last _ _ _ _ _ (c .before .loop .inv) (c .loop-test .left) ∙ ap (λ (n : ℕ). eachFrom (valueShown (c .before .before .before .args .m .now) (c .before .before .before .args .kind) (c .before .before .before .args .version) (c .before .before .before .args .at) (c .before .before .before .args .sections)) 0 n) (c .before .before .before .pre .1)
+returns c = filling-last _ _ _ _ _ (c .before .loop .inv) (c .loop-test .left) ∙ ap (λ (n : ℕ). eachFrom (valueShown (c .before .before .before .args .m .now) (c .before .before .before .args .kind) (c .before .before .before .args .version) (c .before .before .before .args .at) (c .before .before .before .args .sections)) 0 n) (c .before .before .before .pre)
 
 pub fill-values-spec : {M : Type 1} → statement M
 fill-values-spec =

@@ -6,7 +6,7 @@ use Rattle.envelopes.proofs.value.Statement.{statement}
 use Rattle.envelopes.proofs.value.Tie as tie
 
 returns : tie.Need-returns
-returns c = simp (← c .before .before .before .in-use .ensures, c .before .before .if1 .taken, ← c .before .number16 .ensures) (toZ-ofZ w32 (c .value-of .result) (record { sfits = c .value-of .ok }) ∙ c .value-of .ensures)
+returns c = simp (← c .before .before .before .in-use .ensures, c .before .before .if1 .taken, ← c .before .envelope-value .ensures) (toZ-ofZ w32 (c .value-of .result) (record { sfits = c .value-of .ok }) ∙ c .value-of .ensures)
 
 returns-2 : tie.Need-returns-2
 returns-2 c = simp (← c .before .in-use .ensures, c .if1 .left)
@@ -14,4 +14,4 @@ returns-2 c = simp (← c .before .in-use .ensures, c .if1 .left)
 pub value-spec : {M : Type 1} → statement M
 value-spec =
     tie.close
-    (tie.spec (λ c κs. search needs) (λ c. search needs) (λ c. search needs) (λ c. search needs) (λ c κs. search needs) (λ c κs. search needs) returns returns-2)
+    (tie.spec (λ c κs. search needs) (λ c. search needs) (λ c κs. search needs) (λ c κs. search needs) returns returns-2)

@@ -1,12 +1,8 @@
 use borrow.Author.Needs.{needs}
-use Rattle.queries.proofs.Answering.{placed}
 use Rattle.packed_rows.specs.Answers.{cellNumbers}
 use Rattle.refusal.proofs.Outcomes.{is-answer}
 use Rattle.patterns.proofs.cell.Statement.{statement}
 use Rattle.patterns.proofs.cell.Tie as tie
-
-cell-in-requires : tie.Need-cell-in-requires
-cell-in-requires c κs = placed _ _ (c .before .b .given .1) (c .before .before .before .find .ensures .1)
 
 returns : tie.Need-returns
 returns c = is-answer cellNumbers (simp (← c .before .before .before .before .find .ensures .0 .0, c .before .before .b .given .1, c .cell-in .ensures))
@@ -16,4 +12,4 @@ returns-2 c = is-answer cellNumbers (simp (← c .before .before .before .find .
 
 pub cell-spec : {M : Type 1} → statement M
 cell-spec =
-    tie.close (tie.spec (λ c κs. search needs) (λ c. search needs) cell-in-requires (λ c. search needs) returns returns-2)
+    tie.close (tie.spec (λ c κs. search needs) (λ c. search needs) (λ c κs. search needs) (λ c. search needs) returns returns-2)

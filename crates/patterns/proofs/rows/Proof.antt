@@ -3,7 +3,7 @@ use Rattle.patterns.proofs.rows.Statement.{statement}
 use Rattle.patterns.proofs.rows.Tie as tie
 
 returns : tie.Need-returns
-returns c = simp (← c .before .before .before .before .before .find .ensures .0 .0, c .before .before .before .b .given .1, c .before .outcome-of .ensures, c .number16 .ensures)
+returns c = simp (← c .before .before .before .before .before .find .ensures .0 .0, c .before .before .before .b .given .1, c .before .outcome-of .ensures, c .pattern-rows .ensures)
 
 returns-2 : tie.Need-returns-2
 returns-2 c = simp (← c .before .before .before .before .find .ensures .0 .0, c .before .before .r .given .1, c .no-rows .ensures)

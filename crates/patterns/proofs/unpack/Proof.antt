@@ -1,10 +1,6 @@
 use borrow.Author.Needs.{needs}
-use Rattle.queries.proofs.Answering.{placed}
 use Rattle.patterns.proofs.unpack.Statement.{statement}
 use Rattle.patterns.proofs.unpack.Tie as tie
-
-unpack-in-requires : tie.Need-unpack-in-requires
-unpack-in-requires c κs = placed _ _ (c .before .before .b .given .1) (c .before .before .before .before .find .ensures .1)
 
 returns : tie.Need-returns
 returns c = (simp (← c .before .before .before .before .before .before .before .find .ensures .0 .0, c .before .before .before .before .before .b .given .1, c .before .before .unpack-in .ensures .0), simp (← c .before .before .before .before .before .before .before .find .ensures .0 .0, c .before .before .before .before .before .b .given .1, c .before .before .unpack-in .ensures .1))
@@ -15,4 +11,4 @@ returns-2 c = (simp (← c .before .before .before .before .find .ensures .0 .0,
 pub unpack-spec : {M : Type 1} → statement M
 unpack-spec =
     tie.close
-    (tie.spec (λ c κs. search needs) (λ c. search needs) unpack-in-requires (λ c. search needs) (λ c κs. search needs) (λ c. search needs) returns returns-2)
+    (tie.spec (λ c κs. search needs) (λ c. search needs) (λ c κs. search needs) (λ c. search needs) (λ c κs. search needs) (λ c. search needs) returns returns-2)

@@ -24,7 +24,7 @@ part-write-record-start : tie.Need-part-write-record-start Inv-loop μ-loop
 part-write-record-start c = blocks-inside (c .before .before .before .before .args .out .now) (c .before .loop .out) (c .before .loop .inv .0)
 
 write-record-requires : tie.Need-write-record-requires Inv-loop μ-loop
-write-record-requires c κs = (omega (arith, c .before .before .loop .inv .1 .room, c .before .before .before .before .before .pre .0, c .before .before .before .before .before .fits .count .fits, c .before .loop-test .taken), blocks-each (c .before .before .before .before .before .args .out .now) (c .before .before .loop .out) (c .before .before .loop .inv .0) (c .before .loop-test .taken), blocks-part (c .before .before .before .before .before .args .out .now) (c .before .before .loop .out) (c .before .before .loop .inv .0) (c .before .loop-test .taken))
+write-record-requires c κs = (blocks-each (c .before .before .before .before .before .args .out .now) (c .before .before .loop .out) (c .before .before .loop .inv .0) (c .before .loop-test .taken), blocks-part (c .before .before .before .before .before .args .out .now) (c .before .before .loop .out) (c .before .before .loop .inv .0) (c .before .loop-test .taken))
 
 add-to : tie.Need-add-to Inv-loop μ-loop
 add-to c = let small = blocks-small (c .before .before .before .before .before .before .before .before .args .out .now) (c .before .before .before .before .before .loop .out) (c .before .before .before .before .before .loop .inv .0) (c .before .before .before .before .loop-test .taken) in omega (arith, small, c .before .before .write-record .ensures .0)

@@ -8,10 +8,10 @@ use Rattle.records.proofs.write_envelope.Statement.{statement}
 use Rattle.records.proofs.write_envelope.Tie as tie
 
 slice-aggregate-copy : tie.Need-slice-aggregate-copy
-slice-aggregate-copy c = sym (length-take-le 8 (c .before .before .before .args .out .now) (omega (arith, c .before .before .before .pre .2)))
+slice-aggregate-copy c = sym (length-take-le 8 (c .before .before .before .args .out .now) (omega (arith, c .before .before .before .pre .1)))
 
 returns : tie.Need-returns
-returns c = (refl, head-points (c .before .before .before .before .before .before .before .before .before .before .args .m .now) (slice-bytes (c .before .before .before .before .before .before .before .before .before .before .args .m .now) (c .before .before .before .before .before .before .before .before .before .shared-slice-known .given)) (c .before .before .before .before .before .before .before .before .before .before .args .kind) (c .before .before .before .before .before .before .before .before .before .before .args .version) (c .before .before .before .before .before .before .before .before .before .before .args .at) (c .before .before .before .before .before .before .before .before .before .before .args .out .now) _ _ (c .before .before .before .before .before .before .copy .ensures) (c .before .before .before .before .before .before .before .before .before .before .pre .2) (c .before .before .write-points .ensures))
+returns c = (refl, head-points (c .before .before .before .before .before .before .before .before .before .before .args .m .now) (slice-bytes (c .before .before .before .before .before .before .before .before .before .before .args .m .now) (c .before .before .before .before .before .before .before .before .before .shared-slice-known .given)) (c .before .before .before .before .before .before .before .before .before .before .args .kind) (c .before .before .before .before .before .before .before .before .before .before .args .version) (c .before .before .before .before .before .before .before .before .before .before .args .at) (c .before .before .before .before .before .before .before .before .before .before .args .out .now) _ _ (c .before .before .before .before .before .before .copy .ensures) (c .before .before .before .before .before .before .before .before .before .before .pre .1) (c .before .before .write-points .ensures))
 
 pub write-envelope-spec : {M : Type 1} → statement M
 write-envelope-spec =

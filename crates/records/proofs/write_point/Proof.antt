@@ -14,7 +14,7 @@ returns c =
     c .before .before .put162 .ensures
     ∙ ap (putAt _ 2) (first .put16 .ensures)
     ∙ point-written (args .m .now) (args .kind) (args .version) (args .at) (args .point) (args .sections) _ _ (args .out .now)
-    (begin .pre .2) (counted .before .position .ensures) (counted .value .ensures) (begin .pre .4)
+    (begin .pre .1) (counted .before .position .ensures) (counted .value .ensures) (begin .pre .3)
 
 pub write-point-spec : {M : Type 1} → statement M
 write-point-spec =

@@ -16,7 +16,7 @@ abbrev μ-loop : tie.MeasureT-loop
 μ-loop m kind version at out₀ sections point₀ to₀ left₀ out point to left = left
 
 loop-holds : tie.Need-loop-holds Inv-loop μ-loop
-loop-holds c = (blocks-first (c .before .before .before .args .out .now) (every-any (λ p. tt) (placesFrom (λ p. 1) 32 0)) (omega (arith, points-size (c .before .before .before .args .m .now) (c .before .before .before .args .kind) (c .before .before .before .args .version) (c .before .before .before .args .at), c .before .before .before .pre .2)), refl)
+loop-holds c = (blocks-first (c .before .before .before .args .out .now) (every-any (λ p. tt) (placesFrom (λ p. 1) 32 0)) (omega (arith, points-size (c .before .before .before .args .m .now) (c .before .before .before .args .kind) (c .before .before .before .args .version) (c .before .before .before .args .at), c .before .before .before .pre .1)), refl)
 
 sub-write-point : tie.Need-sub-write-point Inv-loop μ-loop
 sub-write-point c = blocks-inside (c .before .before .before .before .before .args .out .now) (c .before .loop .out) (c .before .loop .inv .0)
@@ -25,7 +25,7 @@ part-write-point-start : tie.Need-part-write-point-start Inv-loop μ-loop
 part-write-point-start c = blocks-inside (c .before .before .before .before .before .args .out .now) (c .before .loop .out) (c .before .loop .inv .0)
 
 write-point-requires : tie.Need-write-point-requires Inv-loop μ-loop
-write-point-requires c κs = (c .before .before .before .before .before .before .pre .0, omega (arith, c .before .before .loop .inv .1, c .before .loop-test .taken), c .before .before .before .byte .ensures, c .before .before .before .before .before .before .pre .1, blocks-part (c .before .before .before .before .before .before .args .out .now) (c .before .before .loop .out) (c .before .before .loop .inv .0) (c .before .loop-test .taken))
+write-point-requires c κs = (omega (arith, c .before .before .loop .inv .1, c .before .loop-test .taken), c .before .before .before .envelope-sections .ensures, c .before .before .before .before .before .before .pre .0, blocks-part (c .before .before .before .before .before .before .args .out .now) (c .before .before .loop .out) (c .before .before .loop .inv .0) (c .before .loop-test .taken))
 
 add-to : tie.Need-add-to Inv-loop μ-loop
 add-to c = let small = blocks-small (c .before .before .before .before .before .before .before .before .before .args .out .now) (c .before .before .before .before .before .loop .out) (c .before .before .before .before .before .loop .inv .0) (c .before .before .before .before .loop-test .taken) in search needs
@@ -45,4 +45,4 @@ returns c = points-last (c .before .before .before .before .before .args .m .now
 pub write-points-spec : {M : Type 1} → statement M
 write-points-spec =
     tie.close
-    (tie.spec Inv-loop μ-loop (λ c. search needs) (λ c κs. search needs) loop-holds sub-write-point part-write-point-start (λ c. search needs) write-point-requires add-to add-point (λ c. search needs) (λ c. search needs) loop-again same-length returns)
+    (tie.spec Inv-loop μ-loop (λ c κs. search needs) loop-holds sub-write-point part-write-point-start (λ c. search needs) write-point-requires add-to add-point (λ c. search needs) (λ c. search needs) loop-again same-length returns)

@@ -10,22 +10,22 @@ enum-told : tie.Need-enum-told
 enum-told c = search needs
 
 write-stored-requires : tie.Need-write-stored-requires
-write-stored-requires c κs = room-of (c .before .before .before .before .before .before .args .m .now) (c .before .before .before .before .before .before .args .version) (c .before .before .before .before .before .before .args .at) (c .before .before .before .before .before .before .args .thing) (c .before .before .enum-told .given .1) (song-length (c .before .before .before .before .before .before .args .m .now) (c .before .before .before .before .before .before .args .version) (c .before .before .before .before .before .before .args .at) ∙ sym (c .before .size .ensures .0)) (c .before .before .before .before .before .before .pre .2)
+write-stored-requires c κs = room-of (c .before .before .before .before .before .before .args .m .now) (c .before .before .before .before .before .before .args .version) (c .before .before .before .before .before .before .args .at) (c .before .before .before .before .before .before .args .thing) (c .before .before .enum-told .given .1) (song-length (c .before .before .before .before .before .before .args .m .now) (c .before .before .before .before .before .before .args .version) (c .before .before .before .before .before .before .args .at) ∙ sym (c .before .size .ensures .0)) (c .before .before .before .before .before .before .pre .1)
 
 write-stored-requires-2 : tie.Need-write-stored-requires-2
-write-stored-requires-2 c κs = room-of (c .before .before .before .before .before .args .m .now) (c .before .before .before .before .before .args .version) (c .before .before .before .before .before .args .at) (c .before .before .before .before .before .args .thing) (c .before .enum-told2 .given .1) (instrument-length (c .before .before .before .before .before .args .m .now) (c .before .before .before .before .before .args .version) (c .before .before .before .before .before .args .at)) (c .before .before .before .before .before .pre .2)
+write-stored-requires-2 c κs = room-of (c .before .before .before .before .before .args .m .now) (c .before .before .before .before .before .args .version) (c .before .before .before .before .before .args .at) (c .before .before .before .before .before .args .thing) (c .before .enum-told2 .given .1) (instrument-length (c .before .before .before .before .before .args .m .now) (c .before .before .before .before .before .args .version) (c .before .before .before .before .before .args .at)) (c .before .before .before .before .before .pre .1)
 
 write-stored-requires-3 : tie.Need-write-stored-requires-3
-write-stored-requires-3 c κs = room-of (c .before .before .before .before .before .args .m .now) (c .before .before .before .before .before .args .version) (c .before .before .before .before .before .args .at) (c .before .before .before .before .before .args .thing) (c .before .enum-told3 .given .1) (pattern-length (c .before .before .before .before .before .args .m .now) (c .before .before .before .before .before .args .version) (c .before .before .before .before .before .args .at)) (c .before .before .before .before .before .pre .2)
+write-stored-requires-3 c κs = room-of (c .before .before .before .before .before .args .m .now) (c .before .before .before .before .before .args .version) (c .before .before .before .before .before .args .at) (c .before .before .before .before .before .args .thing) (c .before .enum-told3 .given .1) (pattern-length (c .before .before .before .before .before .args .m .now) (c .before .before .before .before .before .args .version) (c .before .before .before .before .before .args .at)) (c .before .before .before .before .before .pre .1)
 
 write-sample-requires : tie.Need-write-sample-requires
-write-sample-requires c κs = (c .before .before .before .before .before .pre .0, room-of (c .before .before .before .before .before .args .m .now) (c .before .before .before .before .before .args .version) (c .before .before .before .before .before .args .at) (c .before .before .before .before .before .args .thing) (c .before .enum-told4 .given .1) (sample-length (c .before .before .before .before .before .args .m .now) (c .before .before .before .before .before .args .version) (c .before .before .before .before .before .args .at)) (c .before .before .before .before .before .pre .2))
+write-sample-requires c κs = (room-of (c .before .before .before .before .before .args .m .now) (c .before .before .before .before .before .args .version) (c .before .before .before .before .before .args .at) (c .before .before .before .before .before .args .thing) (c .before .enum-told4 .given .1) (sample-length (c .before .before .before .before .before .args .m .now) (c .before .before .before .before .before .args .version) (c .before .before .before .before .before .args .at)) (c .before .before .before .before .before .pre .1))
 
 write-envelope-requires : tie.Need-write-envelope-requires
-write-envelope-requires c κs = (c .before .before .before .before .before .pre .0, rw (c .before .enum-told5 .given .1) at (c .before .before .before .before .before .pre .1), room-of (c .before .before .before .before .before .args .m .now) (c .before .before .before .before .before .args .version) (c .before .before .before .before .before .args .at) (c .before .before .before .before .before .args .thing) (c .before .enum-told5 .given .1) (volume-length (c .before .before .before .before .before .args .m .now) (c .before .before .before .before .before .args .version) (c .before .before .before .before .before .args .at)) (c .before .before .before .before .before .pre .2))
+write-envelope-requires c κs = (rw (c .before .enum-told5 .given .1) at (c .before .before .before .before .before .pre .0), room-of (c .before .before .before .before .before .args .m .now) (c .before .before .before .before .before .args .version) (c .before .before .before .before .before .args .at) (c .before .before .before .before .before .args .thing) (c .before .enum-told5 .given .1) (volume-length (c .before .before .before .before .before .args .m .now) (c .before .before .before .before .before .args .version) (c .before .before .before .before .before .args .at)) (c .before .before .before .before .before .pre .1))
 
 write-envelope-requires-2 : tie.Need-write-envelope-requires-2
-write-envelope-requires-2 c κs = (c .before .before .before .before .before .pre .0, rw (c .before .enum-told6 .given .1) at (c .before .before .before .before .before .pre .1), room-of (c .before .before .before .before .before .args .m .now) (c .before .before .before .before .before .args .version) (c .before .before .before .before .before .args .at) (c .before .before .before .before .before .args .thing) (c .before .enum-told6 .given .1) (panning-length (c .before .before .before .before .before .args .m .now) (c .before .before .before .before .before .args .version) (c .before .before .before .before .before .args .at)) (c .before .before .before .before .before .pre .2))
+write-envelope-requires-2 c κs = (rw (c .before .enum-told6 .given .1) at (c .before .before .before .before .before .pre .0), room-of (c .before .before .before .before .before .args .m .now) (c .before .before .before .before .before .args .version) (c .before .before .before .before .before .args .at) (c .before .before .before .before .before .args .thing) (c .before .enum-told6 .given .1) (panning-length (c .before .before .before .before .before .args .m .now) (c .before .before .before .before .before .args .version) (c .before .before .before .before .before .args .at)) (c .before .before .before .before .before .pre .1))
 
 returns : tie.Need-returns
 returns c = song-written (c .before .before .before .before .before .before .before .before .before .args .m .now) (slice-bytes (c .before .before .before .before .before .before .before .before .before .args .m .now) (c .before .before .before .before .before .before .before .before .shared-slice-known .given)) (c .before .before .before .before .before .before .before .before .before .args .version) (c .before .before .before .before .before .before .before .before .before .args .at) (c .before .before .before .before .before .before .before .before .before .args .thing) (c .before .before .before .before .before .before .before .before .before .args .out .now) (c .before .before .before .before .before .enum-told .given .1) (c .before .before .before .before .size .ensures .0) (c .before .before .write-stored .ensures)

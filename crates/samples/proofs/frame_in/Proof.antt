@@ -1,7 +1,7 @@
 use borrow.Author.Needs.{needs}
 use mir.Syntax.{w16}
 use mir.ValLaws.{toZ-ofZ}
-use Rattle.samples.proofs.FramePlaces.{frames-reach}
+use Rattle.blocks.proofs.BlockSizes.{frames-below}
 use Rattle.samples.proofs.SixteenBits.{frame-shown}
 use native.Mathlib.Omega.{arith}
 use borrow.Author.Tests.{le-ltb}
@@ -11,18 +11,18 @@ use Rattle.samples.proofs.frame_in.Statement.{statement}
 use Rattle.samples.proofs.frame_in.Tie as tie
 
 returns : tie.Need-returns
-returns c = simp (← c .before .before .before .number32 .ensures, le-ltb _ _ (c .before .before .if1 .taken), c .no-frame .ensures, c .before .refuse .ensures)
+returns c = simp (← c .before .before .before .sample-frames .ensures, le-ltb _ _ (c .before .before .if1 .taken), c .no-frame .ensures, c .before .refuse .ensures)
 
 mul-at-16-bits : tie.Need-mul-at-16-bits
-mul-at-16-bits c = let few : c .before .before .before .before .before .args .frame < 4294967296 = omega (arith, c .before .before .if1 .left) in let reach = frames-reach _ _ few (c .before .frame-bytes .ensures .1) in record { fits = omega arith }
+mul-at-16-bits c = let few : c .before .before .before .before .before .args .frame < 0x100000000 = omega (arith, c .before .before .if1 .left) in let reach = frames-below _ _ few (c .before .frame-bytes .ensures .1) in record { fits = omega arith }
 
 add-at-16-bits-2 : tie.Need-add-at-16-bits-2
-add-at-16-bits-2 c = let few : c .before .before .before .before .before .args .frame < 4294967296 = omega (arith, c .before .before .if1 .left) in let reach = frames-reach _ _ few (c .before .frame-bytes .ensures .1) in record { fits = omega arith }
+add-at-16-bits-2 c = let few : c .before .before .before .before .before .args .frame < 0x100000000 = omega (arith, c .before .before .if1 .left) in let reach = frames-below _ _ few (c .before .frame-bytes .ensures .1) in record { fits = omega arith }
 
 returns-2 : tie.Need-returns-2
-returns-2 c = frame-shown _ _ _ _ _ _ _ (c .before .before .outcome-of .ensures) (c .before .before .before .before .before .number32 .ensures) (c .before .before .before .before .if1 .left) (c .before .before .before .frame-bytes .ensures .0) (toZ-ofZ w16 (c .signed .result) (record { sfits = c .signed .ok }) ∙ c .signed .ensures ∙ c .before .at-16-bits .ensures)
+returns-2 c = frame-shown _ _ _ _ _ _ _ (c .before .before .outcome-of .ensures) (c .before .before .before .before .before .sample-frames .ensures) (c .before .before .before .before .if1 .left) (c .before .before .before .frame-bytes .ensures .0) (toZ-ofZ w16 (c .signed .result) (record { sfits = c .signed .ok }) ∙ c .signed .ensures ∙ c .before .at-16-bits .ensures)
 
 pub frame-in-spec : {M : Type 1} → statement M
 frame-in-spec =
     tie.close
-    (tie.spec (λ c. search needs) (λ c κs. search needs) (λ c. search needs) (λ c κs. search needs) (λ c κs. search needs) returns (λ c κs. search needs) (λ c κs. search needs) (λ c. search needs) mul-at-16-bits add-at-16-bits-2 (λ c κs. search needs) (λ c κs. search needs) returns-2)
+    (tie.spec (λ c κs. search needs) (λ c. search needs) (λ c κs. search needs) (λ c κs. search needs) returns (λ c κs. search needs) (λ c κs. search needs) (λ c. search needs) mul-at-16-bits add-at-16-bits-2 (λ c κs. search needs) (λ c κs. search needs) returns-2)

@@ -1,10 +1,6 @@
 use borrow.Author.Needs.{needs}
-use Rattle.queries.proofs.Answering.{placed}
 use Rattle.samples.proofs.sample.Statement.{statement}
 use Rattle.samples.proofs.sample.Tie as tie
-
-sample-at-requires : tie.Need-sample-at-requires
-sample-at-requires c κs = placed _ _ (c .before .b .given .1) (c .before .before .before .find .ensures .1)
 
 returns : tie.Need-returns
 returns c = simp (← c .before .before .before .before .find .ensures .0 .0, c .before .before .b .given .1, c .sample-at .ensures)
@@ -15,4 +11,4 @@ returns-2 c = simp (← c .before .before .before .before .find .ensures .0 .0, 
 pub sample-spec : {M : Type 1} → statement M
 sample-spec =
     tie.close
-    (tie.spec (λ c κs. search needs) (λ c. search needs) sample-at-requires (λ c. search needs) (λ c κs. search needs) returns returns-2)
+    (tie.spec (λ c κs. search needs) (λ c. search needs) (λ c κs. search needs) (λ c. search needs) (λ c κs. search needs) returns returns-2)

@@ -1,10 +1,6 @@
 use borrow.Author.Needs.{needs}
-use Rattle.queries.proofs.Answering.{placed}
 use Rattle.songs.proofs.song.Statement.{statement}
 use Rattle.songs.proofs.song.Tie as tie
-
-song-at-requires : tie.Need-song-at-requires
-song-at-requires c κs = placed _ _ (c .before .b .given .1) (c .before .before .before .find .ensures .1)
 
 returns : tie.Need-returns
 returns c = simp (← c .before .before .before .before .find .ensures .0 .0, c .before .before .b .given .1, c .song-at .ensures)
@@ -15,4 +11,4 @@ returns-2 c = simp (← c .before .before .before .before .find .ensures .0 .0, 
 pub song-spec : {M : Type 1} → statement M
 song-spec =
     tie.close
-    (tie.spec (λ c κs. search needs) (λ c. search needs) song-at-requires (λ c. search needs) (λ c κs. search needs) returns returns-2)
+    (tie.spec (λ c κs. search needs) (λ c. search needs) (λ c κs. search needs) (λ c. search needs) (λ c κs. search needs) returns returns-2)
