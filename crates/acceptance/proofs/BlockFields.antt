@@ -16,6 +16,7 @@ use Rattle.vocabulary.specs.Lists.{none}
 use Rattle.vocabulary.proofs.EveryOne.{every-one, every-split}
 use Rattle.numbers.specs.Numbers.{byteAt, number16, number32}
 use Rattle.layout.specs.declared.Place.{Place}
+use Rattle.blocks.specs.StoredFields.{songLength, songEntry, envelopeFlags, envelopeSections}
 use Rattle.blocks.specs.Sizes.{widthOf, sizeOf}
 use Rattle.blocks.specs.Filling.{flagsRules}
 use Rattle.blocks.specs.declared.Kind.the-variants.{Song, Instrument, Sample, Envelope}
@@ -38,7 +39,7 @@ pub panning-says : (v : ℕ) → (panningFits v ≡ true) ↔ PanningFits v
 panning-says v = simp (and-says, leZ-says) Iff·rfl
 
 -- Songs.
-song-says : (m : List ℕ) (patterns at : ℕ) → AllHold (songRules m patterns at) ↔ ((i : ℕ) → i < number16 m (at + 44) → number16 m (at + 46 + 2 * i) < patterns)
+song-says : (m : List ℕ) (patterns at : ℕ) → AllHold (songRules m patterns at) ↔ ((i : ℕ) → i < songLength m at → songEntry m at i < patterns)
 song-says m patterns at = simp (plain, each-hold (entryRules m patterns), every-step) Iff·rfl
 
 module _ {m block : List ℕ} {at : ℕ} (p : PartAt m at block) (s : Sized Song block) where
@@ -46,10 +47,10 @@ module _ {m block : List ℕ} {at : ℕ} (p : PartAt m at block) (s : Sized Song
   unfolding sizeOf
   song-size = s
 
-  pub entry-count : number16 m (at + 44) ≡ number16 block 44
+  pub entry-count : songLength m at ≡ number16 block 44
   entry-count = number16-at p 44 (omega (arith, song-size))
 
-  pub entry-same : (i : ℕ) → i < number16 block 44 → number16 m (at + 46 + 2 * i) ≡ number16 block (46 + 2 * i)
+  pub entry-same : (i : ℕ) → i < number16 block 44 → songEntry m at i ≡ number16 block (46 + 2 * i)
   entry-same i h = rw add-assoc (number16-at p (46 + 2 * i) (omega (arith, song-size)))
 
   pub song-holds : (patterns : ℕ) → AllHold (songRules m patterns at) ↔ SongRules patterns block
@@ -164,8 +165,8 @@ module _ {m block : List ℕ} {at : ℕ} (p : PartAt m at block) (s : Sized Enve
   points-say flags sections = simp (plain, byte-same 4 (omega arith), byte-same 5 (omega arith), byte-same 6 (omega arith), byte-same 7 (omega arith)) Iff·rfl
 
   module _ (signed : Bool) (ValueFits : ℕ → Type 0) (fits-says : (v : ℕ) → (valueFits signed v ≡ true) ↔ ValueFits v) (instruments : ℕ) where
-    parts : (flags sections : ℕ) → byteAt m (at + 2) ≡ flags → byteAt m (at + 3) ≡ sections → AllHold (envelopeRules m instruments signed at) ↔ (AllHold (envelopeHeadRules m instruments at) × AllHold (envelopePointRules m flags sections at) × AllHold (valuesRules m signed sections at))
-    parts flags sections a b = rw (← a, ← b) (every-split (envelopeHeadRules m instruments at) (envelopePointRules m (byteAt m (at + 2)) (byteAt m (at + 3)) at) (valuesRules m signed (byteAt m (at + 3)) at))
+    parts : (flags sections : ℕ) → envelopeFlags m at ≡ flags → envelopeSections m at ≡ sections → AllHold (envelopeRules m instruments signed at) ↔ (AllHold (envelopeHeadRules m instruments at) × AllHold (envelopePointRules m flags sections at) × AllHold (valuesRules m signed sections at))
+    parts flags sections a b = rw (← a, ← b) (every-split (envelopeHeadRules m instruments at) (envelopePointRules m (envelopeFlags m at) (envelopeSections m at) at) (valuesRules m signed (envelopeSections m at) at))
 
     in-block : AllHold (envelopeRules m instruments signed at) ↔ (AllHold (envelopeHeadRules m instruments at) × AllHold (envelopePointRules m (byteAt block 2) (byteAt block 3) at) × AllHold (valuesRules m signed (byteAt block 3) at))
     in-block = parts (byteAt block 2) (byteAt block 3) (byte-same 2 (omega arith)) (byte-same 3 (omega arith))

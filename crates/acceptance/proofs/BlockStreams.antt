@@ -23,9 +23,10 @@ use Rattle.packed_rows.specs.Answers.{checkAnswer, verdictOf}
 use Rattle.packed_rows.specs.Theorems.{StreamOf}
 use Rattle.packed_rows.proofs.Theorems.{reads-exactly, accepts-exactly}
 use Rattle.numbers.specs.Numbers.{Bytes, number16, number32, partOf}
+use Rattle.blocks.specs.StoredFields.{packedBytes}
 use Rattle.blocks.specs.Sizes.{sizeOf}
 use Rattle.blocks.specs.declared.Kind.the-variants.{Pattern}
-use Rattle.module.specs.Streams.{packedBytes, patternStreamRules}
+use Rattle.module.specs.Streams.{patternStreamRules}
 use Rattle.acceptance.specs.Rules.{PatternRules}
 use Rattle.acceptance.proofs.Locating.{PartAt, number32-at, number16-start, number16-front, number32-front, number16-take, number32-take, part-length, part-there, part-of-part, part-is}
 use Rattle.acceptance.proofs.Holding.{false-never, AllHold}

@@ -18,6 +18,7 @@ use Rattle.refusal.specs.declared.Verdict.the-variants.{Refused}
 use Rattle.numbers.specs.Numbers.{Bytes, number16, number32}
 use Rattle.layout.specs.declared.Place.{Place}
 use Rattle.layout.specs.declared.Layout.{Layout}
+use Rattle.blocks.specs.StoredFields.{instrumentSample}
 use Rattle.blocks.specs.Sizes.{sizeOf, blockAt}
 use Rattle.blocks.specs.Filling.{fills, flagsRules, blockRules}
 use Rattle.blocks.specs.declared.Kind.the-variants.{Sample as SampleKind}
@@ -111,7 +112,7 @@ module _ {m : List ℕ} {l : Layout} (o : Outlined m l) where
       sample-exists : number16 block 30 ≤ length (samples .0)
       sample-exists =
           let same = number16-at (b .part) 30 (omega (arith, long)) in
-          omega (arith, leb-true (number16 m (at + 30)) (l .samples) (every-first held), samples .1 .filled .number)
+          omega (arith, leb-true (instrumentSample m at) (l .samples) (every-first held), samples .1 .filled .number)
 
       module _ (sample end : ℕ) (exists : sample ≤ length (samples .0)) where
         frames : 1 ≤ sample → framesOf m (l .places .smpl) sample ≡ number32 (getD (samples .0) (sample - 1) []) 4

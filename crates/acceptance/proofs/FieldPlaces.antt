@@ -14,6 +14,8 @@ use Rattle.refusal.specs.Rules.{Rule, rulesOfEach}
 use Rattle.refusal.specs.declared.Cause.the-variants.{Reference, FieldRange}
 use Rattle.numbers.specs.Numbers.{byteAt, number16}
 use Rattle.layout.specs.declared.Layout.{Layout}
+use Rattle.blocks.specs.StoredFields.{songLength, songEntry, instrumentSample, envelopeFlags, envelopeSections, envelopeLoopFirst}
+use Rattle.blocks.specs.StoredFields.{envelopeLoopLast}
 use Rattle.blocks.specs.Sizes.{blocksOf}
 use Rattle.blocks.specs.declared.Kind.{Kind}
 use Rattle.blocks.specs.declared.Kind.the-variants.{Envelope}
@@ -66,7 +68,7 @@ module _ {m : List ℕ} {l : Layout} (o : Outlined m l) where
 
   -- A song: the entries of its playlist.
   module _ (at : ℕ) (b : Begins o Song at) where
-    entry-placed : (i : ℕ) → i < number16 m (at + 44) → ltb (number16 m (at + 46 + 2 * i)) (l .patterns) ≡ false → ReferenceAt (at + 46 + 2 * i)
+    entry-placed : (i : ℕ) → i < songLength m at → ltb (songEntry m at i) (l .patterns) ≡ false → ReferenceAt (at + 46 + 2 * i)
     entry-placed i h e =
         let p = b .part in
         let s = b .sized in
@@ -78,7 +80,7 @@ module _ {m : List ℕ} {l : Layout} (o : Outlined m l) where
     song-placed : WhereBroken (Placed m) (songRules m (l .patterns) at)
     song-placed =
         broken-each (entryRules m (l .patterns))
-        (every-step _ 2 (number16 m (at + 44)) (at + 46) .1 (λ i h. this-or (entry-placed i h) (λ _. no-rule)))
+        (every-step _ 2 (songLength m at) (at + 46) .1 (λ i h. this-or (entry-placed i h) (λ _. no-rule)))
 
   -- An instrument: its sample, and volume, panning and flags.
   module _ (at : ℕ) (b : Begins o Instrument at) where
@@ -93,7 +95,7 @@ module _ {m : List ℕ} {l : Layout} (o : Outlined m l) where
         number-placed : test (number16 m (at + k)) ≡ false → RangeAt (at + k)
         number-placed e = range-placed b (at + k) refl number-inside (FieldFault.instrument (fault (rw number-is at e)))
 
-    sample-placed : leb (number16 m (at + 30)) (l .samples) ≡ false → ReferenceAt (at + 30)
+    sample-placed : leb (instrumentSample m at) (l .samples) ≡ false → ReferenceAt (at + 30)
     sample-placed e =
         let over = leb-false (number16 (block b) 30) (l .samples) (rw (number-is 30 (lit< tt)) at e) in
         reference-placed b (at + 30) refl (number-inside 30 (lit< tt)) (ReferenceFault.sample (omega (arith, counts o .1)))
@@ -191,9 +193,9 @@ module _ {m : List ℕ} {l : Layout} (o : Outlined m l) where
             (λ e. inl (rw g at (leb-false last sections e)))
             (λ _ e. inr (leb-false first last e))
 
-      last-placed : not (bit2 flags) || (leb (byteAt m (at + 6)) sections && leb (byteAt m (at + 5)) (byteAt m (at + 6))) ≡ false → RangeAt (at + 6)
+      last-placed : not (bit2 flags) || (leb (envelopeLoopLast m at) sections && leb (envelopeLoopFirst m at) (envelopeLoopLast m at)) ≡ false → RangeAt (at + 6)
       last-placed e =
-          let (set, over) = unless-broken (bit2 flags) (leb (byteAt m (at + 6)) sections && leb (byteAt m (at + 5)) (byteAt m (at + 6))) e in
+          let (set, over) = unless-broken (bit2 flags) (leb (envelopeLoopLast m at) sections && leb (envelopeLoopFirst m at) (envelopeLoopLast m at)) e in
           let wrong = last-over (byteAt (block b) 5) (byteAt (block b) 6) (rw (byte-is 5 (lit< tt), byte-is 6 (lit< tt)) at over) in
           fault-placed (at + 6) refl (omega arith) (EnvelopeFault.loopLast (loop-set set) wrong)
 
@@ -226,9 +228,9 @@ module _ {m : List ℕ} {l : Layout} (o : Outlined m l) where
         let f = byte-is 2 (lit< tt) in
         let g = byte-is 3 (lit< tt) in
         broken-append head-placed λ head.
-        let fits = leb-true (byteAt m (at + 3)) 31 (every-first (every-rest (every-rest head))) in
-        broken-append (points-placed (byteAt m (at + 2)) (byteAt m (at + 3)) f g) λ _.
-        values-placed (byteAt m (at + 2)) (byteAt m (at + 3)) f g fits
+        let fits = leb-true (envelopeSections m at) 31 (every-first (every-rest (every-rest head))) in
+        broken-append (points-placed (envelopeFlags m at) (envelopeSections m at) f g) λ _.
+        values-placed (envelopeFlags m at) (envelopeSections m at) f g fits
 
   -- The blocks of a thing, where they fill their chunk.
   module _ (fill : BlocksHold m l) where

@@ -20,7 +20,7 @@ use Rattle.packed_rows.proofs.Accepted.{accepted-rows}
 use Rattle.packed_rows.proofs.Theorems.{none-shorter, reads-exactly}
 use Rattle.numbers.specs.Numbers.{number16, partOf, bytes16, bytes32}
 use Rattle.numbers.proofs.AllBytes.{bytes-rest, bytes-front, bytes-behind, bytes-replicate}
-use Rattle.module.specs.Streams.{packedBytes}
+use Rattle.blocks.specs.StoredFields.{packedBytes}
 use Rattle.repack.specs.Repacked.{packed}
 use Rattle.repacking.proofs.PackedBytes.{EntriesBytes, stream-bytes, repacked-bytes}
 use Rattle.repacking.proofs.BlockAnew.{blockAnew}

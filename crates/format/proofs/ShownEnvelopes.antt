@@ -8,7 +8,8 @@ use native.Mathlib.Nat.{add-assoc}
 use lib.ListN.{length, getD}
 use lib.Dec.{leb}
 use lib.IntN.{pos}
-use Rattle.numbers.specs.Numbers.{byteAt, number16, eachFrom}
+use Rattle.numbers.specs.Numbers.{byteAt, eachFrom}
+use Rattle.blocks.specs.StoredFields.{envelopePosition, envelopeValue}
 use Rattle.blocks.specs.Sizes.{sizeOf}
 use Rattle.blocks.specs.declared.Kind.the-variants.{Envelope as EnvelopeBlock}
 use Rattle.envelopes.specs.Shown.{positionShown, valueOf, valueShown, shownEnvelope}
@@ -34,10 +35,10 @@ module _ {instruments : ℕ} {ValueFits : ℕ → Type 0} (e : Envelope) (f : En
     at8 : (k : ℕ) → k < 136 → byteAt m (at + k) ≡ byteAt (envelopeBytes e) k
     at8 k h = byteAt-at p k (omega (arith, size))
 
-    position : (i : ℕ) → i < 32 → number16 m (at + 8 + 4 * i) ≡ getD (e .points) i noPoint .position
+    position : (i : ℕ) → i < 32 → envelopePosition m at i ≡ getD (e .points) i noPoint .position
     position i h = simp add-assoc (number16-at p (8 + 4 * i) (omega (arith, size)) ∙ envelope-position e (f .many) i h)
 
-    value : (i : ℕ) → i < 32 → number16 m (at + 10 + 4 * i) ≡ getD (e .points) i noPoint .value
+    value : (i : ℕ) → i < 32 → envelopeValue m at i ≡ getD (e .points) i noPoint .value
     value i h = simp add-assoc (number16-at p (10 + 4 * i) (omega (arith, size)) ∙ envelope-value e (f .many) i h)
 
     positions : eachFrom (positionShown m at (e .sections)) 0 32 ≡ eachFrom (λ point. cond (leb point (e .sections)) (getD (e .points) point noPoint .position) 0) 0 32

@@ -13,7 +13,7 @@ use Rattle.packed_rows.specs.declared.CellAnswer.the-variants.{Refused}
 use Rattle.numbers.specs.Numbers.{byteAt, number16, partOf, bytesFrom, bytes32}
 use Rattle.layout.specs.declared.Layout.{Layout}
 use Rattle.layout.specs.declared.Outline.the-variants.{Found as Opened}
-use Rattle.module.specs.Streams.{packedBytes}
+use Rattle.blocks.specs.StoredFields.{packedBytes}
 use Rattle.module.specs.Verdicts.{opened}
 use Rattle.refusal.specs.Lengths.{refusedLength}
 use Rattle.summary.specs.Shown.{versionIf, versionAnswer, nameIf, nameAnswer, infoIf, infoAnswer}

@@ -21,9 +21,9 @@ use Rattle.packed_rows.specs.declared.Unpacking.the-variants.{Unpacked, Refused
 use Rattle.packed_rows.proofs.Shapes.{rows-from-shaped, length-bytes}
 use Rattle.packed_rows.proofs.Theorems.{reads-exactly}
 use Rattle.numbers.specs.Numbers.{number16, bytes16, bytes32}
+use Rattle.blocks.specs.StoredFields.{packedBytes}
 use Rattle.blocks.specs.Sizes.{sizeOf}
 use Rattle.blocks.specs.declared.Kind.the-variants.{Pattern as PatternKind}
-use Rattle.module.specs.Streams.{packedBytes}
 use Rattle.refusal.specs.Lengths.{refusedLength, writtenLength, lengthIf, outputIf}
 use Rattle.patterns.specs.Shown.{lengthOf}
 use Rattle.acceptance.proofs.Locating.{PartAt, number16-start}

@@ -11,9 +11,10 @@ use borrow.Author.Tests.{ltb-true}
 use Rattle.vocabulary.specs.Lists.{joined}
 use Rattle.numbers.specs.Numbers.{byteAt, partOf, signedBy, signed16, bytes16, bytes32, unsigned16}
 use Rattle.numbers.proofs.Stored.{bytes16-again, bytes32-again}
+use Rattle.blocks.specs.StoredFields.{sampleFrames}
 use Rattle.blocks.specs.Sizes.{widthOf, sizeOf}
 use Rattle.blocks.specs.declared.Kind.the-variants.{Sample as SampleKind}
-use Rattle.samples.specs.Shown.{frameBytes as frameWidth, frameCount, shownSample, dividedDown, frame16 as frame16At, frameOf, frameIn, allFrames, allFramesIn, allFramesOutputIn}
+use Rattle.samples.specs.Shown.{frameBytes as frameWidth, shownSample, dividedDown, frame16 as frame16At, frameOf, frameIn, allFrames, allFramesIn, allFramesOutputIn}
 use Rattle.acceptance.proofs.Locating.{PartAt, byteAt-start, number16-start, number32-start, number32-at, part-is}
 use Rattle.acceptance.proofs.Cutting.{Sized, part-rest}
 use Rattle.showing.proofs.SameBytes.{same-if}
@@ -46,7 +47,7 @@ module _ (s : Sample) where
     width : frameWidth m at ≡ flagsOf (s .width)
     width = rw (number32-start p (omega (arith, sample-size s)), sample-flags s) (width-flags (s .width))
 
-    count : frameCount m at ≡ length (s .frames)
+    count : sampleFrames m at ≡ length (s .frames)
     count = number32-at p 4 (omega (arith, sample-size s)) ∙ sample-frames s
 
     pub sample-shown : shownSample m at ≡ sampleRecord s
@@ -56,10 +57,10 @@ module _ (s : Sample) where
     stored : PartAt m (at + 8) (storedFrames s)
     stored = part-rest (bytes32 (flagsOf (s .width)) ++ bytes32 (length (s .frames))) (storedFrames s) p
 
-    pub frames-length : frameCount m at * frameWidth m at ≡ length (storedFrames s)
+    pub frames-length : sampleFrames m at * frameWidth m at ≡ length (storedFrames s)
     frames-length = rw (width, count) (sym (frames-size (s .width) (s .frames)))
 
-    pub frames-shown : partOf m (at + 8) (frameCount m at * frameWidth m at) ≡ storedFrames s
+    pub frames-shown : partOf m (at + 8) (sampleFrames m at * frameWidth m at) ≡ storedFrames s
     frames-shown = ap (partOf m (at + 8)) frames-length ∙ part-is stored
 
     -- A frame at 16 bits.

@@ -8,7 +8,8 @@ use lib.ListN.{length, getD, length-append}
 use lib.Dec.{ltb}
 use borrow.Author.Tests.{ltb-true}
 use Rattle.vocabulary.specs.Lists.{joined}
-use Rattle.numbers.specs.Numbers.{number16, bytesFrom, bytes16}
+use Rattle.numbers.specs.Numbers.{bytesFrom, bytes16}
+use Rattle.blocks.specs.StoredFields.{songLength, songEntry}
 use Rattle.blocks.specs.Sizes.{sizeOf}
 use Rattle.blocks.specs.declared.Kind.the-variants.{Song as SongKind}
 use Rattle.songs.specs.Shown.{shownSong, entryIn, playlistBytes, playlistIn, playlistOutputIn}
@@ -28,7 +29,7 @@ module _ {patterns : ℕ} (s : Song) (f : SongFits patterns s) where
   song-sized = rw (song-length s (f .name .0)) (song-size s (f .name .0))
 
   module _ {m : List ℕ} {at : ℕ} (p : PartAt m at (songBytes s)) where
-    count : number16 m (at + 44) ≡ length (s .playlist)
+    count : songLength m at ≡ length (s .playlist)
     count = number16-at p 44 (omega (arith, song-size s (f .name .0))) ∙ song-length s (f .name .0)
 
     name : bytesFrom m at 44 ≡ s .name
@@ -37,7 +38,7 @@ module _ {patterns : ℕ} (s : Song) (f : SongFits patterns s) where
     pub song-shown : shownSong m at ≡ songRecord s
     song-shown = rw (name, count)
 
-    pattern : (entry : ℕ) → entry < length (s .playlist) → number16 m (at + 46 + 2 * entry) ≡ getD (s .playlist) entry 0
+    pattern : (entry : ℕ) → entry < length (s .playlist) → songEntry m at entry ≡ getD (s .playlist) entry 0
     pattern entry h = simp add-assoc (number16-at p (46 + 2 * entry) (omega (arith, song-size s (f .name .0))) ∙ song-entry s (f .name .0) entry h)
 
     pub entry-shown : (entry : ℕ) → entryIn m at entry ≡ entryRecord entry s

@@ -6,8 +6,7 @@ use Rattle.refusal.specs.declared.Cause.the-variants.{Stream}
 use Rattle.refusal.specs.declared.Verdict.{Verdict}
 use Rattle.packed_rows.specs.Answers.{checkAnswer}
 use Rattle.layout.specs.declared.Layout.{Layout}
-pub use Rattle.blocks.specs.StoredFields.{packedBytes}
-use Rattle.blocks.specs.StoredFields.{patternRows}
+use Rattle.blocks.specs.StoredFields.{patternRows, packedBytes}
 use Rattle.blocks.specs.Sizes.{patternBlocks}
 
 -- V7: what the check of a pattern's stream says, with its rows and the module's tracks.

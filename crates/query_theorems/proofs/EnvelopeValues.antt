@@ -9,8 +9,9 @@ use lib.ListN.{getD, replicate, List·getD-eq-default}
 use lib.Dec.{eqb, leb, ltb}
 use lib.IntN.{ℤ, pos, negsuc, _-ℤ_}
 use borrow.Author.Tests.{leb-true, ltb-true, ltb-false, eqb-true, le-leb, lt-ltb}
-use Rattle.numbers.specs.Numbers.{byteAt, number16, signed16, eachFrom}
+use Rattle.numbers.specs.Numbers.{signed16, eachFrom}
 use Rattle.numbers.proofs.Each.{each-length}
+use Rattle.blocks.specs.StoredFields.{envelopeSections, envelopeValue}
 use Rattle.blocks.specs.Sizes.{sizeOf, firstBlock, envelopeCount}
 use Rattle.blocks.specs.declared.Kind.the-variants.{Envelope}
 use Rattle.blocks.specs.declared.Thing.the-variants.{VolumeEnvelope, PanningEnvelope}
@@ -56,25 +57,25 @@ panning-holds m envelope b e =
     (l .instruments, subst (λ (c : Block). AllHold (envelopeRules m (l .instruments) (eqb (c .version) 3) (c .at))) (sym (s .block)) (every-place (λ at. AllHold (envelopeRules m (l .instruments) (eqb (l .version) 3) at)) (sizeOf Envelope m) (envelopeCount m (l .places .penv)) (firstBlock Envelope (l .places .penv)) .0 rules (envelope - 0) (s .counted)))
 
 -- What is shown for a point of an envelope that is found.
-point-shown : (m : List ℕ) (kind : EnvelopeKind) (envelope : ℕ) (b : Block) → found m (thingOf kind) envelope ≡ At b → (point : ℕ) → point < 32 → valueAt m kind envelope point ≡ valueShown m kind (b .version) (b .at) (byteAt m (b .at + 3)) point
+point-shown : (m : List ℕ) (kind : EnvelopeKind) (envelope : ℕ) (b : Block) → found m (thingOf kind) envelope ≡ At b → (point : ℕ) → point < 32 → valueAt m kind envelope point ≡ valueShown m kind (b .version) (b .at) (envelopeSections m (b .at)) point
 point-shown m kind envelope b e point h =
     ap (λ (f : Found). getD (envelopeIf m kind f .values) point (pos 0)) e
-    ∙ each-at (valueShown m kind (b .version) (b .at) (byteAt m (b .at + 3))) (pos 0) 32 0 point h
-    ∙ ap (valueShown m kind (b .version) (b .at) (byteAt m (b .at + 3))) (omega arith)
+    ∙ each-at (valueShown m kind (b .version) (b .at) (envelopeSections m (b .at))) (pos 0) 32 0 point h
+    ∙ ap (valueShown m kind (b .version) (b .at) (envelopeSections m (b .at))) (omega arith)
 
 -- What holds of 0 and of each value in use holds of each value that is shown.
-each-value : (P : ℤ → Type 0) (m : List ℕ) (kind : EnvelopeKind) (envelope : ℕ) → P (pos 0) → ((b : Block) → found m (thingOf kind) envelope ≡ At b → (point : ℕ) → point ≤ byteAt m (b .at + 3) → P (valueOf kind (b .version) (number16 m (b .at + 10 + 4 * point)))) → (point : ℕ) → P (valueAt m kind envelope point)
+each-value : (P : ℤ → Type 0) (m : List ℕ) (kind : EnvelopeKind) (envelope : ℕ) → P (pos 0) → ((b : Block) → found m (thingOf kind) envelope ≡ At b → (point : ℕ) → point ≤ envelopeSections m (b .at) → P (valueOf kind (b .version) (envelopeValue m (b .at) point))) → (point : ℕ) → P (valueAt m kind envelope point)
 each-value P m kind envelope none each point = go (found m (thingOf kind) envelope) refl
   where
-    used : (b : Block) → found m (thingOf kind) envelope ≡ At b → (t : Bool) → leb point (byteAt m (b .at + 3)) ≡ t → P (cond t (valueOf kind (b .version) (number16 m (b .at + 10 + 4 * point))) (pos 0))
-    used b e true h = each b e point (leb-true point (byteAt m (b .at + 3)) h)
+    used : (b : Block) → found m (thingOf kind) envelope ≡ At b → (t : Bool) → leb point (envelopeSections m (b .at)) ≡ t → P (cond t (valueOf kind (b .version) (envelopeValue m (b .at) point)) (pos 0))
+    used b e true h = each b e point (leb-true point (envelopeSections m (b .at)) h)
     used b e false h = none
 
     within : (b : Block) → found m (thingOf kind) envelope ≡ At b → (t : Bool) → ltb point 32 ≡ t → P (valueAt m kind envelope point)
-    within b e true h = subst P (sym (point-shown m kind envelope b e point (ltb-true point 32 h))) (used b e (leb point (byteAt m (b .at + 3))) refl)
+    within b e true h = subst P (sym (point-shown m kind envelope b e point (ltb-true point 32 h))) (used b e (leb point (envelopeSections m (b .at))) refl)
     within b e false h =
-        let values : List ℤ = eachFrom (valueShown m kind (b .version) (b .at) (byteAt m (b .at + 3))) 0 32 in
-        let past : getD values point (pos 0) ≡ pos 0 = List·getD-eq-default values (pos 0) {n = point} (omega (arith, each-length (valueShown m kind (b .version) (b .at) (byteAt m (b .at + 3))) 32 0, ltb-false point 32 h)) in
+        let values : List ℤ = eachFrom (valueShown m kind (b .version) (b .at) (envelopeSections m (b .at))) 0 32 in
+        let past : getD values point (pos 0) ≡ pos 0 = List·getD-eq-default values (pos 0) {n = point} (omega (arith, each-length (valueShown m kind (b .version) (b .at) (envelopeSections m (b .at))) 32 0, ltb-false point 32 h)) in
         subst P (sym (ap (λ (f : Found). getD (envelopeIf m kind f .values) point (pos 0)) e ∙ past)) none
 
     go : (f : Found) → found m (thingOf kind) envelope ≡ f → P (valueAt m kind envelope point)
@@ -107,24 +108,24 @@ panning-between version v = go (eqb version 2) (eqb version 3) refl refl
 pub volume-values : (m : List ℕ) (envelope point : ℕ) → Between (pos 0) (pos 64) (valueAt m Volume envelope point)
 volume-values m envelope = each-value (Between (pos 0) (pos 64)) m Volume envelope (record { le = tt }, record { le = tt }) each
   where
-    each : (b : Block) → found m VolumeEnvelope envelope ≡ At b → (point : ℕ) → point ≤ byteAt m (b .at + 3) → Between (pos 0) (pos 64) (pos (number16 m (b .at + 10 + 4 * point)))
+    each : (b : Block) → found m VolumeEnvelope envelope ≡ At b → (point : ℕ) → point ≤ envelopeSections m (b .at) → Between (pos 0) (pos 64) (pos (envelopeValue m (b .at) point))
     each b e point h =
         let (instruments, hold) = volume-holds m envelope b e in
-        let v = number16 m (b .at + 10 + 4 * point) in
+        let v = envelopeValue m (b .at) point in
         (leZ-says (pos 0) (pos v) .0 (le-leb 0 v (omega arith)), leZ-says (pos v) (pos 64) .0 (value-fits m instruments false (b .at) hold point h))
 
 pub panning-values : (m : List ℕ) (envelope point : ℕ) → Between (negsuc 127) (pos 128) (valueAt m Panning envelope point)
 panning-values m envelope = each-value (Between (negsuc 127) (pos 128)) m Panning envelope zero-panning each
   where
-    each : (b : Block) → found m PanningEnvelope envelope ≡ At b → (point : ℕ) → point ≤ byteAt m (b .at + 3) → Between (negsuc 127) (pos 128) (valueOf Panning (b .version) (number16 m (b .at + 10 + 4 * point)))
+    each : (b : Block) → found m PanningEnvelope envelope ≡ At b → (point : ℕ) → point ≤ envelopeSections m (b .at) → Between (negsuc 127) (pos 128) (valueOf Panning (b .version) (envelopeValue m (b .at) point))
     each b e point h =
         let (instruments, hold) = panning-holds m envelope b e in
-        panning-between (b .version) (number16 m (b .at + 10 + 4 * point)) (value-fits m instruments (eqb (b .version) 3) (b .at) hold point h)
+        panning-between (b .version) (envelopeValue m (b .at) point) (value-fits m instruments (eqb (b .version) 3) (b .at) hold point h)
 
 -- Version 2.
-pub panning-scaled : (m : List ℕ) (envelope : ℕ) (b : Block) → found m PanningEnvelope envelope ≡ At b → b .version ≡ 2 → (point : ℕ) → point ≤ byteAt m (b .at + 3) → (number16 m (b .at + 10 + 4 * point) ≤ 64) × (valueAt m Panning envelope point ≡ pos (4 * number16 m (b .at + 10 + 4 * point)) -ℤ pos 128)
+pub panning-scaled : (m : List ℕ) (envelope : ℕ) (b : Block) → found m PanningEnvelope envelope ≡ At b → b .version ≡ 2 → (point : ℕ) → point ≤ envelopeSections m (b .at) → (envelopeValue m (b .at) point ≤ 64) × (valueAt m Panning envelope point ≡ pos (4 * envelopeValue m (b .at) point) -ℤ pos 128)
 panning-scaled m envelope b e two point h =
     let (instruments, hold) = panning-holds m envelope b e in
     let fits = value-fits m instruments (eqb (b .version) 3) (b .at) hold point h in
     let sections = sections-fit m instruments (eqb (b .version) 3) (b .at) hold in
-    (leb-true (number16 m (b .at + 10 + 4 * point)) 64 (rw two at fits), point-shown m Panning envelope b e point (omega arith) ∙ rw (le-leb point (byteAt m (b .at + 3)) h, two))
+    (leb-true (envelopeValue m (b .at) point) 64 (rw two at fits), point-shown m Panning envelope b e point (omega arith) ∙ rw (le-leb point (envelopeSections m (b .at)) h, two))

@@ -22,11 +22,11 @@ use Rattle.packed_rows.specs.declared.CellAnswer.the-variants.{Found as CellFou
 use Rattle.packed_rows.specs.declared.Unpacking.the-variants.{Unpacked, Refused as UnpackingRefused}
 use Rattle.packed_rows.proofs.Reading.{both-true}
 use Rattle.packed_rows.proofs.Accepted.{accepted-rows}
-use Rattle.numbers.specs.Numbers.{number16, number32}
+use Rattle.numbers.specs.Numbers.{number16}
+use Rattle.blocks.specs.StoredFields.{patternPackedLength, packedBytes}
 use Rattle.blocks.specs.Sizes.{sizeOf, firstBlock}
 use Rattle.blocks.specs.declared.Kind.the-variants.{Pattern as PatternKind}
 use Rattle.blocks.specs.declared.Thing.the-variants.{Pattern}
-use Rattle.module.specs.Streams.{packedBytes}
 use Rattle.queries.specs.Finding.{found}
 use Rattle.refusal.specs.Lengths.{refusedLength, writtenLength, lengthIf}
 use Rattle.queries.specs.declared.Block.{Block}
@@ -75,9 +75,9 @@ there-says rows tracks row track = (
 
 module _ (m : List ℕ) (pattern : ℕ) (b : Block) (e : found m Pattern pattern ≡ At b) where
   -- The packed bytes are never cut.
-  pub packed-whole : length (packedBytes m (b .at)) ≡ number32 m (b .at + 2)
+  pub packed-whole : length (packedBytes m (b .at)) ≡ patternPackedLength m (b .at)
   unfolding sizeOf
-  packed-whole = part-length m (b .at + 6) (number32 m (b .at + 2)) (omega (arith, block-ends m Pattern pattern b e))
+  packed-whole = part-length m (b .at + 6) (patternPackedLength m (b .at)) (omega (arith, block-ends m Pattern pattern b e))
 
   pub stream-accepted : checkAnswer (packedBytes m (b .at)) (number16 m (b .at)) (b .tracks) ≡ Accepted
   stream-accepted =

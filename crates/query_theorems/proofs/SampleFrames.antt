@@ -11,6 +11,7 @@ use lib.Dec.{eqb}
 use Rattle.vocabulary.proofs.EveryOne.{every-first}
 use Rattle.refusal.specs.declared.Refusal.{Refusal}
 use Rattle.numbers.specs.Numbers.{number32, partOf}
+use Rattle.blocks.specs.StoredFields.{sampleFrames}
 use Rattle.blocks.specs.Sizes.{widthOf, sizeOf, firstBlock, blockAt}
 use Rattle.blocks.specs.Filling.{dataEnd}
 use Rattle.blocks.specs.declared.Kind.the-variants.{Sample as SampleKind}
@@ -19,7 +20,7 @@ use Rattle.queries.specs.Finding.{found}
 use Rattle.queries.specs.declared.Block.{Block}
 use Rattle.queries.specs.declared.Found.{Found}
 use Rattle.queries.specs.declared.Found.the-variants.{At, Refused}
-use Rattle.samples.specs.Shown.{frameBytes, frameCount, framesIf, framesPart}
+use Rattle.samples.specs.Shown.{frameBytes, framesIf, framesPart}
 use Rattle.acceptance.proofs.OpenModules.{module-opens}
 use Rattle.query_theorems.specs.Queries.{InChunk, FramesIn}
 use Rattle.acceptance.proofs.Locating.{part-length}
@@ -51,16 +52,16 @@ module _ (m : List ℕ) (sample : ℕ) where
         let flags = module-opens m l (chunk .opens) .content .blocks .flags in
         rw (s .block) (width-of (number32 m (blockAt m SampleKind (l .places .smpl) (sample - 1))) (every-first (every-place _ (sizeOf SampleKind m) (l .samples) (firstBlock SampleKind (l .places .smpl)) .0 flags (sample - 1) (s .counted))))
 
-    bytes : framesPart m sample ≡ partOf m (b .at + 8) (frameCount m (b .at) * frameBytes m (b .at))
+    bytes : framesPart m sample ≡ partOf m (b .at + 8) (sampleFrames m (b .at) * frameBytes m (b .at))
     unfolding handed-out
     bytes = ap (handed-out) e
 
-    fits : b .at + 8 + frameCount m (b .at) * frameBytes m (b .at) ≤ dataEnd (chunk .layout .places .smpl)
+    fits : b .at + 8 + sampleFrames m (b .at) * frameBytes m (b .at) ≤ dataEnd (chunk .layout .places .smpl)
     unfolding sizeOf
     fits = omega (arith, chunk .inside)
 
-    size : length (framesPart m sample) ≡ frameCount m (b .at) * frameBytes m (b .at)
-    size = ap length bytes ∙ part-length m (b .at + 8) (frameCount m (b .at) * frameBytes m (b .at)) (omega (arith, fits, chunk .whole))
+    size : length (framesPart m sample) ≡ sampleFrames m (b .at) * frameBytes m (b .at)
+    size = ap length bytes ∙ part-length m (b .at + 8) (sampleFrames m (b .at) * frameBytes m (b .at)) (omega (arith, fits, chunk .whole))
 
     pub frames-in : FramesIn m sample (b .at)
     frames-in = record { chunk = chunk; width = width; bytes = bytes; size = size; inside = rw size fits }

@@ -6,11 +6,12 @@ use mathlib.Core.List.{List}
 use mathlib.Core.Bool.{Bool, true, cond}
 use native.Mathlib.Omega.{arith}
 use lib.ListN.{length, replicate}
-use Rattle.numbers.specs.Numbers.{number16, partOf, bytesFrom}
+use Rattle.numbers.specs.Numbers.{partOf, bytesFrom}
 use Rattle.numbers.proofs.Parts.{bytes-part}
 use Rattle.layout.specs.declared.Layout.{Layout}
 use Rattle.layout.specs.declared.Outline.{Outline}
 use Rattle.layout.specs.declared.Outline.the-variants.{Found as Opened}
+use Rattle.blocks.specs.StoredFields.{songLength}
 use Rattle.blocks.specs.Sizes.{sizeOf}
 use Rattle.blocks.specs.Things.{kindOf}
 use Rattle.blocks.specs.declared.Thing.{Thing}
@@ -42,9 +43,9 @@ module _ (m : List ℕ) (number : ℕ) (b : Block) where
   unfolding sizeOf
   song-name e = ap (λ (f : Found). songIf m f .name) e ∙ bytes-part m 44 (b .at) (omega (arith, block-ends m Song number b e))
 
-  pub playlist-bytes : found m Song number ≡ At b → playlistBytes m (b .at) ≡ partOf m (b .at + 46) (2 * number16 m (b .at + 44))
+  pub playlist-bytes : found m Song number ≡ At b → playlistBytes m (b .at) ≡ partOf m (b .at + 46) (2 * songLength m (b .at))
   unfolding sizeOf
-  playlist-bytes e = bytes-part m (2 * number16 m (b .at + 44)) (b .at + 46) (omega (arith, block-ends m Song number b e))
+  playlist-bytes e = bytes-part m (2 * songLength m (b .at)) (b .at + 46) (omega (arith, block-ends m Song number b e))
 
   pub instrument-name : found m Instrument number ≡ At b → instrumentAnswer m number .name ≡ partOf m (b .at) 30
   unfolding sizeOf

@@ -37,15 +37,15 @@ use Rattle.cells.specs.Cells.{cellBytes}
 use Rattle.cells.specs.Shown.{shownCell}
 use Rattle.packed_rows.specs.Answers.{checkAnswer}
 use Rattle.packed_rows.specs.declared.CellAnswer.the-variants.{Found as CellFound, Refused as CellRefused}
-use Rattle.numbers.specs.Numbers.{byteAt, number16, number32, partOf}
+use Rattle.numbers.specs.Numbers.{number16, partOf}
 use Rattle.layout.specs.declared.Layout.{Layout}
 use Rattle.layout.specs.declared.Outline.the-variants.{Found as Opened}
+use Rattle.blocks.specs.StoredFields.{songLength, patternPackedLength, packedBytes, envelopeSections, envelopeValue}
 use Rattle.blocks.specs.Sizes.{sizeOf, firstBlock}
 use Rattle.blocks.specs.Filling.{dataEnd}
 use Rattle.blocks.specs.Things.{kindOf, chunkOf}
 use Rattle.blocks.specs.declared.Thing.{Thing}
 use Rattle.blocks.specs.declared.Thing.the-variants.{Song, Instrument, Pattern, Sample, PanningEnvelope}
-use Rattle.module.specs.Streams.{packedBytes}
 use Rattle.module.specs.Verdicts.{opened, moduleVerdict}
 use Rattle.refusal.specs.Lengths.{lengthIf}
 use Rattle.queries.specs.Finding.{firstOf, found}
@@ -93,7 +93,7 @@ frames-refused = SampleFrames.frames-refused
 
 -- 16.
 module _ (m : List ℕ) (pattern : ℕ) (b : Block) (there : found m Pattern pattern ≡ At b) where
-  pub packed-whole : length (packedBytes m (b .at)) ≡ number32 m (b .at + 2)
+  pub packed-whole : length (packedBytes m (b .at)) ≡ patternPackedLength m (b .at)
   packed-whole = FoundPatterns.packed-whole m pattern b there
 
   pub stream-accepted : checkAnswer (packedBytes m (b .at)) (number16 m (b .at)) (b .tracks) ≡ Accepted
@@ -115,7 +115,7 @@ module-name = ShownBytes.module-name
 pub song-name : (m : List ℕ) (song : ℕ) (b : Block) → found m Song song ≡ At b → songAnswer m song .name ≡ partOf m (b .at) 44
 song-name = ShownBytes.song-name
 
-pub playlist-bytes : (m : List ℕ) (song : ℕ) (b : Block) → found m Song song ≡ At b → playlistBytes m (b .at) ≡ partOf m (b .at + 46) (2 * number16 m (b .at + 44))
+pub playlist-bytes : (m : List ℕ) (song : ℕ) (b : Block) → found m Song song ≡ At b → playlistBytes m (b .at) ≡ partOf m (b .at + 46) (2 * songLength m (b .at))
 playlist-bytes = ShownBytes.playlist-bytes
 
 pub instrument-name : (m : List ℕ) (instrument : ℕ) (b : Block) → found m Instrument instrument ≡ At b → instrumentAnswer m instrument .name ≡ partOf m (b .at) 30
@@ -128,7 +128,7 @@ volume-values = EnvelopeValues.volume-values
 pub panning-values : (m : List ℕ) (envelope point : ℕ) → Between (negsuc 127) (pos 128) (valueAt m Panning envelope point)
 panning-values = EnvelopeValues.panning-values
 
-pub panning-scaled : (m : List ℕ) (envelope : ℕ) (b : Block) → found m PanningEnvelope envelope ≡ At b → b .version ≡ 2 → (point : ℕ) → point ≤ byteAt m (b .at + 3) → (number16 m (b .at + 10 + 4 * point) ≤ 64) × (valueAt m Panning envelope point ≡ pos (4 * number16 m (b .at + 10 + 4 * point)) -ℤ pos 128)
+pub panning-scaled : (m : List ℕ) (envelope : ℕ) (b : Block) → found m PanningEnvelope envelope ≡ At b → b .version ≡ 2 → (point : ℕ) → point ≤ envelopeSections m (b .at) → (envelopeValue m (b .at) point ≤ 64) × (valueAt m Panning envelope point ≡ pos (4 * envelopeValue m (b .at) point) -ℤ pos 128)
 panning-scaled = EnvelopeValues.panning-scaled
 
 -- 24.

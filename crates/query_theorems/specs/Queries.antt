@@ -15,17 +15,17 @@ use Rattle.numbers.specs.Numbers.{number16, number32, partOf}
 use Rattle.layout.specs.Chunks.{SONG, INST, PATT, SMPL, VENV, PENV}
 use Rattle.layout.specs.declared.Layout.{Layout}
 use Rattle.layout.specs.declared.Outline.the-variants.{Found as Opened}
+use Rattle.blocks.specs.StoredFields.{packedBytes, sampleFrames}
 use Rattle.blocks.specs.Sizes.{sizeOf}
 use Rattle.blocks.specs.Filling.{dataEnd}
 use Rattle.blocks.specs.Things.{kindOf, chunkOf}
 use Rattle.blocks.specs.declared.Thing.{Thing}
 use Rattle.blocks.specs.declared.Thing.the-variants.{Song, Instrument, Pattern, Sample, VolumeEnvelope, PanningEnvelope}
-use Rattle.module.specs.Streams.{packedBytes}
 use Rattle.module.specs.Verdicts.{opened}
 use Rattle.queries.specs.declared.Block.{Block}
 use Rattle.envelopes.specs.Shown.{envelopeAnswer}
 use Rattle.envelopes.specs.declared.EnvelopeKind.{EnvelopeKind}
-use Rattle.samples.specs.Shown.{frameBytes, frameCount, framesPart}
+use Rattle.samples.specs.Shown.{frameBytes, framesPart}
 use Rattle.acceptance.specs.Places.{HeaderAt}
 
 -- The identifier of the chunk that holds a thing.
@@ -55,8 +55,8 @@ pub record InChunk (m : List ℕ) (thing : Thing) (at : ℕ) : Type 0 where
 pub record FramesIn (m : List ℕ) (sample at : ℕ) : Type 0 where
   pub chunk : InChunk m Sample at
   pub width : (frameBytes m at ≡ 1) ⊎ ((frameBytes m at ≡ 2) ⊎ (frameBytes m at ≡ 4))
-  pub bytes : framesPart m sample ≡ partOf m (at + 8) (frameCount m at * frameBytes m at)
-  pub size : length (framesPart m sample) ≡ frameCount m at * frameBytes m at
+  pub bytes : framesPart m sample ≡ partOf m (at + 8) (sampleFrames m at * frameBytes m at)
+  pub size : length (framesPart m sample) ≡ sampleFrames m at * frameBytes m at
   pub inside : at + 8 + length (framesPart m sample) ≤ dataEnd (chunk .layout .places .smpl)
 
 -- Q10: the pattern whose block this is has this row and this track. Rows are counted from 0, tracks from 1.

@@ -10,11 +10,11 @@ use Rattle.vocabulary.specs.Lists.{joined, Every}
 use Rattle.vocabulary.proofs.EveryOne.{every-of}
 use Rattle.refusal.specs.Numbers.{refusal}
 use Rattle.refusal.specs.declared.Cause.the-variants.{Room}
-use Rattle.numbers.specs.Numbers.{number16}
 use Rattle.layout.specs.declared.Place.{Place}
 use Rattle.layout.specs.declared.Layout.{Layout}
 use Rattle.layout.specs.declared.Outline.{Outline}
 use Rattle.layout.specs.declared.Outline.the-variants.{Found}
+use Rattle.blocks.specs.StoredFields.{envelopeValue}
 use Rattle.blocks.specs.Sizes.{sizeOf, placesFrom, blockAt, blocksOf}
 use Rattle.blocks.specs.declared.Kind.{Kind}
 use Rattle.blocks.specs.Things.{kindOf, chunkOf, countOf}
@@ -35,7 +35,7 @@ use Rattle.records.proofs.RecordLengths.{summary-length, song-length, i
 -- An envelope of panning whose rules hold.
 panning-fits : (m : List ℕ) (instruments version at : ℕ) → AllHold (envelopeRules m instruments (eqb version 3) at) → ValuesFit m version PanningEnvelope at
 panning-fits m instruments version at hold point h two =
-    leb-true (number16 m (at + 10 + 4 * point)) 64 (rw two at (value-fits m instruments (eqb version 3) at hold point h))
+    leb-true (envelopeValue m at point) 64 (rw two at (value-fits m instruments (eqb version 3) at hold point h))
 
 module _ (m : List ℕ) (l : Layout) (o : opened m ≡ Found l) where
   opens : Opens m l

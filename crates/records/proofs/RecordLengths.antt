@@ -7,9 +7,10 @@ use native.Mathlib.Omega.{arith}
 use native.Mathlib.Nat.{suc-mul}
 use lib.ListN.{length, replicate, length-append}
 use Rattle.vocabulary.specs.Lists.{joined}
-use Rattle.numbers.specs.Numbers.{byteAt, number16, bytesFrom}
+use Rattle.numbers.specs.Numbers.{byteAt, bytesFrom}
 use Rattle.numbers.proofs.Each.{each-length}
 use Rattle.layout.specs.declared.Layout.{Layout}
+use Rattle.blocks.specs.StoredFields.{songLength}
 use Rattle.blocks.specs.Sizes.{sizeOf, placesFrom, placeAfter}
 use Rattle.blocks.specs.declared.Kind.the-variants.{Song as SongKind}
 use Rattle.blocks.specs.declared.Thing.the-variants.{Song, Instrument, Pattern, Sample, VolumeEnvelope, PanningEnvelope}
@@ -30,7 +31,7 @@ summary-length m l = omega (arith, length-append (nameOf m l) (infoRecord (shown
 module _ (m : List ℕ) (version at : ℕ) where
   pub song-length : length (recordAt m version Song at) ≡ sizeOf SongKind m at
   unfolding recordAt sizeOf
-  song-length = omega (arith, each-length (byteAt m) (2 * number16 m (at + 44)) (at + 46))
+  song-length = omega (arith, each-length (byteAt m) (2 * songLength m at) (at + 46))
 
   pub instrument-length : length (recordAt m version Instrument at) ≡ 50
   unfolding recordAt

@@ -8,6 +8,9 @@ use lib.IntN.{ℤ}
 use Rattle.vocabulary.specs.Lists.{joined}
 use Rattle.numbers.specs.Numbers.{byteAt, Bytes, number16, number32, signed16, eachFrom, bytesFrom, bytes16, bytes32, unsigned16}
 use Rattle.numbers.proofs.Stored.{number16-stored, number32-stored}
+use Rattle.blocks.specs.StoredFields.{songLength, instrumentSample, instrumentVolume, instrumentRate, instrumentLoopStart}
+use Rattle.blocks.specs.StoredFields.{instrumentLoopLength, instrumentPanning, envelopeFlags, envelopeSections, envelopeFirstSustain}
+use Rattle.blocks.specs.StoredFields.{envelopeLoopFirst, envelopeLoopLast, envelopeSecondSustain}
 use Rattle.blocks.specs.Sizes.{placesFrom}
 use Rattle.songs.specs.Shown.{shownSong, playlistBytes}
 use Rattle.instruments.specs.Shown.{shownInstrument}
@@ -50,9 +53,9 @@ module _ (m : List ℕ) (bytes : Bytes m) where
   next32 : (k at to : ℕ) → at + 4 ≡ to → bytesFrom m at (4 + k) ≡ bytes32 (number32 m at) ++ bytesFrom m to k
   next32 k at to e = bytes-split m 4 k at to e ∙ ap (λ (l : List ℕ). l ++ bytesFrom m to k) (four-bytes at)
 
-  pub song-stored : (at : ℕ) → bytesFrom m at (46 + 2 * number16 m (at + 44)) ≡ songRecord (shownSong m at) (playlistBytes m at)
+  pub song-stored : (at : ℕ) → bytesFrom m at (46 + 2 * songLength m at) ≡ songRecord (shownSong m at) (playlistBytes m at)
   song-stored at =
-      let n = 2 * number16 m (at + 44) in
+      let n = 2 * songLength m at in
       let same : 46 + n ≡ 44 + (2 + n) = omega arith in
       ap (bytesFrom m at) same
       ∙ bytes-split m 44 (2 + n) at (at + 44) refl
@@ -62,16 +65,16 @@ module _ (m : List ℕ) (bytes : Bytes m) where
   instrument-stored at =
       bytes-split m 30 20 at (at + 30) refl
       ∙ ap (λ (rest : List ℕ). bytesFrom m at 30 ++ rest) (next16 18 (at + 30) (at + 32) (omega arith)
-      ∙ ap (λ (rest : List ℕ). bytes16 (number16 m (at + 30)) ++ rest) (next16 16 (at + 32) (at + 34) (omega arith)
-      ∙ ap (λ (rest : List ℕ). bytes16 (number16 m (at + 32)) ++ rest) (next32 12 (at + 34) (at + 38) (omega arith)
-      ∙ ap (λ (rest : List ℕ). bytes32 (number32 m (at + 34)) ++ rest) (next32 8 (at + 38) (at + 42) (omega arith)
-      ∙ ap (λ (rest : List ℕ). bytes32 (number32 m (at + 38)) ++ rest) (next32 4 (at + 42) (at + 46) (omega arith)
-      ∙ ap (λ (rest : List ℕ). bytes32 (number32 m (at + 42)) ++ rest) (next16 2 (at + 46) (at + 48) (omega arith)
-      ∙ ap (λ (v : ℕ). bytes16 v ++ bytesFrom m (at + 48) 2) (sym (stored-again (number16 m (at + 46)) (number16-small (at + 46))))
-      ∙ ap (λ (rest : List ℕ). bytes16 (unsigned16 (signed16 (number16 m (at + 46)))) ++ rest) (two-bytes (at + 48))))))))
+      ∙ ap (λ (rest : List ℕ). bytes16 (instrumentSample m at) ++ rest) (next16 16 (at + 32) (at + 34) (omega arith)
+      ∙ ap (λ (rest : List ℕ). bytes16 (instrumentVolume m at) ++ rest) (next32 12 (at + 34) (at + 38) (omega arith)
+      ∙ ap (λ (rest : List ℕ). bytes32 (instrumentRate m at) ++ rest) (next32 8 (at + 38) (at + 42) (omega arith)
+      ∙ ap (λ (rest : List ℕ). bytes32 (instrumentLoopStart m at) ++ rest) (next32 4 (at + 42) (at + 46) (omega arith)
+      ∙ ap (λ (rest : List ℕ). bytes32 (instrumentLoopLength m at) ++ rest) (next16 2 (at + 46) (at + 48) (omega arith)
+      ∙ ap (λ (v : ℕ). bytes16 v ++ bytesFrom m (at + 48) 2) (sym (stored-again (instrumentPanning m at) (number16-small (at + 46))))
+      ∙ ap (λ (rest : List ℕ). bytes16 (unsigned16 (signed16 (instrumentPanning m at))) ++ rest) (two-bytes (at + 48))))))))
 
   -- What stands before the points of an envelope.
-  head-stored : (at : ℕ) → bytesFrom m at 8 ≡ bytes16 (number16 m at) ++ (byteAt m (at + 2) ∷ byteAt m (at + 3) ∷ byteAt m (at + 4) ∷ byteAt m (at + 5) ∷ byteAt m (at + 6) ∷ byteAt m (at + 7) ∷ [])
+  head-stored : (at : ℕ) → bytesFrom m at 8 ≡ bytes16 (number16 m at) ++ (envelopeFlags m at ∷ envelopeSections m at ∷ envelopeFirstSustain m at ∷ envelopeLoopFirst m at ∷ envelopeLoopLast m at ∷ envelopeSecondSustain m at ∷ [])
   head-stored at =
       let e3 : at + 2 + 1 ≡ at + 3 = omega arith in
       let e4 : at + 3 + 1 ≡ at + 4 = omega arith in
@@ -82,7 +85,7 @@ module _ (m : List ℕ) (bytes : Bytes m) where
 
   envelope-joined : (kind : EnvelopeKind) (version at : ℕ) → envelopeRecord (shownEnvelope m kind version at) ≡ bytesFrom m at 8 ++ pointsFrom m kind version at 32 0
   envelope-joined kind version at =
-      ap (λ (points : List ℕ). bytes16 (number16 m at) ++ (byteAt m (at + 2) ∷ byteAt m (at + 3) ∷ byteAt m (at + 4) ∷ byteAt m (at + 5) ∷ byteAt m (at + 6) ∷ byteAt m (at + 7) ∷ points)) (points-joined (positionShown m at (byteAt m (at + 3))) (valueShown m kind version at (byteAt m (at + 3))) 32 0)
+      ap (λ (points : List ℕ). bytes16 (number16 m at) ++ (envelopeFlags m at ∷ envelopeSections m at ∷ envelopeFirstSustain m at ∷ envelopeLoopFirst m at ∷ envelopeLoopLast m at ∷ envelopeSecondSustain m at ∷ points)) (points-joined (positionShown m at (envelopeSections m at)) (valueShown m kind version at (envelopeSections m at)) 32 0)
       ∙ ap (λ (head : List ℕ). head ++ pointsFrom m kind version at 32 0) (sym (head-stored at))
 
   -- The record of an envelope: what stands before the points, and the points.

@@ -10,6 +10,7 @@ use Rattle.numbers.specs.Numbers.{Bytes, number16, eachFrom, bytesFrom, bytes16
 use Rattle.layout.specs.declared.Layout.{Layout}
 use Rattle.layout.specs.declared.Outline.{Outline}
 use Rattle.layout.specs.declared.Outline.the-variants.{Found as Opened}
+use Rattle.blocks.specs.StoredFields.{songLength, songEntry}
 use Rattle.blocks.specs.declared.Thing.the-variants.{Song, Instrument, Pattern, Sample, VolumeEnvelope, PanningEnvelope}
 use Rattle.module.specs.Verdicts.{opened}
 use Rattle.queries.specs.declared.Found.{Found}
@@ -38,9 +39,9 @@ numbers-told m bytes f (suc n) k at h =
     ∙ ap (bytesFrom m at) more
 
 -- A playlist, entry by entry.
-playlist-told : (m : List ℕ) → Bytes m → (at : ℕ) → joined (eachFrom (λ (entry : ℕ). bytes16 (entryIn m at entry .pattern)) 0 (number16 m (at + 44))) ≡ playlistBytes m at
+playlist-told : (m : List ℕ) → Bytes m → (at : ℕ) → joined (eachFrom (λ (entry : ℕ). bytes16 (entryIn m at entry .pattern)) 0 (songLength m at)) ≡ playlistBytes m at
 playlist-told m bytes at =
-    numbers-told m bytes (λ (entry : ℕ). entryIn m at entry .pattern) (number16 m (at + 44)) 0 (at + 46) (λ i h. simp (lt-ltb (0 + i) (number16 m (at + 44)) (omega arith)) (ap (λ (k : ℕ). number16 m (at + 46 + 2 * k)) (omega arith)))
+    numbers-told m bytes (λ (entry : ℕ). entryIn m at entry .pattern) (songLength m at) 0 (at + 46) (λ i h. simp (lt-ltb (0 + i) (songLength m at) (omega arith)) (ap (λ (k : ℕ). songEntry m at k) (omega arith)))
 
 -- Lists that are the same, one behind the other.
 pub same-joint : {a b c d e f g a′ b′ c′ d′ e′ f′ g′ : List ℕ} → a ≡ a′ → b ≡ b′ → c ≡ c′ → d ≡ d′ → e ≡ e′ → f ≡ f′ → g ≡ g′ → a ++ (b ++ (c ++ (d ++ (e ++ (f ++ g))))) ≡ a′ ++ (b′ ++ (c′ ++ (d′ ++ (e′ ++ (f′ ++ g′)))))

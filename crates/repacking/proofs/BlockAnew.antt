@@ -10,9 +10,10 @@ use Rattle.vocabulary.specs.Lists.{joined, Every, none, also}
 use Rattle.refusal.specs.declared.Verdict.the-variants.{Accepted}
 use Rattle.packed_rows.specs.Packer.{packedStream}
 use Rattle.numbers.specs.Numbers.{number16, number32, partOf, bytes32}
+use Rattle.blocks.specs.StoredFields.{packedBytes}
 use Rattle.blocks.specs.Sizes.{sizeOf, placesFrom}
 use Rattle.blocks.specs.declared.Kind.the-variants.{Pattern}
-use Rattle.module.specs.Streams.{packedBytes, streamVerdict}
+use Rattle.module.specs.Streams.{streamVerdict}
 use Rattle.acceptance.proofs.Locating.{number16-front, number16-take, PartAt, number16-start, part-is, part-length, part-there, bytes32-number}
 use Rattle.acceptance.proofs.Cutting.{Sized, sized-least, part-first, part-rest, part-front, part-size}
 use Rattle.acceptance.proofs.BlockStreams.{stream-same}

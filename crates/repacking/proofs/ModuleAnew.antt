@@ -18,9 +18,10 @@ use Rattle.numbers.proofs.AllBytes.{bytes-append, bytes-front, bytes-behind, by
 use Rattle.layout.specs.Chunks.{PATT}
 use Rattle.layout.specs.declared.Layout.{Layout}
 use Rattle.layout.specs.declared.Outline.the-variants.{Found}
+use Rattle.blocks.specs.StoredFields.{packedBytes}
 use Rattle.blocks.specs.Sizes.{sizeOf, placesFrom}
 use Rattle.blocks.specs.declared.Kind.the-variants.{Pattern}
-use Rattle.module.specs.Streams.{packedBytes, patternStreamRules, streamVerdict}
+use Rattle.module.specs.Streams.{patternStreamRules, streamVerdict}
 use Rattle.module.specs.Verdicts.{opened, verdictOf}
 use Rattle.acceptance.specs.Rules.{ChunkBytes, Among, Covered, ChunkRules, Filled, PatternRules, Rules}
 use Rattle.acceptance.proofs.Standing.{LayoutOf}

@@ -16,10 +16,10 @@ use Rattle.numbers.proofs.AllBytes.{bytes-drop, bytes32-bytes}
 use Rattle.layout.specs.Chunks.{PATT}
 use Rattle.layout.specs.declared.Layout.{Layout}
 use Rattle.layout.specs.declared.Outline.the-variants.{Found}
+use Rattle.blocks.specs.StoredFields.{patternPackedLength, packedBytes}
 use Rattle.blocks.specs.Sizes.{sizeOf, placeAfter}
 use Rattle.blocks.specs.declared.Kind.the-variants.{Pattern as PatternKind}
 use Rattle.blocks.specs.declared.Thing.the-variants.{Pattern}
-use Rattle.module.specs.Streams.{packedBytes}
 use Rattle.module.specs.Verdicts.{opened}
 use Rattle.queries.specs.Finding.{found, blockOf}
 use Rattle.queries.specs.declared.Block.{Block}
@@ -59,7 +59,7 @@ module _ {m block : List ℕ} {at : ℕ} (tracks : ℕ) (p : PartAt m at block) 
   least : 6 ≤ length block
   least = sized-least PatternKind block s
 
-  length-same : number32 m (at + 2) ≡ number32 block 2
+  length-same : patternPackedLength m at ≡ number32 block 2
   length-same = number32-at p 2 (omega (arith, least))
 
   stream-same : repackedStream m tracks at ≡ repackedStream block tracks 0

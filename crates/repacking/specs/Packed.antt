@@ -3,15 +3,15 @@ use Prim.Native.Nat.{ℕ, _+_, _%_}
 use mathlib.Core.Path.{_≡_}
 use mathlib.Core.List.{List}
 use lib.ListN.{replicate}
-use Rattle.numbers.specs.Numbers.{number32, partOf}
-use Rattle.module.specs.Streams.{packedBytes}
+use Rattle.numbers.specs.Numbers.{partOf}
+use Rattle.blocks.specs.StoredFields.{patternPackedLength, packedBytes}
 use Rattle.repack.specs.Repacked.{repackedStream}
 
 -- The filler of the pattern at a place: the byte behind its packed bytes where their number is odd, else nothing.
 abbrev pub fillerOf : List ℕ → ℕ → List ℕ
-fillerOf m at = partOf m (at + 6 + number32 m (at + 2)) (number32 m (at + 2) % 2)
+fillerOf m at = partOf m (at + 6 + patternPackedLength m at) (patternPackedLength m at % 2)
 
 -- The stream of the pattern at a place is the packer's, and its filler, where there is one, is 0.
 pub record PackedAt (m : List ℕ) (tracks at : ℕ) : Type 0 where
   pub stream : packedBytes m at ≡ repackedStream m tracks at
-  pub filler : fillerOf m at ≡ replicate (number32 m (at + 2) % 2) 0
+  pub filler : fillerOf m at ≡ replicate (patternPackedLength m at % 2) 0

@@ -23,19 +23,16 @@ use Rattle.samples.specs.declared.SampleAnswer.{SampleAnswer}
 use Rattle.samples.specs.declared.FramesAnswer.{FramesAnswer}
 use Rattle.samples.specs.declared.FrameAnswer.{FrameAnswer}
 
--- B5: the bytes of a frame, by the flags; and how many frames there are.
+-- B5: the bytes of a frame, by the flags.
 abbrev pub frameBytes : List ℕ → ℕ → ℕ
 frameBytes m at = widthOf (sampleFlags m at)
-
-abbrev pub frameCount : List ℕ → ℕ → ℕ
-frameCount m at = sampleFrames m at
 
 abbrev pub noSample : Refusal → SampleAnswer
 noSample r = record { outcome = refusedOutcome r; width = 0; frames = 0 }
 
 -- Q11: the bits of a frame, and how many frames there are.
 abbrev pub shownSample : List ℕ → ℕ → SampleAnswer
-shownSample m at = record { outcome = noRefusal; width = 8 * frameBytes m at; frames = frameCount m at }
+shownSample m at = record { outcome = noRefusal; width = 8 * frameBytes m at; frames = sampleFrames m at }
 
 abbrev pub sampleIf : List ℕ → Found → SampleAnswer
 sampleIf m (At b) = shownSample m (b .at)
@@ -50,7 +47,7 @@ noFrames r = record { outcome = refusedOutcome r; offset = 0; length = 0 }
 
 -- B5, Q12: the frames stand behind flags and number.
 abbrev pub shownFrames : List ℕ → ℕ → FramesAnswer
-shownFrames m at = record { outcome = noRefusal; offset = at + 8; length = frameCount m at * frameBytes m at }
+shownFrames m at = record { outcome = noRefusal; offset = at + 8; length = sampleFrames m at * frameBytes m at }
 
 abbrev pub framesIf : List ℕ → Found → FramesAnswer
 framesIf m (At b) = shownFrames m (b .at)
@@ -86,7 +83,7 @@ noFrame r = record { outcome = refusedOutcome r; frame = pos 0 }
 -- 18 past the last frame.
 abbrev pub frameIn : List ℕ → ℕ → ℕ → FrameAnswer
 frameIn m at frame =
-    cond (ltb frame (frameCount m at))
+    cond (ltb frame (sampleFrames m at))
     (record { outcome = noRefusal; frame = frameOf m at frame })
     (noFrame (refusal NotThere 0))
 
@@ -100,11 +97,11 @@ frameAnswer m sample frame = frameIf m frame (found m Sample sample)
 
 -- Q13: all frames of the sample at a place at 16 bits, 2 bytes each.
 abbrev pub allFrames : List ℕ → ℕ → List ℕ
-allFrames m at = joined (eachFrom (λ frame. bytes16 (unsigned16 (frameOf m at frame))) 0 (frameCount m at))
+allFrames m at = joined (eachFrom (λ frame. bytes16 (unsigned16 (frameOf m at frame))) 0 (sampleFrames m at))
 
 -- 17, else the length: 2 bytes for each frame.
 abbrev pub allFramesIn : List ℕ → ℕ → ℕ → LengthAnswer
-allFramesIn m at room = lengthIf (2 * frameCount m at) room
+allFramesIn m at room = lengthIf (2 * sampleFrames m at) room
 
 abbrev pub allFramesOutputIn : List ℕ → ℕ → List ℕ → List ℕ
 allFramesOutputIn m at out = outputIf (allFramesIn m at (length out)) (allFrames m at) out

@@ -11,12 +11,12 @@ use Rattle.packed_rows.specs.Answers.{checkAnswer}
 use Rattle.numbers.specs.Numbers.{number16}
 use Rattle.layout.specs.declared.Layout.{Layout}
 use Rattle.layout.specs.declared.Outline.the-variants.{Found as Opened}
+use Rattle.blocks.specs.StoredFields.{packedBytes}
 use Rattle.blocks.specs.Sizes.{envelopeCount}
 use Rattle.blocks.specs.declared.Kind.{Kind}
 use Rattle.blocks.specs.Things.{kindOf}
 use Rattle.blocks.specs.declared.Thing.{Thing}
 use Rattle.blocks.specs.declared.Thing.the-variants.{Song, Instrument, Pattern, Sample, VolumeEnvelope, PanningEnvelope}
-use Rattle.module.specs.Streams.{packedBytes}
 use Rattle.module.specs.Verdicts.{opened}
 use Rattle.queries.specs.Finding.{found}
 use Rattle.queries.specs.declared.Block.{Block}

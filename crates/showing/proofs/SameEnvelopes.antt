@@ -7,7 +7,8 @@ use native.Mathlib.Omega.{arith}
 use native.Mathlib.Nat.{add-assoc}
 use lib.Dec.{leb}
 use lib.IntN.{pos}
-use Rattle.numbers.specs.Numbers.{byteAt, number16, eachFrom}
+use Rattle.numbers.specs.Numbers.{number16, eachFrom}
+use Rattle.blocks.specs.StoredFields.{envelopeSections}
 use Rattle.blocks.specs.Sizes.{sizeOf}
 use Rattle.blocks.specs.declared.Kind.the-variants.{Envelope}
 use Rattle.envelopes.specs.Shown.{thingOf, valueOf, shownEnvelope, envelopeIf, envelopeAnswer, countIf, countAnswer}
@@ -30,7 +31,7 @@ module _ {m n : List ℕ} {at to : ℕ} (s : SameBlock Envelope m n at to) where
   pub envelope-same : (kind : EnvelopeKind) {version other : ℕ} → other ≡ version → shownEnvelope n kind other to ≡ shownEnvelope m kind version at
   unfolding sizeOf
   envelope-same kind {version} v =
-      rw (v, same-first16 s (omega arith), same-byte s 2 (omega arith), same-byte s 3 (omega arith), same-byte s 4 (omega arith), same-byte s 5 (omega arith), same-byte s 6 (omega arith), same-byte s 7 (omega arith), points-same (λ v. v) 0 8 (byteAt m (at + 3)) (omega arith), points-same (valueOf kind version) (pos 0) 10 (byteAt m (at + 3)) (omega arith))
+      rw (v, same-first16 s (omega arith), same-byte s 2 (omega arith), same-byte s 3 (omega arith), same-byte s 4 (omega arith), same-byte s 5 (omega arith), same-byte s 6 (omega arith), same-byte s 7 (omega arith), points-same (λ v. v) 0 8 (envelopeSections m at) (omega arith), points-same (valueOf kind version) (pos 0) 10 (envelopeSections m at) (omega arith))
 
 -- An envelope of either kind is the same by its block.
 envelope-block : (kind : EnvelopeKind) (tracks : ℕ) {m n : List ℕ} {at to : ℕ} → SameThing (thingOf kind) tracks m n at to → SameBlock Envelope m n at to

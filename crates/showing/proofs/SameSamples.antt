@@ -11,10 +11,11 @@ use lib.IntN.{ℤ}
 use borrow.Author.Tests.{ltb-true}
 use Rattle.vocabulary.specs.Lists.{joined}
 use Rattle.numbers.specs.Numbers.{number32, partOf, bytes16, unsigned16}
+use Rattle.blocks.specs.StoredFields.{sampleFrames}
 use Rattle.blocks.specs.Sizes.{sizeOf}
 use Rattle.blocks.specs.declared.Kind.the-variants.{Sample as SampleKind}
 use Rattle.blocks.specs.declared.Thing.the-variants.{Sample}
-use Rattle.samples.specs.Shown.{frameBytes, frameCount, shownSample, sampleIf, sampleAnswer, framesIf, frame16, frameOf, frameIn, frameIf, frameAnswer, allFrames, allFramesIf, allFramesAnswer, allFramesOutputIn, allFramesOutputIf, allFramesOutput}
+use Rattle.samples.specs.Shown.{frameBytes, shownSample, sampleIf, sampleAnswer, framesIf, frame16, frameOf, frameIn, frameIf, frameAnswer, allFrames, allFramesIf, allFramesAnswer, allFramesOutputIn, allFramesOutputIf, allFramesOutput}
 use Rattle.query_theorems.proofs.SampleFrames.{frames-in}
 use Rattle.showing.specs.Showing.{SameFrames}
 use Rattle.showing.proofs.Alike.{SameBlock, Alike}
@@ -26,7 +27,7 @@ module _ {m n : List ℕ} {at to : ℕ} (s : SameBlock SampleKind m n at to) whe
   unfolding sizeOf
   flags-same = same-first32 s (omega arith)
 
-  count-same : frameCount n to ≡ frameCount m at
+  count-same : sampleFrames n to ≡ sampleFrames m at
   unfolding sizeOf
   count-same = same-32 s 4 (omega arith)
 
@@ -34,9 +35,9 @@ module _ {m n : List ℕ} {at to : ℕ} (s : SameBlock SampleKind m n at to) whe
   sample-same = rw (flags-same, count-same)
 
   -- The part that is handed out.
-  part-same : partOf n (to + 8) (frameCount n to * frameBytes n to) ≡ partOf m (at + 8) (frameCount m at * frameBytes m at)
+  part-same : partOf n (to + 8) (sampleFrames n to * frameBytes n to) ≡ partOf m (at + 8) (sampleFrames m at * frameBytes m at)
   unfolding sizeOf
-  part-same = rw (count-same, flags-same) (same-part s 8 (frameCount m at * frameBytes m at) (omega arith))
+  part-same = rw (count-same, flags-same) (same-part s 8 (sampleFrames m at * frameBytes m at) (omega arith))
 
   -- A frame of 1, 2 or 4 bytes within the block.
   frame16-same : (bytes k : ℕ) → (bytes ≡ 1) ⊎ ((bytes ≡ 2) ⊎ (bytes ≡ 4)) → k + bytes ≤ sizeOf SampleKind m at → frame16 n bytes (to + k) ≡ frame16 m bytes (at + k)
@@ -45,16 +46,16 @@ module _ {m n : List ℕ} {at to : ℕ} (s : SameBlock SampleKind m n at to) whe
   frame16-same bytes k (inr (inr e)) h = rw e (rw (same-32 s k (omega arith)))
 
   module _ (width : (frameBytes m at ≡ 1) ⊎ ((frameBytes m at ≡ 2) ⊎ (frameBytes m at ≡ 4))) where
-    frameOf-same : (frame : ℕ) → frame < frameCount m at → frameOf n to frame ≡ frameOf m at frame
+    frameOf-same : (frame : ℕ) → frame < sampleFrames m at → frameOf n to frame ≡ frameOf m at frame
     unfolding sizeOf
     frameOf-same frame h =
         rw flags-same (simp add-assoc (frame16-same (frameBytes m at) (8 + frame * frameBytes m at) width (omega (arith, mul-le-mul-right (frameBytes m at) h))))
 
     frame-same : (frame : ℕ) → frameIn n to frame ≡ frameIn m at frame
-    frame-same frame = rw count-same (same-if (ltb frame (frameCount m at)) _ (λ h. rw (frameOf-same frame (ltb-true frame _ h))))
+    frame-same frame = rw count-same (same-if (ltb frame (sampleFrames m at)) _ (λ h. rw (frameOf-same frame (ltb-true frame _ h))))
 
     allFrames-same : allFrames n to ≡ allFrames m at
-    allFrames-same = rw count-same (ap joined (each-same (λ frame. bytes16 (unsigned16 (frameOf n to frame))) (λ frame. bytes16 (unsigned16 (frameOf m at frame))) (frameCount m at) 0 0 (λ i h. ap (λ (z : ℤ). bytes16 (unsigned16 z)) (frameOf-same (0 + i) (omega arith)))))
+    allFrames-same = rw count-same (ap joined (each-same (λ frame. bytes16 (unsigned16 (frameOf n to frame))) (λ frame. bytes16 (unsigned16 (frameOf m at frame))) (sampleFrames m at) 0 0 (λ i h. ap (λ (z : ℤ). bytes16 (unsigned16 z)) (frameOf-same (0 + i) (omega arith)))))
 
     output-same : (out : List ℕ) → allFramesOutputIn n to out ≡ allFramesOutputIn m at out
     output-same out = rw (allFrames-same, count-same)

@@ -6,7 +6,7 @@ use native.Mathlib.Omega.{arith}
 use native.Mathlib.Nat.{add-assoc}
 use lib.Dec.{ltb}
 use borrow.Author.Tests.{ltb-true}
-use Rattle.numbers.specs.Numbers.{number16}
+use Rattle.blocks.specs.StoredFields.{songLength, songEntry}
 use Rattle.blocks.specs.Sizes.{sizeOf}
 use Rattle.blocks.specs.declared.Kind.the-variants.{Song as SongKind}
 use Rattle.blocks.specs.declared.Thing.the-variants.{Song}
@@ -16,7 +16,7 @@ use Rattle.showing.proofs.SameBytes.{same-if, same-16, same-front, same
 use Rattle.showing.proofs.AlikeAnswers.{by-finding}
 
 module _ {m n : List ℕ} {at to : ℕ} (s : SameBlock SongKind m n at to) where
-  length-same : number16 n (to + 44) ≡ number16 m (at + 44)
+  length-same : songLength n to ≡ songLength m at
   unfolding sizeOf
   length-same = same-16 s 44 (omega arith)
 
@@ -24,16 +24,16 @@ module _ {m n : List ℕ} {at to : ℕ} (s : SameBlock SongKind m n at to) where
   unfolding sizeOf
   song-same = rw (same-front s 44 (omega arith), length-same)
 
-  pattern-same : (entry : ℕ) → entry < number16 m (at + 44) → number16 n (to + 46 + 2 * entry) ≡ number16 m (at + 46 + 2 * entry)
+  pattern-same : (entry : ℕ) → entry < songLength m at → songEntry n to entry ≡ songEntry m at entry
   unfolding sizeOf
   pattern-same entry h = simp add-assoc (same-16 s (46 + 2 * entry) (omega arith))
 
   entry-same : (entry : ℕ) → entryIn n to entry ≡ entryIn m at entry
-  entry-same entry = rw length-same (same-if (ltb entry (number16 m (at + 44))) _ (λ h. rw (pattern-same entry (ltb-true entry _ h))))
+  entry-same entry = rw length-same (same-if (ltb entry (songLength m at)) _ (λ h. rw (pattern-same entry (ltb-true entry _ h))))
 
   pub playlist-same : playlistBytes n to ≡ playlistBytes m at
   unfolding sizeOf
-  playlist-same = rw length-same (same-bytes s 46 (2 * number16 m (at + 44)) (omega arith))
+  playlist-same = rw length-same (same-bytes s 46 (2 * songLength m at) (omega arith))
 
   output-same : (out : List ℕ) → playlistOutputIn n to out ≡ playlistOutputIn m at out
   output-same out = rw (playlist-same, length-same)
