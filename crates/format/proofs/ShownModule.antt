@@ -3,9 +3,9 @@ use Prim.Native.Nat.{ℕ, _+_, _-_}
 use mathlib.Core.Path.{_≡_, refl, sym, ap, subst, _∙_}
 use mathlib.Core.Logic.{inl, inr}
 use mathlib.Core.List.{List, _++_, map}
-use mathlib.Core.Bool.{Bool, true, false, cond, _&&_}
+use mathlib.Core.Bool.{Bool, true, false, cond}
 use lib.ListN.{length, replicate}
-use lib.Dec.{leb, ltb}
+use Rattle.queries.specs.Finding.{answerFound, outputFound}
 use Rattle.refusal.specs.Numbers.{noRefusal}
 use Rattle.vocabulary.specs.Letters.{nameLetters}
 use Rattle.packed_rows.specs.Answers.{cellOf, unpackAnswer as streamAnswer, unpackOutput as streamOutput}
@@ -17,13 +17,13 @@ use Rattle.blocks.specs.StoredFields.{packedBytes}
 use Rattle.module.specs.Verdicts.{opened}
 use Rattle.refusal.specs.Lengths.{refusedLength}
 use Rattle.summary.specs.Shown.{versionIf, versionAnswer, nameIf, nameAnswer, infoIf, infoAnswer}
-use Rattle.songs.specs.Shown.{songIf, entryIf, playlistIf, playlistOutputIf}
+use Rattle.songs.specs.Shown.{songIf, entryIf, playlistSize, playlistBytes}
 use Rattle.instruments.specs.Shown.{instrumentIf}
 use Rattle.envelopes.specs.Shown.{thingOf, countIf, countAnswer, noEnvelope, shownEnvelope, envelopeIf, envelopeAnswer}
 use Rattle.envelopes.specs.declared.EnvelopeKind.{EnvelopeKind}
 use Rattle.envelopes.specs.declared.EnvelopeKind.the-variants.{Volume, Panning}
 use Rattle.patterns.specs.Shown.{lengthOf, rowsIf, cellIf, cellAnswer, unpackIf, unpackAnswer, unpackOutputIf, unpackOutput}
-use Rattle.samples.specs.Shown.{sampleIf, framesIf, frameIf, allFramesIf, allFramesOutputIf}
+use Rattle.samples.specs.Shown.{sampleIf, framesIf, frameIf, allFramesSize, allFrames}
 use Rattle.acceptance.proofs.Standing.{LayoutOf}
 use Rattle.acceptance.proofs.Locating.{PartAt}
 use Rattle.acceptance.proofs.Cutting.{part-rest}
@@ -123,8 +123,8 @@ module _ (d : Description) (w : WellFormed d) {l : Layout} (opens : opened (enco
     info = info-shown;
     song = λ songs i. by-number opens (songs-listed d w layout songs i) (songIf (encoded d)) songRecord emptySong (λ x f at p. song-shown x f p);
     entry = λ songs i number entry. by-number opens (songs-listed d w layout songs i) (entryIf (encoded d) entry) (entryRecord entry) emptySong (λ x f at p. entry-shown x f p entry) number;
-    playlist = λ songs i number room. by-number opens (songs-listed d w layout songs i) (playlistIf (encoded d) room) (playlistLength room) emptySong (λ x f at p. playlist-shown x f p room) number;
-    playlistOut = λ songs i number out. by-number opens (songs-listed d w layout songs i) (playlistOutputIf (encoded d) out) (playlistWritten out) emptySong (λ x f at p. playlist-written x f p out) number;
+    playlist = λ songs i number room. by-number opens (songs-listed d w layout songs i) (answerFound (playlistSize (encoded d)) room) (playlistLength room) emptySong (λ x f at p. playlist-shown x f p room) number;
+    playlistOut = λ songs i number out. by-number opens (songs-listed d w layout songs i) (outputFound (playlistSize (encoded d)) (playlistBytes (encoded d)) out) (playlistWritten out) emptySong (λ x f at p. playlist-written x f p out) number;
     instrument = λ instruments i. by-number opens (instruments-listed d w layout instruments i) (instrumentIf (encoded d)) instrumentRecord emptyInstrument (λ x f at p. instrument-shown x f p);
     envelopes = count-shown;
     envelope = envelope-at;
@@ -135,8 +135,8 @@ module _ (d : Description) (w : WellFormed d) {l : Layout} (opens : opened (enco
     sample = λ samples i. by-number opens (samples-listed d w layout samples i) (sampleIf (encoded d)) sampleRecord emptySample (λ x f at p. sample-shown x p);
     frames = frames-at;
     frame = λ samples i number frame. by-number opens (samples-listed d w layout samples i) (frameIf (encoded d) frame) (frameRecord frame) emptySample (λ x f at p. frame-shown x p frame) number;
-    allFrames = λ samples i number room. by-number opens (samples-listed d w layout samples i) (allFramesIf (encoded d) room) (framesLength room) emptySample (λ x f at p. all-frames-shown x p room) number;
-    allFramesOut = λ samples i number out. by-number opens (samples-listed d w layout samples i) (allFramesOutputIf (encoded d) out) (framesWritten out) emptySample (λ x f at p. all-frames-written x p out) number;
+    allFrames = λ samples i number room. by-number opens (samples-listed d w layout samples i) (answerFound (allFramesSize (encoded d)) room) (framesLength room) emptySample (λ x f at p. all-frames-shown x p room) number;
+    allFramesOut = λ samples i number out. by-number opens (samples-listed d w layout samples i) (outputFound (allFramesSize (encoded d)) (allFrames (encoded d)) out) (framesWritten out) emptySample (λ x f at p. all-frames-written x p out) number;
   }
 
 pub encoding-shows : (d : Description) → WellFormed d → Shows (encoded d) d

@@ -8,13 +8,14 @@ use lib.ListN.{length, getD}
 use lib.Dec.{ltb}
 use lib.IntN.{ℤ, pos, _*ℤ_}
 use borrow.Author.Tests.{ltb-true}
+use Rattle.refusal.specs.Lengths.{lengthIf, outputOf}
 use Rattle.vocabulary.specs.Lists.{joined}
 use Rattle.numbers.specs.Numbers.{byteAt, partOf, signedBy, signed16, bytes16, bytes32, unsigned16}
 use Rattle.numbers.proofs.Stored.{bytes16-again, bytes32-again}
 use Rattle.blocks.specs.StoredFields.{sampleFrames}
 use Rattle.blocks.specs.Sizes.{widthOf, sizeOf}
 use Rattle.blocks.specs.declared.Kind.the-variants.{Sample as SampleKind}
-use Rattle.samples.specs.Shown.{frameBytes as frameWidth, shownSample, dividedDown, frame16 as frame16At, frameOf, frameIn, allFrames, allFramesIn, allFramesOutputIn}
+use Rattle.samples.specs.Shown.{frameBytes as frameWidth, shownSample, dividedDown, frame16 as frame16At, frameOf, frameIn, allFrames, allFramesSize}
 use Rattle.acceptance.proofs.Locating.{PartAt, byteAt-start, number16-start, number32-start, number32-at, part-is}
 use Rattle.acceptance.proofs.Cutting.{Sized, part-rest}
 use Rattle.showing.proofs.SameBytes.{same-if}
@@ -79,8 +80,8 @@ module _ (s : Sample) where
         rw count (ap joined (each-listed (λ frame. bytes16 (unsigned16 (frameOf m at frame))) (λ f. bytes16 (unsigned16 (frame16 (s .width) f))) 0 (s .frames) 0
         (λ i h. ap (λ (z : ℤ). bytes16 (unsigned16 z)) (frame-of (0 + i) (omega arith) ∙ ap (λ (k : ℕ). frame16 (s .width) (getD (s .frames) k 0)) (omega arith)))))
 
-    pub all-frames-shown : (room : ℕ) → allFramesIn m at room ≡ framesLength room s
+    pub all-frames-shown : (room : ℕ) → lengthIf (allFramesSize m at) room ≡ framesLength room s
     all-frames-shown room = rw count
 
-    pub all-frames-written : (out : List ℕ) → allFramesOutputIn m at out ≡ framesWritten out s
+    pub all-frames-written : (out : List ℕ) → outputOf (allFramesSize m at) (allFrames m at) out ≡ framesWritten out s
     all-frames-written out = rw (all, count)

@@ -7,12 +7,13 @@ use native.Mathlib.Nat.{add-assoc}
 use lib.ListN.{length, getD, length-append}
 use lib.Dec.{ltb}
 use borrow.Author.Tests.{ltb-true}
+use Rattle.refusal.specs.Lengths.{lengthIf, outputOf}
 use Rattle.vocabulary.specs.Lists.{joined}
 use Rattle.numbers.specs.Numbers.{bytesFrom, bytes16}
 use Rattle.blocks.specs.StoredFields.{songLength, songEntry}
 use Rattle.blocks.specs.Sizes.{sizeOf}
 use Rattle.blocks.specs.declared.Kind.the-variants.{Song as SongKind}
-use Rattle.songs.specs.Shown.{shownSong, entryIn, playlistBytes, playlistIn, playlistOutputIn}
+use Rattle.songs.specs.Shown.{shownSong, entryIn, playlistBytes, playlistSize}
 use Rattle.acceptance.proofs.Locating.{PartAt, number16-at}
 use Rattle.acceptance.proofs.Cutting.{Sized, part-first, part-rest}
 use Rattle.showing.proofs.SameBytes.{same-if}
@@ -50,8 +51,8 @@ module _ {patterns : ℕ} (s : Song) (f : SongFits patterns s) where
         let entries : PartAt m (at + 46) (joined (map bytes16 (s .playlist))) = simp add-assoc at (part-rest (bytes16 (length (s .playlist))) (joined (map bytes16 (s .playlist))) behind) in
         rw count (bytes-at entries (2 * length (s .playlist)) (omega (arith, song-size s (f .name .0), length-append (s .name) (bytes16 (length (s .playlist)) ++ joined (map bytes16 (s .playlist))), f .name .0)))
 
-    pub playlist-shown : (room : ℕ) → playlistIn m at room ≡ playlistLength room s
+    pub playlist-shown : (room : ℕ) → lengthIf (playlistSize m at) room ≡ playlistLength room s
     playlist-shown room = rw count
 
-    pub playlist-written : (out : List ℕ) → playlistOutputIn m at out ≡ playlistWritten out s
+    pub playlist-written : (out : List ℕ) → outputOf (playlistSize m at) (playlistBytes m at) out ≡ playlistWritten out s
     playlist-written out = rw (playlist, count)

@@ -1,3 +1,4 @@
 pub mod Loops
 pub mod Streams
 pub mod Verdicts
+pub mod Outputs

@@ -4,6 +4,8 @@ use mathlib.Core.List.{List, [], _∷_}
 use mathlib.Core.Bool.{Bool, cond, _&&_}
 use lib.Dec.{leb, ltb}
 use Rattle.refusal.specs.Numbers.{refusal, acceptedNumbers, refusedNumbers}
+use Rattle.refusal.specs.Lengths.{refusedLength, lengthIf, outputOf}
+use Rattle.refusal.specs.declared.LengthAnswer.{LengthAnswer}
 use Rattle.refusal.specs.declared.Cause.the-variants.{NotThere}
 use Rattle.layout.specs.declared.Layout.{Layout}
 use Rattle.layout.specs.declared.Outline.{Outline}
@@ -59,3 +61,12 @@ placeIn (Refused r) = 0
 abbrev pub foundNumbers : Found → List ℕ
 foundNumbers (At b) = acceptedNumbers (b .at ∷ b .version ∷ b .tracks ∷ [])
 foundNumbers (Refused r) = refusedNumbers r 3
+
+-- Q1 and F8: what a query answers that fills a lent output, and what the output then holds: the refusal of what is not found, then 17.
+abbrev pub answerFound : (ℕ → ℕ) → ℕ → Found → LengthAnswer
+answerFound needed room (At b) = lengthIf (needed (b .at)) room
+answerFound needed room (Refused r) = refusedLength r
+
+abbrev pub outputFound : (ℕ → ℕ) → (ℕ → List ℕ) → List ℕ → Found → List ℕ
+outputFound needed bytes out (At b) = outputOf (needed (b .at)) (bytes (b .at)) out
+outputFound needed bytes out (Refused r) = out

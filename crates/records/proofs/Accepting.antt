@@ -1,18 +1,15 @@
 -- What an accepted module gives the code that writes its records: the values of envelopes fit 2 bytes, and the lengths are known before.
-use Prim.Native.Nat.{ℕ, _+_, _*_, _≤_, _<_}
+use Prim.Native.Nat.{ℕ, _+_, _*_, _≤_}
 use mathlib.Core.Path.{_≡_, refl, sym, ap, subst, _∙_}
 use mathlib.Core.List.{List, _++_, map, append-assoc}
 use native.Mathlib.Omega.{arith}
 use lib.ListN.{length, drop, length-append}
 use lib.Dec.{eqb}
-use borrow.Author.Tests.{leb-true, lt-ltb, le-ltb}
+use borrow.Author.Tests.{leb-true}
 use Rattle.vocabulary.specs.Lists.{joined, Every}
 use Rattle.vocabulary.proofs.EveryOne.{every-of}
-use Rattle.refusal.specs.Numbers.{refusal}
-use Rattle.refusal.specs.declared.Cause.the-variants.{Room}
 use Rattle.layout.specs.declared.Place.{Place}
 use Rattle.layout.specs.declared.Layout.{Layout}
-use Rattle.layout.specs.declared.Outline.{Outline}
 use Rattle.layout.specs.declared.Outline.the-variants.{Found}
 use Rattle.blocks.specs.StoredFields.{envelopeValue}
 use Rattle.blocks.specs.Sizes.{sizeOf, placesFrom, blockAt, blocksOf}
@@ -22,12 +19,10 @@ use Rattle.blocks.specs.declared.Thing.{Thing}
 use Rattle.blocks.specs.declared.Thing.the-variants.{Song, Instrument, Pattern, Sample, VolumeEnvelope, PanningEnvelope}
 use Rattle.fields.specs.Fields.{envelopeRules}
 use Rattle.module.specs.Verdicts.{opened}
-use Rattle.refusal.specs.Lengths.{refusedLength, writtenLength}
-use Rattle.refusal.specs.declared.LengthAnswer.{LengthAnswer}
 use Rattle.acceptance.proofs.Holding.{AllHold}
 use Rattle.acceptance.proofs.PointsInUse.{value-fits}
 use Rattle.acceptance.proofs.OpenModules.{Opens, module-opens}
-use Rattle.records.specs.Records.{summaryRecord, recordAt, recordsOf, allRecords, allAnswerIf, allAnswer, allOutputIf, allOutput}
+use Rattle.records.specs.Records.{summaryRecord, recordAt, recordsOf, allRecords}
 use Rattle.records.specs.Steps.{recordsFrom, recordsOfThree, ValuesFit}
 use Rattle.records.proofs.Ahead.{every-any}
 use Rattle.records.proofs.RecordLengths.{summary-length, song-length, instrument-length, pattern-length, sample-length, volume-length, panning-length, equal-lengths, block-lengths}
@@ -86,18 +81,6 @@ module _ (m : List ℕ) (l : Layout) where
       let a : List ℕ = recordsOf m l Song ++ b in
       omega (arith, summary-length m l, length-append (summaryRecord m l) a, length-append (recordsOf m l Song) b, length-append (recordsOf m l Instrument) c, length-append (recordsOf m l Pattern) d, length-append (recordsOf m l Sample) e, length-append (recordsOf m l VolumeEnvelope) (recordsOf m l PanningEnvelope))
 
-  -- 17, and what is written.
-  module _ (out : List ℕ) where
-    pub all-lacks : (needed : ℕ) → needed ≡ length (allRecords m l) → length out < needed → (answer : LengthAnswer) → answer ≡ refusedLength (refusal Room needed) → (answer ≡ allAnswerIf m (length out) (Found l)) × (out ≡ allOutputIf m out (Found l))
-    all-lacks needed is h answer e =
-        let lacks = lt-ltb (length out) (length (allRecords m l)) (omega (arith, is)) in
-        (e ∙ rw (is, lacks) refl, rw lacks refl)
-
-    pub all-done : length (allRecords m l) ≤ length out → (n : ℕ) (answer : LengthAnswer) (out′ : List ℕ) → answer ≡ writtenLength n → (n ≡ length (allRecords m l)) × (out′ ≡ allRecords m l ++ drop n out) → (answer ≡ allAnswerIf m (length out) (Found l)) × (out′ ≡ allOutputIf m out (Found l))
-    all-done h n answer out′ e done =
-        let fits = le-ltb (length out) (length (allRecords m l)) h in
-        (e ∙ rw (done .0, fits) refl, done .1 ∙ rw (done .0, fits) refl)
-
 -- The blocks of a kind, by what the code has of them.
 module _ (m : List ℕ) (l : Layout) (thing : Thing) (kind : Kind) (chunk : Place) (start count : ℕ) (k : kind ≡ kindOf thing) (c : chunk ≡ chunkOf l thing) (s : start ≡ blockAt m kind chunk 0) (n : count ≡ countOf m l thing) where
   places-same : placesFrom (sizeOf kind m) count start ≡ blocksOf m (kindOf thing) (chunkOf l thing) (countOf m l thing)
@@ -123,8 +106,3 @@ all-written m l out {out′} {r} w = subst (λ (all : List ℕ). (r ≡ length a
 
 pub all-room : (m : List ℕ) (l : Layout) {k : ℕ} → length (allRecords m l) ≤ k → length (summaryRecord m l ++ (recordsOfThree m l Song Instrument Pattern ++ recordsOfThree m l Sample VolumeEnvelope PanningEnvelope)) ≤ k
 all-room m l {k} h = subst (λ (all : List ℕ). length all ≤ k) (sym (all-split m l)) h
-
--- What the call answers, and what its output then holds, by how the module opens.
-module _ (m out : List ℕ) where
-  pub answer-opened : (o : Outline) → opened m ≡ o → {answer : LengthAnswer} {out′ : List ℕ} → (answer ≡ allAnswerIf m (length out) o) × (out′ ≡ allOutputIf m out o) → (answer ≡ allAnswer m (length out)) × (out′ ≡ allOutput m out)
-  answer-opened o opens e = rw opens e

@@ -19,9 +19,10 @@ use Rattle.numbers.specs.Numbers.{Bytes}
 use Rattle.layout.specs.declared.Layout.{Layout}
 use Rattle.layout.specs.declared.Outline.the-variants.{Found}
 use Rattle.module.specs.Verdicts.{opened, moduleVerdict}
+use Rattle.module.specs.Outputs.{answerOpened, outputOpened}
 use Rattle.refusal.specs.Lengths.{refusedLength, lengthIf, outputIf}
 use Rattle.acceptance.proofs.OpenModules.{accepted-opens, refused-opens}
-use Rattle.records.specs.Records.{allRecords, allAnswerIf, allAnswer, allOutputIf, allOutput}
+use Rattle.records.specs.Records.{allRecords, allAnswer, allOutput}
 use Rattle.records.specs.Told.{recordsTold}
 use Rattle.records.proofs.Telling as Telling
 
@@ -38,15 +39,15 @@ module _ (m : List ℕ) (bytes : Bytes m) (accepted : moduleVerdict m ≡ Accept
 
   pub all-told : (room : ℕ) → allAnswer m room ≡ lengthIf (length (recordsTold m)) room
   all-told room =
-      ap (allAnswerIf m room) opens ∙ ap (λ (records : List ℕ). lengthIf (length records) room) (records-told m bytes layout opens)
+      ap (answerOpened (allRecords m) room) opens ∙ ap (λ (records : List ℕ). lengthIf (length records) room) (records-told m bytes layout opens)
 
   pub all-written : (out : List ℕ) → allOutput m out ≡ outputIf (lengthIf (length (recordsTold m)) (length out)) (recordsTold m) out
   all-written out =
-      ap (allOutputIf m out) opens ∙ ap (λ (records : List ℕ). outputIf (lengthIf (length records) (length out)) records out) (records-told m bytes layout opens)
+      ap (outputOpened (allRecords m) out) opens ∙ ap (λ (records : List ℕ). outputIf (lengthIf (length records) (length out)) records out) (records-told m bytes layout opens)
 
 module _ (m : List ℕ) (r : Refusal) (refused : moduleVerdict m ≡ Refused r) where
   pub all-refused : (room : ℕ) → allAnswer m room ≡ refusedLength r
-  all-refused room = ap (allAnswerIf m room) (refused-opens m r refused)
+  all-refused room = ap (answerOpened (allRecords m) room) (refused-opens m r refused)
 
   pub all-kept : (out : List ℕ) → allOutput m out ≡ out
-  all-kept out = ap (allOutputIf m out) (refused-opens m r refused)
+  all-kept out = ap (outputOpened (allRecords m) out) (refused-opens m r refused)

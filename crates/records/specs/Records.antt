@@ -1,21 +1,18 @@
 -- FORMAT.md, Q16: all records of a module, one behind the other. Each tells just what its own query answers; all numbers are big-endian.
 use Prim.Native.Nat.{ℕ}
 use mathlib.Core.List.{List, [], _∷_, _++_, map}
-use lib.ListN.{length}
 use lib.IntN.{ℤ}
 use Rattle.vocabulary.specs.Lists.{joined}
+use Rattle.refusal.specs.declared.LengthAnswer.{LengthAnswer}
 use Rattle.numbers.specs.Numbers.{bytes16, bytes32, unsigned16}
 use Rattle.layout.specs.declared.Layout.{Layout}
-use Rattle.layout.specs.declared.Outline.{Outline}
-use Rattle.layout.specs.declared.Outline.the-variants.{Found, Refused}
 use Rattle.blocks.specs.StoredFields.{patternRows}
 use Rattle.blocks.specs.Sizes.{blocksOf, envelopeCount}
 use Rattle.blocks.specs.Things.{kindOf, chunkOf, countOf}
 use Rattle.blocks.specs.declared.Thing.{Thing}
 use Rattle.blocks.specs.declared.Thing.the-variants.{Song, Instrument, Pattern, Sample, VolumeEnvelope, PanningEnvelope}
 use Rattle.module.specs.Verdicts.{opened}
-use Rattle.refusal.specs.Lengths.{refusedLength, lengthIf, outputIf}
-use Rattle.refusal.specs.declared.LengthAnswer.{LengthAnswer}
+use Rattle.module.specs.Outputs.{answerOpened, outputOpened}
 use Rattle.summary.specs.Shown.{shownVersion, nameOf, shownInfo}
 use Rattle.summary.specs.declared.VersionAnswer.{VersionAnswer}
 use Rattle.summary.specs.declared.InfoAnswer.{InfoAnswer}
@@ -101,19 +98,9 @@ allRecords m l =
     ++ (recordsOf m l VolumeEnvelope
     ++ recordsOf m l PanningEnvelope)))))
 
--- Q16: 17, else the length of the records.
-abbrev pub allAnswerIf : List ℕ → ℕ → Outline → LengthAnswer
-allAnswerIf m room (Found l) = lengthIf (length (allRecords m l)) room
-allAnswerIf m room (Refused r) = refusedLength r
-
--- Q16: the module's own refusal, then 17.
+-- Q16: the module's own refusal, then 17, else the length of the records; and what the output then holds (F8).
 abbrev pub allAnswer : List ℕ → ℕ → LengthAnswer
-allAnswer m room = allAnswerIf m room (opened m)
-
--- F8: what the output then holds.
-abbrev pub allOutputIf : List ℕ → List ℕ → Outline → List ℕ
-allOutputIf m out (Found l) = outputIf (lengthIf (length (allRecords m l)) (length out)) (allRecords m l) out
-allOutputIf m out (Refused r) = out
+allAnswer m room = answerOpened (allRecords m) room (opened m)
 
 abbrev pub allOutput : List ℕ → List ℕ → List ℕ
-allOutput m out = allOutputIf m out (opened m)
+allOutput m out = outputOpened (allRecords m) out (opened m)

@@ -37,10 +37,11 @@ ghost use Rattle.layout.specs.declared.Outline.the-variants.{Found};
 ghost use Rattle.blocks.specs.StoredFields.{envelopeSections};
 ghost use Rattle.blocks.specs.Sizes.{sizeOf, placesFrom};
 ghost use Rattle.module.specs.Verdicts.{opened};
+ghost use Rattle.module.specs.Outputs.{answerOpened, outputOpened};
 ghost use Rattle.summary.specs.Shown.{shownInfo};
 ghost use Rattle.samples.specs.Shown.{shownSample};
 ghost use Rattle.envelopes.specs.Shown.{thingOf, positionShown, valueShown, valueOf};
-ghost use Rattle.records.specs.Records.{infoRecord, countsRecord, summaryRecord, sampleRecord, recordAt, recordsOf, allRecords, allAnswerIf, allAnswer, allOutputIf, allOutput};
+ghost use Rattle.records.specs.Records.{infoRecord, countsRecord, summaryRecord, sampleRecord, recordAt, recordsOf, allRecords, allAnswer, allOutput};
 ghost use Rattle.records.specs.Steps.{pointRecord, pointsFrom, recordsFrom, recordsOfThree, ValueFits, ValuesFit};
 
 // Writes the numbers of INFO and how many volume and panning envelopes there are: 14 bytes from 46 on.
@@ -303,7 +304,7 @@ fn write_all(m: &[u8], l: Layout, out: &mut [u8]) -> usize
 // Writes all records of a module that is accepted: 17.
 fn all_opened(m: &[u8], l: Layout, out: &mut [u8]) -> LengthAnswer
     requires { ⌜ opened (now m) ≡ Found l ⌝ }
-    ensures { λ r. ⌜ (r ≡ allAnswerIf (now (m .entry)) (length (now (out .entry))) (Found l)) × (now (out .exit) ≡ allOutputIf (now (m .entry)) (now (out .entry)) (Found l)) ⌝ }
+    ensures { λ r. ⌜ (r ≡ answerOpened (allRecords (now (m .entry))) (length (now (out .entry))) (Found l)) × (now (out .exit) ≡ outputOpened (allRecords (now (m .entry))) (now (out .entry)) (Found l)) ⌝ }
 {
     let needed = all_length(m, l);
     if out.len() < needed {

@@ -26,3 +26,7 @@ lengthIf needed room = cond (ltb room needed) (refusedLength (refusal Room neede
 -- F8: on success what is written, and after it what was there; on a refusal nothing changes.
 abbrev pub outputIf : LengthAnswer → List ℕ → List ℕ → List ℕ
 outputIf answer written out = cond (eqb (answer .outcome .number) 0) (written ++ drop (length written) out) out
+
+-- The same by the length that is needed.
+abbrev pub outputOf : ℕ → List ℕ → List ℕ → List ℕ
+outputOf needed written out = outputIf (lengthIf needed (length out)) written out

@@ -5,20 +5,20 @@ use mathlib.Core.Path.{_≡_, refl, sym, ap, _∙_}
 use mathlib.Core.List.{List, _++_}
 use native.Mathlib.Omega.{arith}
 use lib.ListN.{length, drop}
-use borrow.Author.Tests.{lt-ltb, le-ltb}
 use Rattle.vocabulary.specs.Lists.{Every}
 use Rattle.vocabulary.proofs.EveryOne.{every-first, every-rest}
 use Rattle.refusal.specs.Numbers.{refusal}
 use Rattle.refusal.specs.declared.Cause.the-variants.{Room}
 use Rattle.numbers.specs.Numbers.{Bytes}
 use Rattle.layout.specs.declared.Layout.{Layout}
-use Rattle.layout.specs.declared.Outline.{Outline}
 use Rattle.layout.specs.declared.Outline.the-variants.{Found}
 use Rattle.blocks.specs.Sizes.{sizeOf, placesFrom}
 use Rattle.blocks.specs.declared.Kind.the-variants.{Pattern}
 use Rattle.module.specs.Streams.{patternStreamRules}
 use Rattle.module.specs.Verdicts.{opened}
+use Rattle.module.specs.Outputs.{answerOpened, outputOpened}
 use Rattle.refusal.specs.Lengths.{refusedLength, writtenLength}
+use Rattle.refusal.proofs.FilledOutputs.{all-lacking, all-enough}
 use Rattle.refusal.specs.declared.LengthAnswer.{LengthAnswer}
 use Rattle.acceptance.specs.Rules.{Covered}
 use Rattle.acceptance.proofs.Holding.{AllHold}
@@ -26,7 +26,7 @@ use Rattle.acceptance.proofs.BlockStreams.{accepted-says}
 use Rattle.acceptance.proofs.ChunkHalf.{Outlined, outline-chunks}
 use Rattle.acceptance.proofs.ChangedData.{data-at}
 use Rattle.acceptance.proofs.OpenModules.{Opens, module-opens}
-use Rattle.repack.specs.Repacked.{repackedPatterns, repackedModule, repackAnswerIf, repackAnswer, repackOutputIf, repackOutput}
+use Rattle.repack.specs.Repacked.{repackedPatterns, repackedModule}
 use Rattle.repack.specs.Steps.{replaced, AllSound, PatternsIn}
 use Rattle.repack.proofs.ChunksAnew.{module-anew}
 
@@ -57,20 +57,14 @@ module _ (m : List ℕ) (bytes : Bytes m) (l : Layout) (o : opened m ≡ Found l
     abbrev anew : List ℕ
     anew = replaced m (l .places .patt) (repackedPatterns m l)
 
-    pub module-lacks : (needed : ℕ) → length out < needed → (length out < needed → needed ≡ length anew) → (answer : LengthAnswer) → answer ≡ refusedLength (refusal Room needed) → (answer ≡ repackAnswerIf m (length out) (Found l)) × (out ≡ repackOutputIf m out (Found l))
-    module-lacks needed h same answer e =
-        let is : needed ≡ length (repackedModule m l) = same h ∙ ap length (sym module-replaced) in
-        let lacks = lt-ltb (length out) (length (repackedModule m l)) (omega (arith, is)) in
-        (e ∙ rw (is, lacks) refl, rw lacks refl)
+    same-length : length (repackedModule m l) ≡ length anew
+    same-length = ap length module-replaced
 
-    pub module-done : length anew ≤ length out → (n : ℕ) (answer : LengthAnswer) (out′ : List ℕ) → answer ≡ writtenLength n → (n ≡ length anew) × (out′ ≡ anew ++ drop n out) → (answer ≡ repackAnswerIf m (length out) (Found l)) × (out′ ≡ repackOutputIf m out (Found l))
+    pub module-lacks : (needed : ℕ) → length out < needed → (length out < needed → needed ≡ length anew) → (answer : LengthAnswer) → answer ≡ refusedLength (refusal Room needed)
+        → (answer ≡ answerOpened (repackedModule m) (length out) (Found l)) × (out ≡ outputOpened (repackedModule m) out (Found l))
+    module-lacks needed h same answer e = all-lacking (repackedModule m l) out needed (same h ∙ sym same-length) h answer e
+
+    pub module-done : length anew ≤ length out → (n : ℕ) (answer : LengthAnswer) (out′ : List ℕ) → answer ≡ writtenLength n → (n ≡ length anew) × (out′ ≡ anew ++ drop n out)
+        → (answer ≡ answerOpened (repackedModule m) (length out) (Found l)) × (out′ ≡ outputOpened (repackedModule m) out (Found l))
     module-done h n answer out′ e done =
-        let same : anew ≡ repackedModule m l = sym module-replaced in
-        let size : n ≡ length (repackedModule m l) = done .0 ∙ ap length same in
-        let fits = le-ltb (length out) (length (repackedModule m l)) (omega (arith, ap length same)) in
-        (e ∙ rw (size, fits) refl, done .1 ∙ rw (size, same, fits) refl)
-
--- What repacking answers, and what its output then holds, by how the module opens.
-module _ (m out : List ℕ) where
-  pub repack-opened : (o : Outline) → opened m ≡ o → {answer : LengthAnswer} {out′ : List ℕ} → (answer ≡ repackAnswerIf m (length out) o) × (out′ ≡ repackOutputIf m out o) → (answer ≡ repackAnswer m (length out)) × (out′ ≡ repackOutput m out)
-  repack-opened o opens e = rw opens e
+        all-enough (repackedModule m l) out (omega (arith, same-length)) n answer out′ e (done .0 ∙ sym same-length, done .1 ∙ rw module-replaced refl)

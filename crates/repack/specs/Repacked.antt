@@ -17,7 +17,7 @@ use Rattle.layout.specs.declared.Outline.the-variants.{Found, Refused}
 use Rattle.blocks.specs.StoredFields.{patternRows, packedBytes}
 use Rattle.blocks.specs.Sizes.{patternBlocks}
 use Rattle.module.specs.Verdicts.{opened}
-use Rattle.refusal.specs.Lengths.{refusedLength, lengthIf, outputIf}
+use Rattle.module.specs.Outputs.{answerOpened, outputOpened}
 use Rattle.refusal.specs.declared.LengthAnswer.{LengthAnswer}
 
 -- X3: the packer's stream (W1 to W3) of the cells of the pattern at a place, with its rows and the module's tracks.
@@ -61,19 +61,9 @@ repackedIf m (Refused r) = []
 abbrev pub repacked : List ℕ → List ℕ
 repacked m = repackedIf m (opened m)
 
--- X4: 17, else the length of the module repacked.
-abbrev pub repackAnswerIf : List ℕ → ℕ → Outline → LengthAnswer
-repackAnswerIf m room (Found l) = lengthIf (length (repackedModule m l)) room
-repackAnswerIf m room (Refused r) = refusedLength r
-
--- X4: the module's own refusal, then 17.
+-- X4: the module's own refusal, then 17, else the length of the module repacked; and what the output then holds (F8).
 abbrev pub repackAnswer : List ℕ → ℕ → LengthAnswer
-repackAnswer m room = repackAnswerIf m room (opened m)
-
--- F8: what the output then holds.
-abbrev pub repackOutputIf : List ℕ → List ℕ → Outline → List ℕ
-repackOutputIf m out (Found l) = outputIf (lengthIf (length (repackedModule m l)) (length out)) (repackedModule m l) out
-repackOutputIf m out (Refused r) = out
+repackAnswer m room = answerOpened (repackedModule m) room (opened m)
 
 abbrev pub repackOutput : List ℕ → List ℕ → List ℕ
-repackOutput m out = repackOutputIf m out (opened m)
+repackOutput m out = outputOpened (repackedModule m) out (opened m)

@@ -28,7 +28,8 @@ ghost use Rattle.blocks.specs.Sizes.{firstBlock};
 ghost use Rattle.blocks.specs.declared.Kind.the-variants.{Pattern};
 ghost use Rattle.module.specs.Streams.{streamVerdict};
 ghost use Rattle.module.specs.Verdicts.{opened};
-ghost use Rattle.repack.specs.Repacked.{repackedStream, repackedBlock, repackAnswerIf, repackAnswer, repackOutputIf, repackOutput};
+ghost use Rattle.module.specs.Outputs.{answerOpened, outputOpened};
+ghost use Rattle.repack.specs.Repacked.{repackedStream, repackedBlock, repackedModule, repackAnswer, repackOutput};
 ghost use Rattle.repack.specs.Steps.{blocksAnew, frontAnew, replaced, PatternsIn};
 
 // Writes the packer's stream of the pattern at a place to the front of an output that has room for it, and answers its length, also
@@ -143,7 +144,7 @@ fn room_needed(m: &[u8], chunk: Place, patterns: u16, tracks: u16, room: usize) 
 // Repacks a module that is accepted: 17.
 fn repack_opened(m: &[u8], l: Layout, out: &mut [u8]) -> LengthAnswer
     requires { ⌜ opened (now m) ≡ Found l ⌝ }
-    ensures { λ r. ⌜ (r ≡ repackAnswerIf (now (m .entry)) (length (now (out .entry))) (Found l)) × (now (out .exit) ≡ repackOutputIf (now (m .entry)) (now (out .entry)) (Found l)) ⌝ }
+    ensures { λ r. ⌜ (r ≡ answerOpened (repackedModule (now (m .entry))) (length (now (out .entry))) (Found l)) × (now (out .exit) ≡ outputOpened (repackedModule (now (m .entry))) (now (out .entry)) (Found l)) ⌝ }
 {
     let p = l.places;
     let chunk = p.patt;

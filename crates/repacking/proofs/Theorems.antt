@@ -23,6 +23,7 @@ use Rattle.layout.specs.declared.Layout.{Layout}
 use Rattle.layout.specs.declared.Outline.the-variants.{Found}
 use Rattle.blocks.specs.declared.Thing.the-variants.{Pattern}
 use Rattle.module.specs.Verdicts.{opened, verdictOf, moduleVerdict}
+use Rattle.module.specs.Outputs.{answerOpened}
 use Rattle.queries.specs.Finding.{found}
 use Rattle.refusal.specs.Lengths.{writtenLength}
 use Rattle.queries.specs.declared.Block.{Block}
@@ -30,7 +31,7 @@ use Rattle.queries.specs.declared.Found.the-variants.{At}
 use Rattle.acceptance.proofs.OpenModules.{accepted-opens}
 use Rattle.showing.specs.Showing.{ShowsSame}
 use Rattle.showing.proofs.Theorems.{alike-shows}
-use Rattle.repack.specs.Repacked.{repackedModule, repackAnswerIf, repackAnswer, repacked}
+use Rattle.repack.specs.Repacked.{repackedModule, repackAnswer, repacked}
 use Rattle.repacking.specs.Packed.{PackedAt}
 use Rattle.repacking.proofs.Opening.{repacked-opened}
 use Rattle.repacking.proofs.ModuleAnew.{no-longer, bytes-anew}
@@ -64,7 +65,7 @@ module _ (m : List ℕ) (bytes : Bytes m) (accepted : moduleVerdict m ≡ Accept
   pub room-enough : (room : ℕ) → length m ≤ room → repackAnswer m room ≡ writtenLength (length (repacked m))
   room-enough room h =
       let fits : length (repackedModule m layout) ≤ room = omega (arith, no-longer m bytes layout opens) in
-      ap (repackAnswerIf m room) opens ∙ rw (le-ltb room (length (repackedModule m layout)) fits, is) refl
+      ap (answerOpened (repackedModule m) room) opens ∙ rw (le-ltb room (length (repackedModule m layout)) fits, is) refl
 
   pub repacked-twice : repacked (repacked m) ≡ repacked m
   repacked-twice = ap repacked is ∙ repacked-again m bytes layout opens ∙ sym is

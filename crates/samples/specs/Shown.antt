@@ -14,8 +14,7 @@ use Rattle.numbers.specs.Numbers.{byteAt, number16, number32, partOf, signedBy,
 use Rattle.blocks.specs.StoredFields.{sampleFlags, sampleFrames}
 use Rattle.blocks.specs.Sizes.{widthOf}
 use Rattle.blocks.specs.declared.Thing.the-variants.{Sample}
-use Rattle.queries.specs.Finding.{found}
-use Rattle.refusal.specs.Lengths.{refusedLength, lengthIf, outputIf}
+use Rattle.queries.specs.Finding.{found, answerFound, outputFound}
 use Rattle.queries.specs.declared.Found.{Found}
 use Rattle.queries.specs.declared.Found.the-variants.{At, Refused}
 use Rattle.refusal.specs.declared.LengthAnswer.{LengthAnswer}
@@ -96,28 +95,15 @@ abbrev pub frameAnswer : List ℕ → ℕ → ℕ → FrameAnswer
 frameAnswer m sample frame = frameIf m frame (found m Sample sample)
 
 -- Q13: all frames of the sample at a place at 16 bits, 2 bytes each.
+abbrev pub allFramesSize : List ℕ → ℕ → ℕ
+allFramesSize m at = 2 * sampleFrames m at
+
 abbrev pub allFrames : List ℕ → ℕ → List ℕ
 allFrames m at = joined (eachFrom (λ frame. bytes16 (unsigned16 (frameOf m at frame))) 0 (sampleFrames m at))
 
--- 17, else the length: 2 bytes for each frame.
-abbrev pub allFramesIn : List ℕ → ℕ → ℕ → LengthAnswer
-allFramesIn m at room = lengthIf (2 * sampleFrames m at) room
-
-abbrev pub allFramesOutputIn : List ℕ → ℕ → List ℕ → List ℕ
-allFramesOutputIn m at out = outputIf (allFramesIn m at (length out)) (allFrames m at) out
-
-abbrev pub allFramesIf : List ℕ → ℕ → Found → LengthAnswer
-allFramesIf m room (At b) = allFramesIn m (b .at) room
-allFramesIf m room (Refused r) = refusedLength r
-
--- Q1: the module's own refusal, then 18, then 17.
+-- Q1: the module's own refusal, then 18, then 17, else the length of the frames; and what the output then holds (F8).
 abbrev pub allFramesAnswer : List ℕ → ℕ → ℕ → LengthAnswer
-allFramesAnswer m sample room = allFramesIf m room (found m Sample sample)
+allFramesAnswer m sample room = answerFound (allFramesSize m) room (found m Sample sample)
 
-abbrev pub allFramesOutputIf : List ℕ → List ℕ → Found → List ℕ
-allFramesOutputIf m out (At b) = allFramesOutputIn m (b .at) out
-allFramesOutputIf m out (Refused r) = out
-
--- F8: what the output then holds.
 abbrev pub allFramesOutput : List ℕ → ℕ → List ℕ → List ℕ
-allFramesOutput m sample out = allFramesOutputIf m out (found m Sample sample)
+allFramesOutput m sample out = outputFound (allFramesSize m) (allFrames m) out (found m Sample sample)

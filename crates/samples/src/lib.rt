@@ -24,8 +24,9 @@ use refusal::written;
 ghost use mathlib.Core.Path.{_≡_};
 ghost use Prim.Native.Nat.{_*_, _/_, _<_, _+_, min};
 ghost use lib.ListN.{length};
+ghost use Rattle.refusal.specs.Lengths.{lengthIf, outputOf};
 ghost use Rattle.numbers.specs.Numbers.{SmallPlace, signed16};
-ghost use Rattle.samples.specs.Shown.{frameBytes, frame16, noSample, shownSample, sampleAnswer, noFrames, shownFrames, framesAnswer, framesPart, noFrame, frameIn, frameAnswer, allFramesIn, allFramesOutputIn, allFramesAnswer, allFramesOutput};
+ghost use Rattle.samples.specs.Shown.{frameBytes, frame16, noSample, shownSample, sampleAnswer, noFrames, shownFrames, framesAnswer, framesPart, noFrame, frameIn, frameAnswer, allFramesSize, allFrames, allFramesAnswer, allFramesOutput};
 ghost use Rattle.samples.specs.Steps.{framesFrom};
 
 // A sample: the bits of a frame (8, 16 or 32), and how many frames there are.
@@ -203,7 +204,8 @@ fn write_frames(m: &[u8], bytes: usize, at: usize, frames: usize, out: &mut [u8]
 // Writes all frames of the sample whose block stands at a place: 17.
 fn all_frames_in(m: &[u8], at: usize, out: &mut [u8]) -> LengthAnswer
     requires { ⌜ SmallPlace at ⌝ }
-    ensures { λ r. ⌜ (r ≡ allFramesIn (now (m .entry)) at (length (now (out .entry)))) × (now (out .exit) ≡ allFramesOutputIn (now (m .entry)) at (now (out .entry))) ⌝ }
+    ensures { λ r. ⌜ (r ≡ lengthIf (allFramesSize (now (m .entry)) at) (length (now (out .entry))))
+        × (now (out .exit) ≡ outputOf (allFramesSize (now (m .entry)) at) (allFrames (now (m .entry)) at) (now (out .entry))) ⌝ }
 {
     let frames = sample_frames(m, at) as usize;
     let needed = 2 * frames;

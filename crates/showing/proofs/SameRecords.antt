@@ -15,9 +15,10 @@ use Rattle.queries.specs.declared.Found.the-variants.{At, Refused}
 use Rattle.songs.specs.Shown.{shownSong, playlistBytes}
 use Rattle.songs.specs.declared.SongAnswer.{SongAnswer}
 use Rattle.envelopes.specs.declared.EnvelopeKind.the-variants.{Volume, Panning}
-use Rattle.records.specs.Records.{songRecord, sampleRecord, instrumentRecord, envelopeRecord, summaryRecord, recordAt, recordsOf, allRecords, allAnswerIf, allAnswer, allOutputIf, allOutput}
+use Rattle.records.specs.Records.{songRecord, sampleRecord, instrumentRecord, envelopeRecord, summaryRecord, recordAt, recordsOf, allRecords, allAnswer, allOutput}
 use Rattle.records.proofs.ByNumber.{records-numbered}
 use Rattle.records.proofs.Telling.{same-joint}
+use Rattle.module.specs.Outputs.{answerOpened, outputOpened}
 use Rattle.showing.proofs.Alike.{SameThing, Alike}
 use Rattle.showing.proofs.SameBytes.{each-same}
 use Rattle.showing.proofs.SameSongs.{song-same, playlist-same}
@@ -72,8 +73,8 @@ module _ {m n : List ℕ} (a : Alike m n) where
       same-joint same-summary (same-kind Song) (same-kind Instrument) (same-kind Pattern) (same-kind Sample) (same-kind VolumeEnvelope) (same-kind PanningEnvelope)
 
   pub same-records : (room : ℕ) → allAnswer n room ≡ allAnswer m room
-  same-records room = by-opening a (allAnswerIf m room) (allAnswerIf n room) (ap (λ (all : List ℕ). lengthIf (length all) room) same-all)
+  same-records room = by-opening a (answerOpened (allRecords m) room) (answerOpened (allRecords n) room) (ap (λ (all : List ℕ). lengthIf (length all) room) same-all)
 
   pub same-records-output : (out : List ℕ) → allOutput n out ≡ allOutput m out
   same-records-output out =
-      by-opening a (allOutputIf m out) (allOutputIf n out) (ap (λ (all : List ℕ). outputIf (lengthIf (length all) (length out)) all out) same-all)
+      by-opening a (outputOpened (allRecords m) out) (outputOpened (allRecords n) out) (ap (λ (all : List ℕ). outputIf (lengthIf (length all) (length out)) all out) same-all)

@@ -9,13 +9,15 @@ use native.Mathlib.Nat.{add-assoc, mul-le-mul-right}
 use lib.Dec.{ltb}
 use lib.IntN.{ℤ}
 use borrow.Author.Tests.{ltb-true}
+use Rattle.queries.specs.Finding.{answerFound, outputFound}
+use Rattle.refusal.specs.Lengths.{outputOf}
 use Rattle.vocabulary.specs.Lists.{joined}
 use Rattle.numbers.specs.Numbers.{number32, partOf, bytes16, unsigned16}
 use Rattle.blocks.specs.StoredFields.{sampleFrames}
 use Rattle.blocks.specs.Sizes.{sizeOf}
 use Rattle.blocks.specs.declared.Kind.the-variants.{Sample as SampleKind}
 use Rattle.blocks.specs.declared.Thing.the-variants.{Sample}
-use Rattle.samples.specs.Shown.{frameBytes, shownSample, sampleIf, sampleAnswer, framesIf, frame16, frameOf, frameIn, frameIf, frameAnswer, allFrames, allFramesIf, allFramesAnswer, allFramesOutputIn, allFramesOutputIf, allFramesOutput}
+use Rattle.samples.specs.Shown.{frameBytes, shownSample, sampleIf, sampleAnswer, framesIf, frame16, frameOf, frameIn, frameIf, frameAnswer, allFrames, allFramesSize, allFramesAnswer, allFramesOutput}
 use Rattle.query_theorems.proofs.SampleFrames.{frames-in}
 use Rattle.showing.specs.Showing.{SameFrames}
 use Rattle.showing.proofs.Alike.{SameBlock, Alike}
@@ -57,7 +59,7 @@ module _ {m n : List ℕ} {at to : ℕ} (s : SameBlock SampleKind m n at to) whe
     allFrames-same : allFrames n to ≡ allFrames m at
     allFrames-same = rw count-same (ap joined (each-same (λ frame. bytes16 (unsigned16 (frameOf n to frame))) (λ frame. bytes16 (unsigned16 (frameOf m at frame))) (sampleFrames m at) 0 0 (λ i h. ap (λ (z : ℤ). bytes16 (unsigned16 z)) (frameOf-same (0 + i) (omega arith)))))
 
-    output-same : (out : List ℕ) → allFramesOutputIn n to out ≡ allFramesOutputIn m at out
+    output-same : (out : List ℕ) → outputOf (allFramesSize n to) (allFrames n to) out ≡ outputOf (allFramesSize m at) (allFrames m at) out
     output-same out = rw (allFrames-same, count-same)
 
 module _ {m n : List ℕ} (a : Alike m n) (sample : ℕ) where
@@ -75,8 +77,8 @@ module _ {m n : List ℕ} (a : Alike m n) (sample : ℕ) where
   same-frame frame = by-finding a Sample sample (frameIf m frame) (frameIf n frame) (λ r. refl) (λ b c e v t s. frame-same s (frames-in m sample b e .width) frame)
 
   pub same-all-frames : (room : ℕ) → allFramesAnswer n sample room ≡ allFramesAnswer m sample room
-  same-all-frames room = by-finding a Sample sample (allFramesIf m room) (allFramesIf n room) (λ r. refl) (λ b c e v t s. rw (count-same s))
+  same-all-frames room = by-finding a Sample sample (answerFound (allFramesSize m) room) (answerFound (allFramesSize n) room) (λ r. refl) (λ b c e v t s. rw (count-same s))
 
   pub same-all-frames-output : (out : List ℕ) → allFramesOutput n sample out ≡ allFramesOutput m sample out
   same-all-frames-output out =
-      by-finding a Sample sample (allFramesOutputIf m out) (allFramesOutputIf n out) (λ r. refl) (λ b c e v t s. output-same s (frames-in m sample b e .width) out)
+      by-finding a Sample sample (outputFound (allFramesSize m) (allFrames m) out) (outputFound (allFramesSize n) (allFrames n) out) (λ r. refl) (λ b c e v t s. output-same s (frames-in m sample b e .width) out)

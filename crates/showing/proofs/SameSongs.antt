@@ -6,11 +6,13 @@ use native.Mathlib.Omega.{arith}
 use native.Mathlib.Nat.{add-assoc}
 use lib.Dec.{ltb}
 use borrow.Author.Tests.{ltb-true}
+use Rattle.queries.specs.Finding.{answerFound, outputFound}
+use Rattle.refusal.specs.Lengths.{outputOf}
 use Rattle.blocks.specs.StoredFields.{songLength, songEntry}
 use Rattle.blocks.specs.Sizes.{sizeOf}
 use Rattle.blocks.specs.declared.Kind.the-variants.{Song as SongKind}
 use Rattle.blocks.specs.declared.Thing.the-variants.{Song}
-use Rattle.songs.specs.Shown.{shownSong, songIf, songAnswer, entryIn, entryIf, entryAnswer, playlistBytes, playlistIf, playlistAnswer, playlistOutputIn, playlistOutputIf, playlistOutput}
+use Rattle.songs.specs.Shown.{shownSong, songIf, songAnswer, entryIn, entryIf, entryAnswer, playlistBytes, playlistSize, playlistAnswer, playlistOutput}
 use Rattle.showing.proofs.Alike.{SameBlock, Alike}
 use Rattle.showing.proofs.SameBytes.{same-if, same-16, same-front, same-bytes}
 use Rattle.showing.proofs.AlikeAnswers.{by-finding}
@@ -35,7 +37,7 @@ module _ {m n : List ℕ} {at to : ℕ} (s : SameBlock SongKind m n at to) where
   unfolding sizeOf
   playlist-same = rw length-same (same-bytes s 46 (2 * songLength m at) (omega arith))
 
-  output-same : (out : List ℕ) → playlistOutputIn n to out ≡ playlistOutputIn m at out
+  output-same : (out : List ℕ) → outputOf (playlistSize n to) (playlistBytes n to) out ≡ outputOf (playlistSize m at) (playlistBytes m at) out
   output-same out = rw (playlist-same, length-same)
 
 module _ {m n : List ℕ} (a : Alike m n) (song : ℕ) where
@@ -46,7 +48,7 @@ module _ {m n : List ℕ} (a : Alike m n) (song : ℕ) where
   same-entry entry = by-finding a Song song (entryIf m entry) (entryIf n entry) (λ r. refl) (λ b c e v t s. entry-same s entry)
 
   pub same-playlist : (room : ℕ) → playlistAnswer n song room ≡ playlistAnswer m song room
-  same-playlist room = by-finding a Song song (playlistIf m room) (playlistIf n room) (λ r. refl) (λ b c e v t s. rw (length-same s))
+  same-playlist room = by-finding a Song song (answerFound (playlistSize m) room) (answerFound (playlistSize n) room) (λ r. refl) (λ b c e v t s. rw (length-same s))
 
   pub same-playlist-output : (out : List ℕ) → playlistOutput n song out ≡ playlistOutput m song out
-  same-playlist-output out = by-finding a Song song (playlistOutputIf m out) (playlistOutputIf n out) (λ r. refl) (λ b c e v t s. output-same s out)
+  same-playlist-output out = by-finding a Song song (outputFound (playlistSize m) (playlistBytes m) out) (outputFound (playlistSize n) (playlistBytes n) out) (λ r. refl) (λ b c e v t s. output-same s out)

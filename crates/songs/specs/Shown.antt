@@ -11,8 +11,7 @@ use Rattle.refusal.specs.declared.Refusal.{Refusal}
 use Rattle.numbers.specs.Numbers.{bytesFrom}
 use Rattle.blocks.specs.StoredFields.{songName, songLength, songEntry}
 use Rattle.blocks.specs.declared.Thing.the-variants.{Song}
-use Rattle.queries.specs.Finding.{found}
-use Rattle.refusal.specs.Lengths.{refusedLength, lengthIf, outputIf}
+use Rattle.queries.specs.Finding.{found, answerFound, outputFound}
 use Rattle.queries.specs.declared.Found.{Found}
 use Rattle.queries.specs.declared.Found.the-variants.{At, Refused}
 use Rattle.refusal.specs.declared.LengthAnswer.{LengthAnswer}
@@ -52,28 +51,15 @@ abbrev pub entryAnswer : List ℕ → ℕ → ℕ → EntryAnswer
 entryAnswer m song entry = entryIf m entry (found m Song song)
 
 -- Q7: a playlist as it is stored: so many entries of 2 bytes.
+abbrev pub playlistSize : List ℕ → ℕ → ℕ
+playlistSize m at = 2 * songLength m at
+
 abbrev pub playlistBytes : List ℕ → ℕ → List ℕ
-playlistBytes m at = bytesFrom m (at + 46) (2 * songLength m at)
+playlistBytes m at = bytesFrom m (at + 46) (playlistSize m at)
 
--- 17, else the length of the playlist.
-abbrev pub playlistIn : List ℕ → ℕ → ℕ → LengthAnswer
-playlistIn m at room = lengthIf (2 * songLength m at) room
-
-abbrev pub playlistOutputIn : List ℕ → ℕ → List ℕ → List ℕ
-playlistOutputIn m at out = outputIf (playlistIn m at (length out)) (playlistBytes m at) out
-
-abbrev pub playlistIf : List ℕ → ℕ → Found → LengthAnswer
-playlistIf m room (At b) = playlistIn m (b .at) room
-playlistIf m room (Refused r) = refusedLength r
-
--- Q1: the module's own refusal, then 18, then 17.
+-- Q1: the module's own refusal, then 18, then 17, else the length of the playlist; and what the output then holds (F8).
 abbrev pub playlistAnswer : List ℕ → ℕ → ℕ → LengthAnswer
-playlistAnswer m song room = playlistIf m room (found m Song song)
+playlistAnswer m song room = answerFound (playlistSize m) room (found m Song song)
 
-abbrev pub playlistOutputIf : List ℕ → List ℕ → Found → List ℕ
-playlistOutputIf m out (At b) = playlistOutputIn m (b .at) out
-playlistOutputIf m out (Refused r) = out
-
--- F8: what the output then holds.
 abbrev pub playlistOutput : List ℕ → ℕ → List ℕ → List ℕ
-playlistOutput m song out = playlistOutputIf m out (found m Song song)
+playlistOutput m song out = outputFound (playlistSize m) (playlistBytes m) out (found m Song song)

@@ -18,8 +18,9 @@ use refusal::refused;
 use refusal::written;
 ghost use mathlib.Core.Path.{_≡_};
 ghost use lib.ListN.{length};
+ghost use Rattle.refusal.specs.Lengths.{lengthIf, outputOf};
 ghost use Rattle.numbers.specs.Numbers.{SmallPlace};
-ghost use Rattle.songs.specs.Shown.{noSong, shownSong, songAnswer, noEntry, entryIn, entryAnswer, playlistIn, playlistBytes, playlistAnswer, playlistOutput, playlistOutputIn};
+ghost use Rattle.songs.specs.Shown.{noSong, shownSong, songAnswer, noEntry, entryIn, entryAnswer, playlistSize, playlistBytes, playlistAnswer, playlistOutput};
 
 // A song: its name, and the number of entries of its playlist.
 #[repr(C)]
@@ -102,7 +103,8 @@ pub fn entry(m: &[u8], song: usize, entry: usize) -> EntryAnswer
 // Writes the playlist of the song whose block stands at a place: 17.
 fn write_playlist(m: &[u8], at: usize, out: &mut [u8]) -> LengthAnswer
     requires { ⌜ SmallPlace at ⌝ }
-    ensures { λ r. ⌜ (r ≡ playlistIn (now (m .entry)) at (length (now (out .entry)))) × (now (out .exit) ≡ playlistOutputIn (now (m .entry)) at (now (out .entry))) ⌝ }
+    ensures { λ r. ⌜ (r ≡ lengthIf (playlistSize (now (m .entry)) at) (length (now (out .entry))))
+        × (now (out .exit) ≡ outputOf (playlistSize (now (m .entry)) at) (playlistBytes (now (m .entry)) at) (now (out .entry))) ⌝ }
 {
     let needed = 2 * (song_length(m, at) as usize);
     if out.len() < needed {

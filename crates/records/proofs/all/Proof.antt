@@ -1,6 +1,7 @@
 use borrow.Author.Needs.{needs}
 use mathlib.Core.Path.{refl, sym, _∙_}
-use Rattle.records.proofs.Accepting.{answer-opened}
+use Rattle.module.proofs.OpenedOutputs.{by-opened}
+use Rattle.records.specs.Records.{allRecords}
 use Rattle.records.proofs.all.Statement.{statement}
 use Rattle.records.proofs.all.Tie as tie
 
@@ -8,10 +9,10 @@ all-opened-requires : tie.Need-all-opened-requires
 all-opened-requires c κs = sym (c .before .before .before .before .«open» .ensures .0) ∙ c .before .before .l .given .1
 
 returns : tie.Need-returns
-returns c = answer-opened (c .before .before .before .before .before .before .before .before .before .before .args .m .now) (c .before .before .before .before .before .before .before .before .before .before .args .out .now) _ (sym (c .before .before .before .before .before .before .before .«open» .ensures .0) ∙ c .before .before .before .before .before .l .given .1) (c .before .before .all-opened .ensures)
+returns c = by-opened (allRecords (c .before .before .before .before .before .before .before .before .before .before .args .m .now)) (c .before .before .before .before .before .before .before .before .before .before .args .m .now) (c .before .before .before .before .before .before .before .before .before .before .args .out .now) _ (sym (c .before .before .before .before .before .before .before .«open» .ensures .0) ∙ c .before .before .before .before .before .l .given .1) (c .before .before .all-opened .ensures)
 
 returns-2 : tie.Need-returns-2
-returns-2 c = answer-opened (c .before .before .before .before .before .before .before .args .m .now) (c .before .before .before .before .before .before .before .args .out .now) _ (sym (c .before .before .before .before .«open» .ensures .0) ∙ c .before .before .r .given .1) (c .refused .ensures, refl)
+returns-2 c = by-opened (allRecords (c .before .before .before .before .before .before .before .args .m .now)) (c .before .before .before .before .before .before .before .args .m .now) (c .before .before .before .before .before .before .before .args .out .now) _ (sym (c .before .before .before .before .«open» .ensures .0) ∙ c .before .before .r .given .1) (c .refused .ensures, refl)
 
 pub all-spec : {M : Type 1} → statement M
 all-spec =

@@ -3,18 +3,19 @@ use native.Mathlib.Omega.{arith}
 use mathlib.Core.Path.{_∙_, ap}
 use Rattle.refusal.specs.declared.Refusal.{Refusal}
 use Rattle.refusal.specs.Lengths.{refusedLength}
-use Rattle.records.proofs.Accepting.{all-lacks, all-done}
+use Rattle.refusal.proofs.FilledOutputs.{all-lacking, all-enough}
+use Rattle.records.specs.Records.{allRecords}
 use Rattle.records.proofs.all_opened.Statement.{statement}
 use Rattle.records.proofs.all_opened.Tie as tie
 
 returns : tie.Need-returns
-returns c = all-lacks (c .before .before .before .before .before .before .args .m .now) (c .before .before .before .before .before .before .args .l) (c .before .before .before .before .before .before .args .out .now) (c .before .before .before .all-length .result) (c .before .before .before .all-length .ensures) (c .before .before .if1 .taken) _ (c .refused .ensures ∙ ap (λ (r : Refusal). refusedLength r) (c .before .refuse .ensures))
+returns c = all-lacking (allRecords (c .before .before .before .before .before .before .args .m .now) (c .before .before .before .before .before .before .args .l)) (c .before .before .before .before .before .before .args .out .now) (c .before .before .before .all-length .result) (c .before .before .before .all-length .ensures) (c .before .before .if1 .taken) _ (c .refused .ensures ∙ ap (λ (r : Refusal). refusedLength r) (c .before .refuse .ensures))
 
 write-all-requires : tie.Need-write-all-requires
 write-all-requires c κs = (c .before .before .before .before .before .pre, omega (arith, c .before .before .all-length .ensures, c .before .if1 .left))
 
 returns-2 : tie.Need-returns-2
-returns-2 c = all-done (c .before .before .before .before .before .before .before .before .before .args .m .now) (c .before .before .before .before .before .before .before .before .before .args .l) (c .before .before .before .before .before .before .before .before .before .args .out .now) (omega (arith, c .before .before .before .before .before .before .all-length .ensures, c .before .before .before .before .before .if1 .left)) (c .before .before .before .write-all .result) _ _ (c .written .ensures) (c .before .before .before .write-all .ensures)
+returns-2 c = all-enough (allRecords (c .before .before .before .before .before .before .before .before .before .args .m .now) (c .before .before .before .before .before .before .before .before .before .args .l)) (c .before .before .before .before .before .before .before .before .before .args .out .now) (omega (arith, c .before .before .before .before .before .before .all-length .ensures, c .before .before .before .before .before .if1 .left)) (c .before .before .before .write-all .result) _ _ (c .written .ensures) (c .before .before .before .write-all .ensures)
 
 pub all-opened-spec : {M : Type 1} → statement M
 all-opened-spec =

@@ -1,6 +1,7 @@
 use borrow.Author.Needs.{needs}
 use mathlib.Core.Path.{refl, sym, _∙_}
-use Rattle.repack.proofs.Accepting.{repack-opened}
+use Rattle.module.proofs.OpenedOutputs.{by-opened}
+use Rattle.repack.specs.Repacked.{repackedModule}
 use Rattle.repack.proofs.repack.Statement.{statement}
 use Rattle.repack.proofs.repack.Tie as tie
 
@@ -8,10 +9,10 @@ repack-opened-requires : tie.Need-repack-opened-requires
 repack-opened-requires c κs = sym (c .before .before .before .before .«open» .ensures .0) ∙ c .before .before .l .given .1
 
 returns : tie.Need-returns
-returns c = repack-opened (c .before .before .before .before .before .before .before .before .before .before .args .m .now) (c .before .before .before .before .before .before .before .before .before .before .args .out .now) _ (sym (c .before .before .before .before .before .before .before .«open» .ensures .0) ∙ c .before .before .before .before .before .l .given .1) (c .before .before .repack-opened .ensures)
+returns c = by-opened (repackedModule (c .before .before .before .before .before .before .before .before .before .before .args .m .now)) (c .before .before .before .before .before .before .before .before .before .before .args .m .now) (c .before .before .before .before .before .before .before .before .before .before .args .out .now) _ (sym (c .before .before .before .before .before .before .before .«open» .ensures .0) ∙ c .before .before .before .before .before .l .given .1) (c .before .before .repack-opened .ensures)
 
 returns-2 : tie.Need-returns-2
-returns-2 c = repack-opened (c .before .before .before .before .before .before .before .args .m .now) (c .before .before .before .before .before .before .before .args .out .now) _ (sym (c .before .before .before .before .«open» .ensures .0) ∙ c .before .before .r .given .1) (c .refused .ensures, refl)
+returns-2 c = by-opened (repackedModule (c .before .before .before .before .before .before .before .args .m .now)) (c .before .before .before .before .before .before .before .args .m .now) (c .before .before .before .before .before .before .before .args .out .now) _ (sym (c .before .before .before .before .«open» .ensures .0) ∙ c .before .before .r .given .1) (c .refused .ensures, refl)
 
 pub repack-spec : {M : Type 1} → statement M
 repack-spec =
