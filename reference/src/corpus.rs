@@ -1,6 +1,7 @@
-//! The corpus: cases for the library, always the same ones.
+//! The corpus: cases for the library, always the same ones, a part for each conformance program.
 //!
-//! Cases stand one after the other, all numbers big-endian:
+//! In a part the cases are one after the other, all numbers big-endian. Kinds 1 to 3 are for conformance_patterns, 4 and 5 for
+//! conformance_modules:
 //!
 //! - kind 1, a stream: rows (8), tracks (8), row (8), track (8), room (4), length (4), the stream;
 //! - kind 2, cells: rows (8), tracks (8), room (4), length (4), the cells;
@@ -224,12 +225,15 @@ fn take_lengths<const N: usize>(left: &mut &[u8]) -> Option<[u32; N]> {
     Some(numbers)
 }
 
-/// All cases: first those of packed rows, then those of modules, then those of records.
-pub fn cases() -> Vec<Case> {
-    let mut cases = pattern_cases();
-    cases.extend(module_cases());
-    cases.extend(record_cases());
-    cases
+/// The name of each conformance program and its cases: packed rows and cells for the first; whole modules and then records for the second.
+pub fn programs() -> [(&'static str, Vec<Case>); 2] {
+    [
+        ("conformance_patterns", pattern_cases()),
+        (
+            "conformance_modules",
+            [module_cases(), record_cases()].concat(),
+        ),
+    ]
 }
 
 /// The cases of kind 5.

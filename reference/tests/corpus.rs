@@ -3,7 +3,7 @@
 use std::collections::BTreeSet;
 
 use reference::corpus::{
-    cases, encoded, module_cases, pattern_cases, record_cases, take, Asked, Case,
+    encoded, module_cases, pattern_cases, programs, record_cases, take, Asked, Case,
 };
 use reference::draft::{Pattern, Tune};
 use reference::expect::expected;
@@ -454,20 +454,21 @@ fn more_room_than_65536_is_taken_as_that() {
 }
 
 #[test]
-fn the_corpus_is_read_back_and_within_its_bounds() {
-    let made = cases();
-    let corpus = encoded(&made);
-    assert!(corpus.len() <= 524_288, "{} bytes", corpus.len());
-    let mut left = &corpus[..];
-    for case in &made {
-        let (read, after) = take(left).expect("a whole case");
-        assert_eq!(&read, case);
-        left = after;
+fn each_program_has_its_cases_and_reads_them_back() {
+    for (program, made) in programs() {
+        let corpus = encoded(&made);
+        assert!(corpus.len() <= 524_288, "{program}: {} bytes", corpus.len());
+        let mut left = &corpus[..];
+        for case in &made {
+            let (read, after) = take(left).expect("a whole case");
+            assert_eq!(&read, case);
+            left = after;
+        }
+        assert!(left.is_empty());
+        let text = expected(&corpus);
+        assert!(text.len() <= 3_500_000, "{program}: {} bytes", text.len());
+        assert!(text.ends_with(&format!("\ncases {}\n", made.len())));
     }
-    assert!(left.is_empty());
-    let text = expected(&corpus);
-    assert!(text.len() <= 3_500_000, "{} bytes", text.len());
-    assert!(text.ends_with(&format!("\ncases {}\n", made.len())));
 }
 
 /// FNV-1a of 64 bits.
@@ -477,17 +478,31 @@ fn hash(bytes: &[u8]) -> u64 {
     })
 }
 
+/// The kinds of a program's cases, in their order.
+fn kinds(cases: &[Case]) -> Vec<u8> {
+    cases
+        .iter()
+        .map(|case| encoded(std::slice::from_ref(case))[0])
+        .collect()
+}
+
 #[test]
-fn the_cases_of_packed_rows_stay_as_they_are_and_stand_first() {
+fn the_first_program_has_packed_rows_and_the_second_modules() {
+    let [(first, patterns), (second, modules)] = programs();
+    assert_eq!(
+        (first, second),
+        ("conformance_patterns", "conformance_modules")
+    );
+    assert!(kinds(&patterns).iter().all(|kind| (1..=3).contains(kind)));
+    assert!(kinds(&modules).iter().all(|kind| (4..=5).contains(kind)));
+    assert!(kinds(&modules).is_sorted());
+}
+
+#[test]
+fn the_cases_of_packed_rows_stay_as_they_are() {
     let patterns = encoded(&pattern_cases());
     assert_eq!(patterns.len(), 230_736);
     assert_eq!(hash(&patterns), 0x9BEA_592E_846C_7DC2);
-    let all = encoded(&cases());
-    assert_eq!(all[..230_736], patterns);
-    let modules = encoded(&module_cases());
-    let behind = 230_736 + modules.len();
-    assert_eq!(all[230_736..behind], modules);
-    assert_eq!(all[behind..], encoded(&record_cases()));
 }
 
 #[test]
@@ -556,7 +571,9 @@ fn the_records_have_every_kind_of_answer() {
 
 #[test]
 fn the_corpus_has_every_kind_of_answer() {
-    let text = expected(&encoded(&cases()));
+    let text = programs()
+        .map(|(_, cases)| expected(&encoded(&cases)))
+        .concat();
     let all = [
         ("check", vec![0, 15, 16]),
         ("unpack", vec![0, 15, 16, 17]),

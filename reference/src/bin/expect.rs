@@ -1,4 +1,4 @@
-//! Reads a corpus from standard input and prints what is expected of each case.
+//! Reads the cases of a conformance program from standard input and prints what the program has to print.
 
 #![forbid(unsafe_code)]
 

@@ -2,7 +2,7 @@
 //! and damaged, and all those that are a module with one change.
 
 use crate::seeds::for_seeds;
-use reference::corpus::{cases, Case};
+use reference::corpus::{module_cases, record_cases, Case};
 use reference::draft::Draft;
 use reference::generate::{bytes, damage, damaged, module, Most, Random};
 use reference::module::check;
@@ -25,8 +25,9 @@ fn drawn(random: &mut Random, larger: u64) -> Draft {
 
 /// The modules of all cases; there are at least so many.
 pub fn corpus(agrees: impl Comparison, least: usize) {
+    let cases = [module_cases(), record_cases()].concat();
     let mut count = 0;
-    for (index, case) in cases().iter().enumerate() {
+    for (index, case) in cases.iter().enumerate() {
         if let Case::Module { module, .. } | Case::Records { module, .. } = case {
             agrees(module, &mut Random::new(index as u64))
                 .unwrap_or_else(|what| panic!("case {index} of the corpus: {what}"));

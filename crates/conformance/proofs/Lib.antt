@@ -1,2 +1,0 @@
-pub mod AboveLeast
-pub mod Pasting

@@ -1,0 +1,27 @@
+// Prints what the libraries answer for each case of standard input, where the cases are about modules.
+//
+// The input has at most 524,288 bytes, and its numbers are big-endian. A case is one of
+//   4, room u32, length u32, a module of that length: prints what checking, listing and repacking it answer, what repacking it
+//      answers with an output as long as the module, and what the call for all records answers, with that room and with an output 60
+//      bytes longer than the module;
+//   5, song u64, entry u64, instrument u64, envelope u64, pattern u64, row u64, track u64, sample u64, frame u64, room u32, length
+//      u32, a module of that length: prints what each query answers at these indices.
+// Room is the length of the output that is lent; more than 65,536, also of a module, is taken as that. Each byte of the output is 170
+// before the call. Another first byte, or a case that is cut, ends the run. The last line counts the cases.
+mod cases;
+mod shown;
+mod signed;
+
+use crate::cases::run;
+use conformance_text::input_space;
+use conformance_text::line_space;
+use conformance_text::text::print_numbers;
+
+fn main() {
+    let mut input = input_space();
+    let n = io::read_full(0, &mut input);
+    let mut out = io::large_buffer();
+    let mut line = line_space();
+    let cases = run(&input[..n], &mut out, &mut line);
+    print_numbers(b"cases", &[cases], &mut line);
+}
