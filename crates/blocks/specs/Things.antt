@@ -3,7 +3,7 @@ use Prim.Native.Nat.{ℕ}
 use mathlib.Core.List.{List}
 use Rattle.layout.specs.declared.Layout.{Layout}
 use Rattle.layout.specs.declared.Place.{Place}
-use Rattle.blocks.specs.Sizes.{blocksOf, envelopeCount}
+use Rattle.blocks.specs.Sizes.{envelopeCount}
 use Rattle.blocks.specs.declared.Kind.{Kind}
 use Rattle.blocks.specs.declared.Kind.the-variants.{Song as SongKind, Instrument as InstrumentKind, Pattern as PatternKind, Sample as SampleKind, Envelope as EnvelopeKind}
 use Rattle.blocks.specs.declared.Thing.{Thing}
@@ -35,7 +35,3 @@ countOf m l Pattern = l .patterns
 countOf m l Sample = l .samples
 countOf m l VolumeEnvelope = envelopeCount m (l .places .venv)
 countOf m l PanningEnvelope = envelopeCount m (l .places .penv)
-
--- The places of all of them.
-abbrev pub blockPlaces : List ℕ → Layout → Thing → List ℕ
-blockPlaces m l thing = blocksOf m (kindOf thing) (chunkOf l thing) (countOf m l thing)

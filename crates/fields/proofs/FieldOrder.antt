@@ -1,15 +1,32 @@
--- The rules of an envelope in their order, part by part.
+-- The rules of the fields in their order, part by part.
 use Prim.Native.Nat.{ℕ}
 use mathlib.Core.Path.{_≡_}
 use mathlib.Core.List.{List, _++_}
-use mathlib.Core.Bool.{Bool}
-use Rattle.refusal.specs.Rules.{firstBroken}
+use mathlib.Core.Bool.{Bool, false}
+use lib.Dec.{eqb}
+use Rattle.refusal.specs.Rules.{Rule, firstBroken, rulesOfEach}
 use Rattle.refusal.specs.declared.Refusal.{Refusal}
 use Rattle.refusal.specs.declared.Verdict.{Verdict}
 use Rattle.refusal.specs.declared.Verdict.the-variants.{Accepted, Refused}
+use Rattle.layout.specs.declared.Layout.{Layout}
 use Rattle.blocks.specs.StoredFields.{envelopeFlags, envelopeSections}
+use Rattle.blocks.specs.Sizes.{songBlocks, instrumentBlocks, envelopeBlocks}
 use Rattle.refusal.proofs.InOrder.{rules-stopped, rules-passed}
-use Rattle.fields.specs.Fields.{envelopeHeadRules, envelopePointRules, valuesRules, envelopeRules}
+use Rattle.fields.specs.Fields.{songRules, instrumentRules, envelopeHeadRules, envelopePointRules, valuesRules, envelopeRules}
+
+-- The four parts of the fields.
+module _ (m : List ℕ) (l : Layout) where
+  abbrev pub songPart : List Rule
+  songPart = rulesOfEach (songRules m (l .patterns)) (songBlocks m l)
+
+  abbrev pub instrumentPart : List Rule
+  instrumentPart = rulesOfEach (instrumentRules m (l .samples)) (instrumentBlocks m l)
+
+  abbrev pub volumePart : List Rule
+  volumePart = rulesOfEach (envelopeRules m (l .instruments) false) (envelopeBlocks m (l .places .venv))
+
+  abbrev pub panningPart : List Rule
+  panningPart = rulesOfEach (envelopeRules m (l .instruments) (eqb (l .version) 3)) (envelopeBlocks m (l .places .penv))
 
 -- An envelope: its head, its points, its values.
 module _ (m : List ℕ) (instruments : ℕ) (signed : Bool) (at : ℕ) {head : Verdict} (head-is : head ≡ firstBroken (envelopeHeadRules m instruments at)) where

@@ -12,10 +12,7 @@ use Rattle.layout.specs.declared.Layout.{Layout}
 use Rattle.blocks.specs.StoredFields.{songLength, instrumentSample, instrumentVolume, instrumentPanning, instrumentFlags}
 use Rattle.blocks.specs.StoredFields.{envelopeInstrument, envelopeFlags, envelopeSections}
 use Rattle.blocks.specs.StoredFields.{envelopeFirstSustain, envelopeLoopFirst, envelopeLoopLast, envelopeSecondSustain}
-use Rattle.blocks.specs.Sizes.{placesFrom}
-use Rattle.blocks.specs.Things.{blockPlaces}
-use Rattle.blocks.specs.declared.Thing.{Thing}
-use Rattle.blocks.specs.declared.Thing.the-variants.{Song, Instrument, Pattern, Sample, VolumeEnvelope, PanningEnvelope}
+use Rattle.blocks.specs.Sizes.{placesFrom, songBlocks, instrumentBlocks, envelopeBlocks}
 
 -- −128 to 128.
 abbrev pub panningFits : ℕ → Bool
@@ -85,22 +82,11 @@ envelopeRules m instruments signed at =
     ++ (envelopePointRules m (envelopeFlags m at) (envelopeSections m at) at
     ++ valuesRules m signed (envelopeSections m at) at)
 
--- The rules of a block, by what it is. PATT and SMPL have no such field. Panning values are signed in version 3.
-abbrev pub rulesOfBlock : List ℕ → Layout → Thing → ℕ → List Rule
-rulesOfBlock m l Song = songRules m (l .patterns)
-rulesOfBlock m l Instrument = instrumentRules m (l .samples)
-rulesOfBlock m l Pattern = λ at. []
-rulesOfBlock m l Sample = λ at. []
-rulesOfBlock m l VolumeEnvelope = envelopeRules m (l .instruments) false
-rulesOfBlock m l PanningEnvelope = envelopeRules m (l .instruments) (eqb (l .version) 3)
-
-abbrev pub rulesOfBlocks : List ℕ → Layout → Thing → List Rule
-rulesOfBlocks m l thing = rulesOfEach (rulesOfBlock m l thing) (blockPlaces m l thing)
-
--- F15: 12 and 13 by field: SONG, INST, VENV, PENV, by ascending offset.
+-- F15: 12 and 13 by field: SONG, INST, VENV, PENV, by ascending offset (PATT and SMPL have no such field). Panning values are signed
+-- in version 3.
 abbrev pub fieldRules : List ℕ → Layout → List Rule
 fieldRules m l =
-    rulesOfBlocks m l Song
-    ++ (rulesOfBlocks m l Instrument
-    ++ (rulesOfBlocks m l VolumeEnvelope
-    ++ rulesOfBlocks m l PanningEnvelope))
+    rulesOfEach (songRules m (l .patterns)) (songBlocks m l)
+    ++ (rulesOfEach (instrumentRules m (l .samples)) (instrumentBlocks m l)
+    ++ (rulesOfEach (envelopeRules m (l .instruments) false) (envelopeBlocks m (l .places .venv))
+    ++ rulesOfEach (envelopeRules m (l .instruments) (eqb (l .version) 3)) (envelopeBlocks m (l .places .penv))))

@@ -6,8 +6,7 @@ use crate::envelopes::check_envelope;
 use crate::envelopes::panning_fits;
 use blocks::Thing;
 use blocks::block_at;
-use blocks::chunk_of;
-use blocks::count_of;
+use blocks::envelope_count;
 use blocks::kind_of;
 use blocks::size;
 use blocks::stored::INSTRUMENT_FLAGS;
@@ -21,15 +20,19 @@ use blocks::stored::instrument_sample;
 use blocks::stored::instrument_volume;
 use blocks::stored::song_length;
 use layout::Layout;
+use layout::Place;
 use numbers::number16;
 use refusal::Cause;
 use refusal::Verdict;
 use refusal::refuse;
 ghost use mathlib.Core.Path.{_≡_};
 ghost use Rattle.refusal.specs.Numbers.{verdictNumbers, IsAnswer};
-ghost use Rattle.refusal.specs.Rules.{firstBroken};
+ghost use Rattle.refusal.specs.Rules.{firstBroken, rulesOfEach};
 ghost use Rattle.numbers.specs.Numbers.{SmallPlace};
-ghost use Rattle.fields.specs.Fields.{songRules, instrumentRules, rulesOfBlock, rulesOfBlocks, fieldRules};
+ghost use Rattle.blocks.specs.Sizes.{blocksOf, envelopeCount};
+ghost use Rattle.blocks.specs.Things.{kindOf};
+ghost use Rattle.fields.specs.Fields.{songRules, instrumentRules, fieldRules};
+ghost use Rattle.fields.specs.Steps.{rulesOfBlock};
 
 // Checks the playlist of the song at a place.
 fn check_song(m: &[u8], at: usize, patterns: u16) -> Verdict
@@ -70,30 +73,39 @@ fn check_instrument(m: &[u8], at: usize, samples: u16) -> Verdict
     Verdict::Accepted
 }
 
-// Checks the fields of the block at a place, by what it is. A pattern and a sample have no such field.
-fn check_block(m: &[u8], l: Layout, thing: Thing, at: usize) -> Verdict
+// Checks the fields of the block at a place, by what it is; what they refer to is one of so many. A pattern and a sample have no such
+// field.
+fn check_block(m: &[u8], thing: Thing, many: u16, signed: bool, at: usize) -> Verdict
     requires { ⌜ SmallPlace at ⌝ }
-    ensures { λ r. ⌜ r ≡ firstBroken (rulesOfBlock (now (m .entry)) l thing at) ⌝ }
+    ensures { λ r. ⌜ r ≡ firstBroken (rulesOfBlock (now (m .entry)) many signed thing at) ⌝ }
 {
     match thing {
-        Thing::Song => check_song(m, at, l.patterns),
-        Thing::Instrument => check_instrument(m, at, l.samples),
+        Thing::Song => check_song(m, at, many),
+        Thing::Instrument => check_instrument(m, at, many),
         Thing::Pattern => Verdict::Accepted,
         Thing::Sample => Verdict::Accepted,
-        Thing::VolumeEnvelope => check_envelope(m, at, l.instruments, false),
-        Thing::PanningEnvelope => check_envelope(m, at, l.instruments, l.version == 3),
+        Thing::VolumeEnvelope => check_envelope(m, at, many, false),
+        Thing::PanningEnvelope => check_envelope(m, at, many, signed),
     }
 }
 
-// Checks the fields of all blocks of a chunk.
-fn check_blocks(m: &[u8], l: Layout, thing: Thing) -> Verdict
-    ensures { λ r. ⌜ r ≡ firstBroken (rulesOfBlocks (now (m .entry)) l thing) ⌝ }
+// Checks the fields of the blocks of a chunk.
+fn check_blocks(
+    m: &[u8],
+    thing: Thing,
+    chunk: Place,
+    count: u16,
+    many: u16,
+    signed: bool,
+) -> Verdict
+    ensures { λ r. ⌜ r ≡ firstBroken (rulesOfEach (rulesOfBlock (now (m .entry)) many signed thing)
+        (blocksOf (now (m .entry)) (kindOf thing) chunk count)) ⌝ }
 {
     let kind = kind_of(thing);
-    let mut at = block_at(m, kind, chunk_of(l, thing), 0);
-    let mut left = count_of(m, l, thing);
+    let mut at = block_at(m, kind, chunk, 0);
+    let mut left = count;
     while 0 < left {
-        if let Verdict::Refused(r) = check_block(m, l, thing, at) {
+        if let Verdict::Refused(r) = check_block(m, thing, many, signed, at) {
             return Verdict::Refused(r);
         }
         at = at + size(m, kind, at);
@@ -102,18 +114,48 @@ fn check_blocks(m: &[u8], l: Layout, thing: Thing) -> Verdict
     Verdict::Accepted
 }
 
+// Checks the fields of the envelopes of a chunk.
+fn check_envelopes(m: &[u8], thing: Thing, chunk: Place, instruments: u16, signed: bool) -> Verdict
+    ensures { λ r. ⌜ r ≡ firstBroken (rulesOfEach (rulesOfBlock (now (m .entry)) instruments signed thing)
+        (blocksOf (now (m .entry)) (kindOf thing) chunk (envelopeCount (now (m .entry)) chunk))) ⌝ }
+{
+    check_blocks(
+        m,
+        thing,
+        chunk,
+        envelope_count(m, chunk),
+        instruments,
+        signed,
+    )
+}
+
 // Checks the fields of all blocks: SONG, INST, VENV, PENV.
 pub fn check(m: &[u8], l: Layout) -> Verdict
     ensures { λ r. ⌜ IsAnswer verdictNumbers r (firstBroken (fieldRules (now (m .entry)) l)) ⌝ }
 {
-    if let Verdict::Refused(r) = check_blocks(m, l, Thing::Song) {
+    let p = l.places;
+    let signed = l.version == 3;
+    if let Verdict::Refused(r) = check_blocks(m, Thing::Song, p.song, l.songs, l.patterns, signed) {
         return Verdict::Refused(r);
     }
-    if let Verdict::Refused(r) = check_blocks(m, l, Thing::Instrument) {
+    if let Verdict::Refused(r) = check_blocks(
+        m,
+        Thing::Instrument,
+        p.inst,
+        l.instruments,
+        l.samples,
+        signed,
+    ) {
         return Verdict::Refused(r);
     }
-    if let Verdict::Refused(r) = check_blocks(m, l, Thing::VolumeEnvelope) {
+    if let Verdict::Refused(r) = check_envelopes(
+        m,
+        Thing::VolumeEnvelope,
+        p.venv,
+        l.instruments,
+        signed,
+    ) {
         return Verdict::Refused(r);
     }
-    check_blocks(m, l, Thing::PanningEnvelope)
+    check_envelopes(m, Thing::PanningEnvelope, p.penv, l.instruments, signed)
 }

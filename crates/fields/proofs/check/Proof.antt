@@ -2,30 +2,29 @@ use borrow.Author.Needs.{needs}
 use Rattle.refusal.specs.Numbers.{verdictNumbers}
 use Rattle.refusal.proofs.InOrder.{first-stopped, second-stopped, third-stopped, last-told}
 use Rattle.refusal.proofs.Outcomes.{is-answer}
-use Rattle.blocks.specs.declared.Thing.the-variants.{Song, Instrument, VolumeEnvelope, PanningEnvelope}
-use Rattle.fields.specs.Fields.{rulesOfBlocks}
+use Rattle.fields.proofs.FieldOrder.{songPart, instrumentPart, volumePart, panningPart}
 use Rattle.fields.proofs.check.Statement.{statement}
 use Rattle.fields.proofs.check.Tie as tie
 
 returns : tie.Need-returns
 returns c =
-    let part = rulesOfBlocks (c .before .before .before .before .before .args .m .now) (c .before .before .before .before .before .args .l) in
-    is-answer verdictNumbers (first-stopped (part Song) (part Instrument) (part VolumeEnvelope) (part PanningEnvelope) (c .before .before .before .check-blocks .ensures) (c .before .r .given .1))
+    let m = c .before .before .before .before .before .before .before .args .m .now in let l = c .before .before .before .before .before .before .before .args .l in
+    is-answer verdictNumbers (first-stopped (songPart m l) (instrumentPart m l) (volumePart m l) (panningPart m l) (c .before .before .before .check-blocks .ensures) (c .before .r .given .1))
 
 returns-2 : tie.Need-returns-2
 returns-2 c =
-    let part = rulesOfBlocks (c .before .before .before .before .before .before .before .before .args .m .now) (c .before .before .before .before .before .before .before .before .args .l) in
-    is-answer verdictNumbers (second-stopped (part Song) (part Instrument) (part VolumeEnvelope) (part PanningEnvelope) (c .before .before .before .before .before .before .check-blocks .ensures) (c .before .before .before .before .enum-told .given .1) (c .before .before .before .check-blocks2 .ensures) (c .before .r2 .given .1))
+    let m = c .before .before .before .before .before .before .before .before .before .before .args .m .now in let l = c .before .before .before .before .before .before .before .before .before .before .args .l in
+    is-answer verdictNumbers (second-stopped (songPart m l) (instrumentPart m l) (volumePart m l) (panningPart m l) (c .before .before .before .before .before .before .check-blocks .ensures) (c .before .before .before .before .enum-told .given .1) (c .before .before .before .check-blocks2 .ensures) (c .before .r2 .given .1))
 
 returns-3 : tie.Need-returns-3
 returns-3 c =
-    let part = rulesOfBlocks (c .before .before .before .before .before .before .before .before .before .before .before .args .m .now) (c .before .before .before .before .before .before .before .before .before .before .before .args .l) in
-    is-answer verdictNumbers (third-stopped (part Song) (part Instrument) (part VolumeEnvelope) (part PanningEnvelope) (c .before .before .before .before .before .before .before .before .before .check-blocks .ensures) (c .before .before .before .before .before .before .before .enum-told .given .1) (c .before .before .before .before .before .before .check-blocks2 .ensures) (c .before .before .before .before .enum-told2 .given .1) (c .before .before .before .check-blocks3 .ensures) (c .before .r3 .given .1))
+    let m = c .before .before .before .before .before .before .before .before .before .before .before .before .before .args .m .now in let l = c .before .before .before .before .before .before .before .before .before .before .before .before .before .args .l in
+    is-answer verdictNumbers (third-stopped (songPart m l) (instrumentPart m l) (volumePart m l) (panningPart m l) (c .before .before .before .before .before .before .before .before .before .check-blocks .ensures) (c .before .before .before .before .before .before .before .enum-told .given .1) (c .before .before .before .before .before .before .check-blocks2 .ensures) (c .before .before .before .before .enum-told2 .given .1) (c .before .before .before .check-envelopes .ensures) (c .before .r3 .given .1))
 
 returns-4 : tie.Need-returns-4
 returns-4 c =
-    let part = rulesOfBlocks (c .before .before .before .before .before .before .before .before .before .before .before .args .m .now) (c .before .before .before .before .before .before .before .before .before .before .before .args .l) in
-    is-answer verdictNumbers (last-told (part Song) (part Instrument) (part VolumeEnvelope) (part PanningEnvelope) (c .before .before .before .before .before .before .before .before .before .check-blocks .ensures) (c .before .before .before .before .before .before .before .enum-told .given .1) (c .before .before .before .before .before .before .check-blocks2 .ensures) (c .before .before .before .before .enum-told2 .given .1) (c .before .before .before .check-blocks3 .ensures) (c .before .enum-told3 .given .1) (c .check-blocks4 .ensures))
+    let m = c .before .before .before .before .before .before .before .before .before .before .before .before .before .args .m .now in let l = c .before .before .before .before .before .before .before .before .before .before .before .before .before .args .l in
+    is-answer verdictNumbers (last-told (songPart m l) (instrumentPart m l) (volumePart m l) (panningPart m l) (c .before .before .before .before .before .before .before .before .before .check-blocks .ensures) (c .before .before .before .before .before .before .before .enum-told .given .1) (c .before .before .before .before .before .before .check-blocks2 .ensures) (c .before .before .before .before .enum-told2 .given .1) (c .before .before .before .check-envelopes .ensures) (c .before .enum-told3 .given .1) (c .check-envelopes2 .ensures))
 
 pub check-spec : {M : Type 1} → statement M
 check-spec =

@@ -21,7 +21,7 @@ returns-5 : tie.Need-returns-5
 returns-5 c = simp (c .before .enum-told5 .given .1, c .check-envelope .ensures)
 
 returns-6 : tie.Need-returns-6
-returns-6 c = simp (c .before .before .enum-told6 .given .1, c .check-envelope2 .ensures)
+returns-6 c = simp (c .before .enum-told6 .given .1, c .check-envelope2 .ensures)
 
 pub check-block-spec : {M : Type 1} → statement M
 check-block-spec =

@@ -1,0 +1,17 @@
+-- A definition that private functions cite: the rules of a block, by what it is. What its fields refer to is one of so many; panning values may
+-- be signed. A pattern and a sample have no such field.
+use Prim.Native.Nat.{ℕ}
+use mathlib.Core.List.{List, []}
+use mathlib.Core.Bool.{Bool, false}
+use Rattle.refusal.specs.Rules.{Rule}
+use Rattle.blocks.specs.declared.Thing.{Thing}
+use Rattle.blocks.specs.declared.Thing.the-variants.{Song, Instrument, Pattern, Sample, VolumeEnvelope, PanningEnvelope}
+use Rattle.fields.specs.Fields.{songRules, instrumentRules, envelopeRules}
+
+abbrev pub rulesOfBlock : List ℕ → ℕ → Bool → Thing → ℕ → List Rule
+rulesOfBlock m many signed Song = songRules m many
+rulesOfBlock m many signed Instrument = instrumentRules m many
+rulesOfBlock m many signed Pattern = λ at. []
+rulesOfBlock m many signed Sample = λ at. []
+rulesOfBlock m many signed VolumeEnvelope = envelopeRules m many false
+rulesOfBlock m many signed PanningEnvelope = envelopeRules m many signed
