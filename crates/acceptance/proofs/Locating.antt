@@ -7,8 +7,8 @@ use native.Mathlib.Omega.{arith}
 use native.Mathlib.Nat.{add-assoc, add-zero, zero-add}
 use lib.ListN.{length, take, drop, length-append, length-drop, take-append-drop, List·getD-append}
 use lib.Seq.{length-take-le, take-at, drop-at, getD-append-add, getD-take, getD-drop}
-use Rattle.numbers.specs.Numbers.{byteAt, number16, number32, partOf, bytes32}
-use Rattle.numbers.proofs.Stored.{bytes32-again}
+use Rattle.numbers.specs.Numbers.{byteAt, number16, number32, partOf, bytes16, bytes32}
+use Rattle.numbers.proofs.Stored.{bytes16-again, bytes32-again}
 
 -- Numbers agree where their bytes do, so many bytes from two places on.
 module _ (xs ys : List ℕ) (at to size : ℕ) (same : (i : ℕ) → i < size → byteAt xs (at + i) ≡ byteAt ys (to + i)) where
@@ -147,6 +147,9 @@ part-of-part {m} {part} {inner} p q = record {
   starts = rw (length-append, p .starts, q .starts);
 }
 
--- A number stored as four bytes, and read again.
+-- A number stored as two bytes, or as four, and read again.
+pub bytes16-number : (n : ℕ) (front rest : List ℕ) → number16 (front ++ (bytes16 n ++ rest)) (length front) ≡ n
+bytes16-number n front rest = rw add-zero at (number16-part front (bytes16 n) rest 0 (omega arith)) ∙ bytes16-again n
+
 pub bytes32-number : (n : ℕ) (front rest : List ℕ) → number32 (front ++ (bytes32 n ++ rest)) (length front) ≡ n
 bytes32-number n front rest = rw add-zero at (number32-part front (bytes32 n) rest 0 (omega arith)) ∙ bytes32-again n

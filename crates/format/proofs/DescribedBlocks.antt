@@ -16,7 +16,7 @@ use Rattle.numbers.specs.Numbers.{byteAt, Bytes, number16, number32, eachFrom, 
 use Rattle.numbers.proofs.Parts.{bytes-part}
 use Rattle.numbers.proofs.Each.{each-length}
 use Rattle.numbers.proofs.Stored.{number16-stored, number32-stored}
-use Rattle.numbers.proofs.AllBytes.{bytes-rest, bytes-take, bytes-front, bytes-behind}
+use Rattle.numbers.proofs.AllBytes.{bytes-rest, bytes-take, bytes-front, bytes-behind, number16-below, number32-below}
 use Rattle.acceptance.specs.Rules.{InfoRules, SongRules, InstrumentRules, PatternRules, SampleRules, EnvelopeRules}
 use Rattle.repacking.proofs.PackedBytes.{stream-bytes}
 use Rattle.format.specs.Description.{Info, Song, Instrument, Pattern, Width, eight, sixteen, thirtyTwo, Sample, Point, Envelope}
@@ -29,13 +29,6 @@ abbrev pub numberAt : Width → List ℕ → ℕ → ℕ
 numberAt eight m at = byteAt m at
 numberAt sixteen m at = number16 m at
 numberAt thirtyTwo m at = number32 m at
-
--- Two and four bytes behind each other.
-two-below : (a b : ℕ) → a < 256 → b < 256 → a * 256 + b < 65536
-two-below a b h k = omega arith
-
-four-below : (a b : ℕ) → a < 65536 → b < 65536 → a * 65536 + b < 4294967296
-four-below a b h k = omega arith
 
 module _ (m : List ℕ) (bytes : Bytes m) where
   number-bytes : (w : Width) (at : ℕ) → frameBytes w (numberAt w m at) ≡ bytesFrom m at (flagsOf w)
@@ -58,15 +51,10 @@ module _ (m : List ℕ) (bytes : Bytes m) where
   number-then w at h e = ap (λ (rest : List ℕ). frameBytes w (numberAt w m at) ++ rest) e ∙ number-next w at (at + flagsOf w) refl h
 
   -- It fits its bytes.
-  below16 : (at : ℕ) → number16 m at < 65536
-  unfolding number16
-  below16 at = two-below (byteAt m at) (byteAt m (at + 1)) (bytes at) (bytes (at + 1))
-
   pub number-fits : (w : Width) (at : ℕ) → FrameFits w (numberAt w m at)
-  unfolding number32
   number-fits eight at = bytes at
-  number-fits sixteen at = below16 at
-  number-fits thirtyTwo at = four-below (number16 m at) (number16 m (at + 2)) (below16 at) (below16 (at + 2))
+  number-fits sixteen at = number16-below m bytes at
+  number-fits thirtyTwo at = number32-below m bytes at
 
 -- Pieces one behind the other, each at its place: what is read off them, encoded again, are the bytes from the first place to the last.
 module _ {A : Type 0} (encode : A → List ℕ) (read : ℕ → A) (m : List ℕ) (place : ℕ → ℕ) (n : ℕ) (next : (i : ℕ) → i < n → encode (read i) ++ drop (place (i + 1)) m ≡ drop (place i) m) where

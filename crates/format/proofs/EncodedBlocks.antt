@@ -19,13 +19,14 @@ use Rattle.packed_rows.proofs.Shapes.{getD-mapped}
 use Rattle.packed_rows.proofs.Soundness.{sound-facts}
 use Rattle.numbers.specs.Numbers.{byteAt, Bytes, number16, number32, bytes16, bytes32}
 use Rattle.numbers.proofs.Stored.{bytes16-again, bytes32-again}
-use Rattle.numbers.proofs.AllBytes.{bytes-nil, bytes-cons, bytes-append, bytes-joined, bytes32-bytes}
+use Rattle.numbers.proofs.AllBytes.{bytes-nil, bytes-cons, bytes-append, bytes-joined, bytes16-bytes, bytes32-bytes}
 use Rattle.acceptance.specs.Rules.{Filled, InfoRules, SongRules, InstrumentRules, PatternRules, SampleRules, EnvelopeRules, EnvelopesRules}
+use Rattle.acceptance.proofs.Locating.{bytes16-number}
 use Rattle.repacking.proofs.PackedBytes.{EntriesBytes, stream-bytes}
 use Rattle.format.specs.Description.{Info, Song, Instrument, Pattern, Width, eight, sixteen, thirtyTwo, Sample, Point, Envelope, INFO}
 use Rattle.format.specs.Encoding.{infoBytes, songBytes, instrumentBytes, patternBytes, flagsOf, frameBytes, sampleBytes, pointBytes, envelopeBytes, envelopesBytes, chunkBytes}
 use Rattle.format.specs.WellFormed.{InfoFits, SongFits, InstrumentFits, PatternFits, FrameFits, SampleFits, PointFits, EnvelopeFits, EnvelopesFit, noSample, framesOf}
-use Rattle.format.proofs.Stored.{bytes16-bytes, bytes16-number, number16-past}
+use Rattle.format.proofs.Stored.{number16-past}
 use Rattle.format.proofs.ReadingBlocks.{info-instruments, info-samples, info-songs, info-patterns, info-tracks, song-size, song-length, song-entry, instrument-size, instrument-sample, instrument-volume, instrument-loop-start, instrument-loop-length, instrument-panning, instrument-flags, sample-size, sample-flags, sample-frames, envelope-size, envelope-instrument, envelope-flags, envelope-sections, envelope-first-sustain, envelope-loop-first, envelope-loop-last, envelope-second-sustain, envelope-value}
 
 -- Records of which the encoding of each is bytes.

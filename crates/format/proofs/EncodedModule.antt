@@ -16,7 +16,7 @@ use Rattle.vocabulary.proofs.Splits.{within-mapped, mapped-within, no-two-mappe
 use Rattle.refusal.specs.declared.Verdict.the-variants.{Accepted}
 use Rattle.packed_rows.specs.Theorems.{every}
 use Rattle.packed_rows.proofs.Reading.{both-true}
-use Rattle.numbers.proofs.AllBytes.{bytes-nil, bytes-cons, bytes-append, bytes-every, bytes-joined, bytes32-bytes}
+use Rattle.numbers.proofs.AllBytes.{bytes-nil, bytes-cons, bytes-append, bytes-every, bytes-joined, bytes16-bytes, bytes32-bytes}
 use Rattle.module.specs.Verdicts.{moduleVerdict}
 use Rattle.numbers.specs.Numbers.{byteAt, Bytes, number32, bytes32}
 use Rattle.acceptance.specs.Rules.{ChunkBytes, Covered, NeedsInfo, Among, AtMostOnce, BehindInfo, InfoRules, Filled, EnvelopesRules, VolumeFits, PanningValueFits, Content, ChunkRules, Rules}
@@ -27,7 +27,6 @@ use Rattle.acceptance.proofs.Recorded.{among-within, within-among}
 use Rattle.format.specs.Description.{Info, Song, Instrument, Pattern, Sample, Envelope, Chunk, NAME, INFO, SONG, INST, PATT, SMPL, VENV, PENV, Other, Description}
 use Rattle.format.specs.Encoding.{songBytes, instrumentBytes, patternBytes, sampleBytes, envelopesBytes, identifier, contents, chunkBytes, headerBytes, encoded}
 use Rattle.format.specs.WellFormed.{In, Fits32, WellFormed}
-use Rattle.format.proofs.Stored.{bytes16-bytes}
 use Rattle.format.proofs.ReadingBlocks.{info-instruments, info-samples, info-songs, info-patterns, info-tracks}
 use Rattle.format.proofs.ChunksIn.{in-within, within-in, every-in, in-every, once-letters, in-once}
 use Rattle.format.proofs.EncodedBlocks.{all-bytes, filled-by, info-at, info-bytes, info-rules, song-bytes, song-rules, instrument-bytes, instrument-rules, pattern-bytes, pattern-rules, sample-bytes, sample-rules, envelopes-bytes, envelopes-rules}

@@ -18,13 +18,13 @@ use Rattle.envelopes.specs.Shown.{thingOf}
 use Rattle.envelopes.specs.declared.EnvelopeKind.{EnvelopeKind}
 use Rattle.envelopes.specs.declared.EnvelopeKind.the-variants.{Volume, Panning}
 use Rattle.acceptance.specs.Rules.{Among, Covered, VolumeFits, PanningValueFits}
+use Rattle.acceptance.proofs.Locating.{bytes16-number}
 use Rattle.acceptance.proofs.Standing.{Found, LayoutOf}
 use Rattle.acceptance.proofs.ContentHalf.{count-same}
 use Rattle.format.specs.Description.{Info, Song, Instrument, Pattern, Sample, Envelope, NAME, INFO, SONG, INST, PATT, SMPL, VENV, PENV, Description}
 use Rattle.format.specs.Encoding.{songBytes, instrumentBytes, patternBytes, sampleBytes, envelopeBytes, envelopesBytes, chunkBytes, headerBytes, encoded}
 use Rattle.format.specs.WellFormed.{In, SongFits, InstrumentFits, PatternFits, SampleFits, EnvelopeFits, WellFormed}
 use Rattle.format.specs.Shown.{Envelopes}
-use Rattle.format.proofs.Stored.{bytes16-number}
 use Rattle.format.proofs.ChunksIn.{in-once}
 use Rattle.format.proofs.EncodedModule.{in-among, among-name, among-venv, among-penv}
 use Rattle.format.proofs.Placed.{Listed, chunk-listed, info-numbers}

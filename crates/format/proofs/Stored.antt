@@ -1,25 +1,14 @@
--- Numbers stored as bytes: they are bytes where they fit, and are read again at their place. And pieces of one size, one behind the other:
--- so many bytes, and each piece at its place.
+-- Numbers after a front, read at their place; and pieces of one size, one after the other: so many bytes, and each piece at its place.
 use Prim.Native.Nat.{ℕ, zero, suc, _+_, _*_, _<_}
-use mathlib.Core.Path.{_≡_, refl, subst, _∙_}
+use mathlib.Core.Path.{_≡_, refl, subst}
 use mathlib.Core.List.{List, [], _∷_, _++_, map, append-nil}
 use native.Mathlib.Omega.{arith}
-use native.Mathlib.Nat.{add-zero, mod-lt, div-lt-iff-lt-mul, suc-mul}
+use native.Mathlib.Nat.{suc-mul}
 use lib.ListN.{length, getD, length-append}
 use Rattle.vocabulary.specs.Lists.{joined}
-use Rattle.numbers.specs.Numbers.{Bytes, number16, number32, bytes16}
-use Rattle.numbers.proofs.Stored.{bytes16-again}
-use Rattle.numbers.proofs.AllBytes.{bytes-nil, bytes-cons}
-use Rattle.acceptance.proofs.Locating.{PartAt, number16-behind, number32-behind, number16-part}
+use Rattle.numbers.specs.Numbers.{number16, number32}
+use Rattle.acceptance.proofs.Locating.{PartAt, number16-behind, number32-behind}
 use Rattle.acceptance.proofs.Cutting.{part-first, part-rest}
-
--- A number as two bytes. As four bytes: numbers/proofs/AllBytes.antt and acceptance/proofs/Locating.antt.
-pub bytes16-bytes : (n : ℕ) → n < 65536 → Bytes (bytes16 n)
-bytes16-bytes n h =
-    bytes-cons _ _ (div-lt-iff-lt-mul {k = 256} {x = n} {y = 256} (omega arith) .1 h) (bytes-cons _ _ (mod-lt n (omega arith)) bytes-nil)
-
-pub bytes16-number : (n : ℕ) (front rest : List ℕ) → number16 (front ++ (bytes16 n ++ rest)) (length front) ≡ n
-bytes16-number n front rest = rw add-zero at (number16-part front (bytes16 n) rest 0 (omega arith)) ∙ bytes16-again n
 
 -- What stands behind a front of so many bytes.
 module _ (front rest : List ℕ) (at : ℕ) (long : length front ≡ at) where

@@ -1,7 +1,7 @@
 -- Lists of bytes: each number is below 256. It holds of a list exactly when it holds of each of its parts: of the first byte and the rest,
 -- of two lists one behind the other, of the lists that are joined; and so of what `take` and `drop` leave. A lent slice of bytes is such a
 -- list.
-use Prim.Native.Nat.{ℕ, zero, suc, _/_, _<_}
+use Prim.Native.Nat.{ℕ, zero, suc, _+_, _/_, _<_}
 use mathlib.Core.Logic.{_↔_}
 use mathlib.Core.List.{List, [], _∷_, _++_}
 use native.Mathlib.Omega.{arith}
@@ -11,7 +11,7 @@ use mir.Syntax.{w8}
 use lib.ListN.{getD, take, drop, replicate, take-append-drop}
 use Rattle.vocabulary.specs.Lists.{joined, Every, none, also}
 use Rattle.vocabulary.proofs.EveryOne.{every-first, every-rest, every-append}
-use Rattle.numbers.specs.Numbers.{byteAt, Bytes, partOf, bytes32}
+use Rattle.numbers.specs.Numbers.{byteAt, Bytes, number16, number32, partOf, bytes16, bytes32}
 
 -- One of them, or the 0 past the end.
 pub bytes-getD : (xs : List ℕ) (i : ℕ) → Bytes xs → getD xs i 0 < 256
@@ -80,7 +80,22 @@ pub bytes-replicate : (n : ℕ) → Bytes (replicate n 0)
 bytes-replicate zero = bytes-nil
 bytes-replicate (suc n) = bytes-cons 0 (replicate n 0) (omega arith) (bytes-replicate n)
 
--- A number as four bytes.
+-- The numbers that are read in such a list.
+module _ (m : List ℕ) (bytes : Bytes m) where
+  pub number16-below : (at : ℕ) → number16 m at < 65536
+  unfolding number16
+  number16-below at = omega (arith, bytes at, bytes (at + 1))
+
+  pub number32-below : (at : ℕ) → number32 m at < 0x100000000
+  unfolding number32
+  number32-below at = omega (arith, number16-below at, number16-below (at + 2))
+
+-- A number as two bytes, and as four.
+pub bytes16-bytes : (n : ℕ) → n < 65536 → Bytes (bytes16 n)
+bytes16-bytes n h =
+    bytes-cons _ _ (div-lt-iff-lt-mul {k = 256} {x = n} {y = 256} (omega arith) .1 h)
+    (bytes-cons _ _ (mod-lt n (omega arith)) bytes-nil)
+
 pub bytes32-bytes : (n : ℕ) → n < 0x100000000 → Bytes (bytes32 n)
 bytes32-bytes n h =
     bytes-cons _ _ (div-lt-iff-lt-mul {k = 16777216} {x = n} {y = 256} (omega arith) .1 h)

@@ -1,5 +1,5 @@
 -- Records that stand in the module as they are shown: the bytes from a place on are the fields one behind the other.
-use Prim.Native.Nat.{ℕ, zero, suc, _+_, _*_, _<_}
+use Prim.Native.Nat.{ℕ, zero, suc, _+_, _*_}
 use mathlib.Core.Path.{_≡_, refl, sym, ap, _∙_}
 use mathlib.Core.List.{List, [], _∷_, _++_, map}
 use native.Mathlib.Omega.{arith}
@@ -8,6 +8,7 @@ use lib.IntN.{ℤ}
 use Rattle.vocabulary.specs.Lists.{joined}
 use Rattle.numbers.specs.Numbers.{byteAt, Bytes, number16, number32, signed16, eachFrom, bytesFrom, bytes16, bytes32, unsigned16}
 use Rattle.numbers.proofs.Stored.{number16-stored, number32-stored}
+use Rattle.numbers.proofs.AllBytes.{number16-below}
 use Rattle.blocks.specs.StoredFields.{songLength, instrumentSample, instrumentVolume, instrumentRate, instrumentLoopStart}
 use Rattle.blocks.specs.StoredFields.{instrumentLoopLength, instrumentPanning, envelopeFlags, envelopeSections, envelopeFirstSustain}
 use Rattle.blocks.specs.StoredFields.{envelopeLoopFirst, envelopeLoopLast, envelopeSecondSustain}
@@ -33,10 +34,6 @@ points-joined f g zero k = refl
 points-joined f g (suc n) k = ap (λ (rest : List ℕ). bytes16 (f k) ++ (bytes16 (unsigned16 (g k)) ++ rest)) (points-joined f g n (k + 1))
 
 module _ (m : List ℕ) (bytes : Bytes m) where
-  number16-small : (at : ℕ) → number16 m at < 65536
-  unfolding number16
-  number16-small at = omega (arith, bytes at, bytes (at + 1))
-
   pub two-bytes : (at : ℕ) → bytesFrom m at 2 ≡ bytes16 (number16 m at)
   two-bytes at = sym (number16-stored m bytes at)
 
@@ -70,7 +67,7 @@ module _ (m : List ℕ) (bytes : Bytes m) where
       ∙ ap (λ (rest : List ℕ). bytes32 (instrumentRate m at) ++ rest) (next32 8 (at + 38) (at + 42) (omega arith)
       ∙ ap (λ (rest : List ℕ). bytes32 (instrumentLoopStart m at) ++ rest) (next32 4 (at + 42) (at + 46) (omega arith)
       ∙ ap (λ (rest : List ℕ). bytes32 (instrumentLoopLength m at) ++ rest) (next16 2 (at + 46) (at + 48) (omega arith)
-      ∙ ap (λ (v : ℕ). bytes16 v ++ bytesFrom m (at + 48) 2) (sym (stored-again (instrumentPanning m at) (number16-small (at + 46))))
+      ∙ ap (λ (v : ℕ). bytes16 v ++ bytesFrom m (at + 48) 2) (sym (stored-again (instrumentPanning m at) (number16-below m bytes (at + 46))))
       ∙ ap (λ (rest : List ℕ). bytes16 (unsigned16 (signed16 (instrumentPanning m at))) ++ rest) (two-bytes (at + 48))))))))
 
   -- What stands before the points of an envelope.
