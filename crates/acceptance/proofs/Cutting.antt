@@ -55,14 +55,6 @@ size-least Pattern m at = omega arith
 size-least Sample m at = omega arith
 size-least Envelope m at = omega arith
 
-pub size-some : (kind : Kind) (m : List ℕ) (at : ℕ) → 0 < sizeOf kind m at
-unfolding sizeOf
-size-some Song m at = omega arith
-size-some Instrument m at = omega arith
-size-some Pattern m at = omega arith
-size-some Sample m at = omega arith
-size-some Envelope m at = omega arith
-
 -- A block that is as long as its own bytes say.
 abbrev pub Sized : Kind → List ℕ → Type 0
 Sized kind block = length block ≡ sizeOf kind block 0

@@ -11,9 +11,10 @@ use Rattle.vocabulary.proofs.EveryOne.{every-append}
 use Rattle.numbers.specs.Numbers.{number32}
 use Rattle.blocks.specs.Sizes.{sizeOf}
 use Rattle.blocks.specs.declared.Kind.{Kind}
+use Rattle.blocks.proofs.BlockSizes.{size-some}
 use Rattle.acceptance.specs.Rules.{ChunkBytes}
 use Rattle.acceptance.proofs.Locating.{number32-front, PartAt}
-use Rattle.acceptance.proofs.Cutting.{size-some, Sized, part-size}
+use Rattle.acceptance.proofs.Cutting.{Sized, part-size}
 
 pub split-same : (a b xs ys : List ℕ) → length a ≡ length b → a ++ xs ≡ b ++ ys → (a ≡ b) × (xs ≡ ys)
 split-same a b xs ys long e = (

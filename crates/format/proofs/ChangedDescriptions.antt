@@ -17,7 +17,7 @@ use Rattle.acceptance.specs.Rules.{NeedsInfo, VolumeFits, PanningValueFits}
 use Rattle.acceptance.proofs.Holding.{false-never}
 use Rattle.format.specs.Description.{Info, Song, Instrument, Pattern, Sample, Chunk, INFO, SONG, INST, PATT, SMPL, Description}
 use Rattle.format.specs.Encoding.{identifier, contents, chunkBytes, headerBytes, encoded}
-use Rattle.format.specs.WellFormed.{Fits32, InfoFits, SongFits, InstrumentFits, PatternFits, SampleFits, EnvelopesFit, In, Once, InfoFirst, WellFormed}
+use Rattle.format.specs.WellFormed.{Fits32, ListsFit, EnvelopesFit, In, Once, InfoFirst, WellFormed}
 use Rattle.format.proofs.ChunksIn.{in-within, within-in, every-in, once-letters, letters-once}
 use Rattle.format.proofs.ChunkKinds.{Kind, named, counted, songs, instruments, patterns, samples, volumes, pannings, others, kindOf, Holding, holder, held-as}
 
@@ -122,7 +122,7 @@ module _ (d : Description) (f : Chunk → Chunk) (g : List ℕ → List ℕ) (sa
       let chunks = map-map g chunkBytes (d .chunks) ∙ each ∙ sym (map-map chunkBytes f (d .chunks)) in
       ap (λ (list : List (List ℕ)). headerBytes d ++ joined list) chunks
 
--- What the mandatory chunks then hold, and that it fits: M9, B1 to B5, V1, V2, V6 and V7. The instruments are as many as before.
+-- What the mandatory chunks then hold, and that it fits. The instruments are as many as before.
 pub record HeldAfter {d : Description} (w : WellFormed d) (f : Chunk → Chunk) : Type 0 where
   pub info : Info
   pub songs : List Song
@@ -134,15 +134,7 @@ pub record HeldAfter {d : Description} (w : WellFormed d) (f : Chunk → Chunk) 
   pub instrumentsAre : f (INST (w .instruments)) ≡ INST instruments
   pub patternsAre : f (PATT (w .patterns)) ≡ PATT patterns
   pub samplesAre : f (SMPL (w .samples)) ≡ SMPL samples
-  pub infoFits : InfoFits info
-  pub songCount : length songs ≡ info .songs
-  pub instrumentCount : length instruments ≡ info .instruments
-  pub patternCount : length patterns ≡ info .patterns
-  pub sampleCount : length samples ≡ info .samples
-  pub songsFit : Every (SongFits (length patterns)) songs
-  pub instrumentsFit : Every (InstrumentFits samples) instruments
-  pub patternsFit : Every (PatternFits (info .tracks)) patterns
-  pub samplesFit : Every SampleFits samples
+  pub lists : ListsFit info songs instruments patterns samples
   pub asMany : length (w .instruments) ≡ length instruments
 
 -- NAME, the envelopes and other chunks do not change.
@@ -177,15 +169,7 @@ module _ {d : Description} (w : WellFormed d) {f : Chunk → Chunk} {changes : K
     instrumentsThere = there (held .instrumentsAre) (w .instrumentsThere);
     patternsThere = there (held .patternsAre) (w .patternsThere);
     samplesThere = there (held .samplesAre) (w .samplesThere);
-    infoFits = held .infoFits;
-    songCount = held .songCount;
-    instrumentCount = held .instrumentCount;
-    patternCount = held .patternCount;
-    sampleCount = held .sampleCount;
-    songsFit = held .songsFit;
-    instrumentsFit = held .instrumentsFit;
-    patternsFit = held .patternsFit;
-    samplesFit = held .samplesFit;
+    lists = held .lists;
     volumeEnvelopes = λ es i. subst (λ (n : ℕ). EnvelopesFit n VolumeFits es) (held .asMany) (w .volumeEnvelopes es (was-in f change (rest .volume) i));
     panningEnvelopes = λ es i. subst (λ (n : ℕ). EnvelopesFit n values es) (held .asMany) (w .panningEnvelopes es (was-in f change (rest .panning) i));
   }

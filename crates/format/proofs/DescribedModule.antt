@@ -306,15 +306,17 @@ module _ (m : List ℕ) (bytes : Bytes m) (r : Rules m) where
     instrumentsThere = there Covered.inst (r .instThere);
     patternsThere = there Covered.patt (r .pattThere);
     samplesThere = there Covered.smpl (r .smplThere);
-    infoFits = info-fits (r .info) (among-bytes (r .infoThere)) (rules .info (r .info) (r .infoThere));
-    songCount = omega (arith, length-map (content .songs) songIn, content .songsFill .number);
-    instrumentCount = instrument-count ∙ content .instrumentsFill .number;
-    patternCount = pattern-count ∙ content .patternsFill .number;
-    sampleCount = length-map (content .samples) sampleIn ∙ content .samplesFill .number;
-    songsFit = rw pattern-count (all-fit songIn songs-bytes (content .songRules) (song-fits (length (content .patterns))));
-    instrumentsFit = all-fit instrumentIn instruments-bytes instrument-rules (instrument-fits samples);
-    patternsFit = patterns-fit (number16 (r .info) 16) (content .patternRules) patterns-bytes;
-    samplesFit = all-fit sampleIn samples-bytes (content .sampleRules) sample-fits;
+    lists = record {
+      infoFits = info-fits (r .info) (among-bytes (r .infoThere)) (rules .info (r .info) (r .infoThere));
+      songCount = omega (arith, length-map (content .songs) songIn, content .songsFill .number);
+      instrumentCount = instrument-count ∙ content .instrumentsFill .number;
+      patternCount = pattern-count ∙ content .patternsFill .number;
+      sampleCount = length-map (content .samples) sampleIn ∙ content .samplesFill .number;
+      songsFit = rw pattern-count (all-fit songIn songs-bytes (content .songRules) (song-fits (length (content .patterns))));
+      instrumentsFit = all-fit instrumentIn instruments-bytes instrument-rules (instrument-fits samples);
+      patternsFit = patterns-fit (number16 (r .info) 16) (content .patternRules) patterns-bytes;
+      samplesFit = all-fit sampleIn samples-bytes (content .sampleRules) sample-fits;
+    };
     volumeEnvelopes = λ es i. rw instrument-count (within-every all-held (in-within i));
     panningEnvelopes = λ es i. rw instrument-count (within-every all-held (in-within i));
   }

@@ -111,13 +111,13 @@ module _ (d : Description) (w : WellFormed d) where
 
   -- M9, B1: the records are so few that their numbers fit 2 bytes.
   few-patterns : length (w .patterns) ≤ 65536
-  few-patterns = omega (arith, w .patternCount, w .infoFits .patterns)
+  few-patterns = omega (arith, w .lists .patternCount, w .lists .infoFits .patterns)
 
   few-samples : length (w .samples) < 65536
-  few-samples = omega (arith, w .sampleCount, w .infoFits .samples)
+  few-samples = omega (arith, w .lists .sampleCount, w .lists .infoFits .samples)
 
   few-instruments : length (w .instruments) < 65536
-  few-instruments = omega (arith, w .instrumentCount, w .infoFits .instruments)
+  few-instruments = omega (arith, w .lists .instrumentCount, w .lists .infoFits .instruments)
 
   -- What a chunk holds is bytes: of the mandatory ones, which are there once, what the description has of them.
   same-bytes : {c e : Chunk} → In (d .chunks) c → In (d .chunks) e → Covered (identifier c) → identifier c ≡ identifier e → Bytes (contents e) → Bytes (contents c)
@@ -125,14 +125,14 @@ module _ (d : Description) (w : WellFormed d) where
 
   held-bytes : (c : Chunk) → In (d .chunks) c → Bytes (contents c)
   held-bytes (NAME held) i = w .name held i .1
-  held-bytes (INFO held) i = same-bytes i (w .infoThere) Covered.info refl (info-bytes (w .info) (w .infoFits))
+  held-bytes (INFO held) i = same-bytes i (w .infoThere) Covered.info refl (info-bytes (w .info) (w .lists .infoFits))
   held-bytes (SONG held) i =
-      same-bytes i (w .songsThere) Covered.song refl (all-bytes songBytes (λ s h. song-bytes (length (w .patterns)) s h few-patterns) (w .songs) (w .songsFit))
+      same-bytes i (w .songsThere) Covered.song refl (all-bytes songBytes (λ s h. song-bytes (length (w .patterns)) s h few-patterns) (w .songs) (w .lists .songsFit))
   held-bytes (INST held) i =
-      same-bytes i (w .instrumentsThere) Covered.inst refl (all-bytes instrumentBytes (λ n h. instrument-bytes (w .samples) n h few-samples) (w .instruments) (w .instrumentsFit))
+      same-bytes i (w .instrumentsThere) Covered.inst refl (all-bytes instrumentBytes (λ n h. instrument-bytes (w .samples) n h few-samples) (w .instruments) (w .lists .instrumentsFit))
   held-bytes (PATT held) i =
-      same-bytes i (w .patternsThere) Covered.patt refl (all-bytes patternBytes (λ p h. pattern-bytes (w .info .tracks) p h (w .infoFits .tracks .1)) (w .patterns) (w .patternsFit))
-  held-bytes (SMPL held) i = same-bytes i (w .samplesThere) Covered.smpl refl (all-bytes sampleBytes sample-bytes (w .samples) (w .samplesFit))
+      same-bytes i (w .patternsThere) Covered.patt refl (all-bytes patternBytes (λ p h. pattern-bytes (w .info .tracks) p h (w .lists .infoFits .tracks .1)) (w .patterns) (w .lists .patternsFit))
+  held-bytes (SMPL held) i = same-bytes i (w .samplesThere) Covered.smpl refl (all-bytes sampleBytes sample-bytes (w .samples) (w .lists .samplesFit))
   held-bytes (VENV held) i = envelopes-bytes (length (w .instruments)) _ held (w .volumeEnvelopes held i) few-instruments
   held-bytes (PENV held) i = envelopes-bytes (length (w .instruments)) _ held (w .panningEnvelopes held i) few-instruments
   held-bytes (Other letters held) i = w .others letters held i .bytes
@@ -230,7 +230,7 @@ module _ (d : Description) (w : WellFormed d) where
         );
     info = λ chunk a. (
         let (held, i, same) = among-info chunk a in
-        subst InfoRules (sym (same ∙ ap chunkBytes (in-once (w .once) i (w .infoThere) Covered.info refl))) (info-rules (w .info) (w .infoFits))
+        subst InfoRules (sym (same ∙ ap chunkBytes (in-once (w .once) i (w .infoThere) Covered.info refl))) (info-rules (w .info) (w .lists .infoFits))
         );
   }
 
@@ -246,14 +246,14 @@ module _ (d : Description) (w : WellFormed d) where
     instruments = map instrumentBytes (w .instruments);
     patterns = map patternBytes (w .patterns);
     samples = map sampleBytes (w .samples);
-    songsFill = fills songLetters refl songBytes (w .songs) (w .songCount ∙ sym (info-at (w .info) 4 ∙ info-songs (w .info)));
-    instrumentsFill = fills instLetters refl instrumentBytes (w .instruments) (w .instrumentCount ∙ sym (info-at (w .info) 0 ∙ info-instruments (w .info)));
-    patternsFill = fills pattLetters refl patternBytes (w .patterns) (w .patternCount ∙ sym (info-at (w .info) 6 ∙ info-patterns (w .info)));
-    samplesFill = fills smplLetters refl sampleBytes (w .samples) (w .sampleCount ∙ sym (info-at (w .info) 2 ∙ info-samples (w .info)));
-    songRules = rw (length-map (w .patterns) patternBytes) (every-map songBytes (w .songs) .1 (every-of (song-rules (length (w .patterns))) (w .songsFit)));
-    instrumentRules = every-map instrumentBytes (w .instruments) .1 (every-of (instrument-rules (w .samples)) (w .instrumentsFit));
-    patternRules = rw (info-at (w .info) 8 ∙ info-tracks (w .info)) (every-map patternBytes (w .patterns) .1 (every-of (pattern-rules (w .info .tracks)) (w .patternsFit)));
-    sampleRules = every-map sampleBytes (w .samples) .1 (every-of sample-rules (w .samplesFit));
+    songsFill = fills songLetters refl songBytes (w .songs) (w .lists .songCount ∙ sym (info-at (w .info) 4 ∙ info-songs (w .info)));
+    instrumentsFill = fills instLetters refl instrumentBytes (w .instruments) (w .lists .instrumentCount ∙ sym (info-at (w .info) 0 ∙ info-instruments (w .info)));
+    patternsFill = fills pattLetters refl patternBytes (w .patterns) (w .lists .patternCount ∙ sym (info-at (w .info) 6 ∙ info-patterns (w .info)));
+    samplesFill = fills smplLetters refl sampleBytes (w .samples) (w .lists .sampleCount ∙ sym (info-at (w .info) 2 ∙ info-samples (w .info)));
+    songRules = rw (length-map (w .patterns) patternBytes) (every-map songBytes (w .songs) .1 (every-of (song-rules (length (w .patterns))) (w .lists .songsFit)));
+    instrumentRules = every-map instrumentBytes (w .instruments) .1 (every-of (instrument-rules (w .samples)) (w .lists .instrumentsFit));
+    patternRules = rw (info-at (w .info) 8 ∙ info-tracks (w .info)) (every-map patternBytes (w .patterns) .1 (every-of (pattern-rules (w .info .tracks)) (w .lists .patternsFit)));
+    sampleRules = every-map sampleBytes (w .samples) .1 (every-of sample-rules (w .lists .samplesFit));
     volumeEnvelopes = λ chunk a. (
         let (held, i, same) = among-venv chunk a in
         let fits = rw (← length-map (w .instruments) instrumentBytes) at (w .volumeEnvelopes held i) in

@@ -56,7 +56,7 @@ module _ (d : Description) (w : WellFormed d) {l : Layout} (layout : LayoutOf (e
       subst (Listed (encoded d) l SongThing songBytes (SongFits (length (w .patterns)))) same
       (chunk-listed SongThing songBytes song-sized (songLetters ++ bytes32 (length (joined (map songBytes (w .songs))))) (w .songs)
       (layout .song .stands (chunkBytes (SONG (w .songs))) (in-among (d .chunks) (SONG (w .songs)) (w .songsThere) refl)) refl
-      (info-numbers d w layout (w .info) (w .infoThere) .2 ∙ sym (w .songCount)) (w .songsFit))
+      (info-numbers d w layout (w .info) (w .infoThere) .2 ∙ sym (w .lists .songCount)) (w .lists .songsFit))
 
   pub instruments-listed : (instruments : List Instrument) → In (d .chunks) (INST instruments) → Listed (encoded d) l InstrumentThing instrumentBytes (InstrumentFits (w .samples)) instruments
   instruments-listed instruments i =
@@ -65,7 +65,7 @@ module _ (d : Description) (w : WellFormed d) {l : Layout} (layout : LayoutOf (e
       subst (Listed (encoded d) l InstrumentThing instrumentBytes (InstrumentFits (w .samples))) same
       (chunk-listed InstrumentThing instrumentBytes instrument-sized (instLetters ++ bytes32 (length (joined (map instrumentBytes (w .instruments))))) (w .instruments)
       (layout .inst .stands (chunkBytes (INST (w .instruments))) (in-among (d .chunks) (INST (w .instruments)) (w .instrumentsThere) refl)) refl
-      (info-numbers d w layout (w .info) (w .infoThere) .0 ∙ sym (w .instrumentCount)) (w .instrumentsFit))
+      (info-numbers d w layout (w .info) (w .infoThere) .0 ∙ sym (w .lists .instrumentCount)) (w .lists .instrumentsFit))
 
   pub info-same : (info : Info) → In (d .chunks) (INFO info) → w .info ≡ info
   info-same info i =
@@ -79,7 +79,7 @@ module _ (d : Description) (w : WellFormed d) {l : Layout} (layout : LayoutOf (e
       subst₂ (λ (info : Info) (patterns : List Pattern). Listed (encoded d) l PatternThing patternBytes (PatternFits (info .tracks)) patterns) (info-same info j) same
       (chunk-listed PatternThing patternBytes pattern-sized (pattLetters ++ bytes32 (length (joined (map patternBytes (w .patterns))))) (w .patterns)
       (layout .patt .stands (chunkBytes (PATT (w .patterns))) (in-among (d .chunks) (PATT (w .patterns)) (w .patternsThere) refl)) refl
-      (info-numbers d w layout (w .info) (w .infoThere) .3 ∙ sym (w .patternCount)) (w .patternsFit))
+      (info-numbers d w layout (w .info) (w .infoThere) .3 ∙ sym (w .lists .patternCount)) (w .lists .patternsFit))
 
   pub samples-listed : (samples : List Sample) → In (d .chunks) (SMPL samples) → Listed (encoded d) l SampleThing sampleBytes SampleFits samples
   samples-listed samples i =
@@ -88,7 +88,7 @@ module _ (d : Description) (w : WellFormed d) {l : Layout} (layout : LayoutOf (e
       subst (Listed (encoded d) l SampleThing sampleBytes SampleFits) same
       (chunk-listed SampleThing sampleBytes (λ s f. sample-sized s) (smplLetters ++ bytes32 (length (joined (map sampleBytes (w .samples))))) (w .samples)
       (layout .smpl .stands (chunkBytes (SMPL (w .samples))) (in-among (d .chunks) (SMPL (w .samples)) (w .samplesThere) refl)) refl
-      (info-numbers d w layout (w .info) (w .infoThere) .1 ∙ sym (w .sampleCount)) (w .samplesFit))
+      (info-numbers d w layout (w .info) (w .infoThere) .1 ∙ sym (w .lists .sampleCount)) (w .lists .samplesFit))
 
   -- NAME and the envelopes' chunks are missing where the description has none.
   pub name-missing : ((other : List ℕ) → In (d .chunks) (NAME other) → ⊥) → l .places .name .present ≡ false

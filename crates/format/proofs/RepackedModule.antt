@@ -72,15 +72,15 @@ module _ (d : Description) (w : WellFormed d) where
         (stands-part (layout .patt .stands (chunkBytes (PATT (w .patterns))) (in-among (d .chunks) (PATT (w .patterns)) (w .patternsThere) refl)))
 
     blocks-sized : Every (Sized PatternKind) (map patternBytes (w .patterns))
-    blocks-sized = every-map patternBytes (w .patterns) .1 (every-of (λ p f. pattern-sized tracks (patternBytes p) (pattern-rules tracks p f)) (w .patternsFit))
+    blocks-sized = every-map patternBytes (w .patterns) .1 (every-of (λ p f. pattern-sized tracks (patternBytes p) (pattern-rules tracks p f)) (w .lists .patternsFit))
 
     content-is : repackedPatterns (encoded d) l ≡ content
     content-is =
         let numbers = info-numbers d w layout (w .info) (w .infoThere) in
-        let many : length (map patternBytes (w .patterns)) ≡ l .patterns = length-map (w .patterns) patternBytes ∙ w .patternCount ∙ sym (numbers .3) in
+        let many : length (map patternBytes (w .patterns)) ≡ l .patterns = length-map (w .patterns) patternBytes ∙ w .lists .patternCount ∙ sym (numbers .3) in
         let at : ℕ = l .places .patt .at + 8 in
         let blocks : map (repackedBlock (encoded d) tracks) (placesFrom (sizeOf PatternKind (encoded d)) (length (map patternBytes (w .patterns))) at) ≡ map (blockAnew tracks) (map patternBytes (w .patterns)) = blocks-anew tracks at (map patternBytes (w .patterns)) patterns-there blocks-sized in
-        let same : map (blockAnew tracks) (map patternBytes (w .patterns)) ≡ map patternBytes (map (repackedPattern tracks) (w .patterns)) = map-map (blockAnew tracks) patternBytes (w .patterns) ∙ map-same (λ p. blockAnew tracks (patternBytes p)) (λ p. patternBytes (repackedPattern tracks p)) (every-of (pattern-anew tracks) (w .patternsFit)) ∙ sym (map-map patternBytes (repackedPattern tracks) (w .patterns)) in
+        let same : map (blockAnew tracks) (map patternBytes (w .patterns)) ≡ map patternBytes (map (repackedPattern tracks) (w .patterns)) = map-map (blockAnew tracks) patternBytes (w .patterns) ∙ map-same (λ p. blockAnew tracks (patternBytes p)) (λ p. patternBytes (repackedPattern tracks p)) (every-of (pattern-anew tracks) (w .lists .patternsFit)) ∙ sym (map-map patternBytes (repackedPattern tracks) (w .patterns)) in
         ap (λ (n : ℕ). joined (map (repackedBlock (encoded d) n) (placesFrom (sizeOf PatternKind (encoded d)) (l .patterns) at))) (numbers .4)
         ∙ ap (λ (n : ℕ). joined (map (repackedBlock (encoded d) tracks) (placesFrom (sizeOf PatternKind (encoded d)) n at))) (sym many)
         ∙ ap joined (blocks ∙ same)
@@ -128,14 +128,16 @@ module _ (d : Description) (w : WellFormed d) where
     instrumentsAre = refl;
     patternsAre = refl;
     samplesAre = refl;
-    infoFits = w .infoFits;
-    songCount = w .songCount;
-    instrumentCount = w .instrumentCount;
-    patternCount = many ∙ w .patternCount;
-    sampleCount = w .sampleCount;
-    songsFit = rw many (w .songsFit);
-    instrumentsFit = w .instrumentsFit;
-    patternsFit = every-map (repackedPattern (tracks d w)) (w .patterns) .1 (every-of (λ p f. pattern-fits (tracks d w) p f (w .infoFits .tracks .1)) (w .patternsFit));
-    samplesFit = w .samplesFit;
+    lists = record {
+      infoFits = w .lists .infoFits;
+      songCount = w .lists .songCount;
+      instrumentCount = w .lists .instrumentCount;
+      patternCount = many ∙ w .lists .patternCount;
+      sampleCount = w .lists .sampleCount;
+      songsFit = rw many (w .lists .songsFit);
+      instrumentsFit = w .lists .instrumentsFit;
+      patternsFit = every-map (repackedPattern (tracks d w)) (w .patterns) .1 (every-of (λ p f. pattern-fits (tracks d w) p f (w .lists .infoFits .tracks .1)) (w .lists .patternsFit));
+      samplesFit = w .lists .samplesFit;
+    };
     asMany = refl;
   })

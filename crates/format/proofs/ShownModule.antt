@@ -86,7 +86,7 @@ module _ (d : Description) (w : WellFormed d) {l : Layout} (opens : opened (enco
   -- Q10: the cells of a pattern, by the tracks that INFO says.
   module _ (info : Info) (patterns : List Pattern) (j : In (d .chunks) (INFO info)) (i : In (d .chunks) (PATT patterns)) (number : ℕ) where
     tracks-fit : TracksFit (info .tracks)
-    tracks-fit = subst (λ (info : Info). TracksFit (info .tracks)) (info-same d w layout info j) (w .infoFits .tracks)
+    tracks-fit = subst (λ (info : Info). TracksFit (info .tracks)) (info-same d w layout info j) (w .lists .infoFits .tracks)
 
     tracks-same : l .tracks ≡ info .tracks
     tracks-same = info-numbers d w layout info j .4

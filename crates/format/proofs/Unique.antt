@@ -38,13 +38,13 @@ module _ (d : Description) (w : WellFormed d) where
   chunk-told (INFO info) i = tt
   chunk-told (SONG list) i =
       let same : w .songs ≡ list = cc (in-once (w .once) (w .songsThere) i Covered.song refl) in
-      subst (Every (λ s. length (s .name) ≡ 44)) same (every-of (λ s f. f .name .0) (w .songsFit))
+      subst (Every (λ s. length (s .name) ≡ 44)) same (every-of (λ s f. f .name .0) (w .lists .songsFit))
   chunk-told (INST list) i =
       let same : w .instruments ≡ list = cc (in-once (w .once) (w .instrumentsThere) i Covered.inst refl) in
-      subst (Every (λ s. length (s .name) ≡ 30)) same (every-of (λ s f. f .name .0) (w .instrumentsFit))
+      subst (Every (λ s. length (s .name) ≡ 30)) same (every-of (λ s f. f .name .0) (w .lists .instrumentsFit))
   chunk-told (PATT list) i =
       let same : w .patterns ≡ list = cc (in-once (w .once) (w .patternsThere) i Covered.patt refl) in
-      subst (Every (PatternFits (w .info .tracks))) same (w .patternsFit)
+      subst (Every (PatternFits (w .info .tracks))) same (w .lists .patternsFit)
   chunk-told (SMPL list) i = tt
   chunk-told (VENV list) i = every-of (λ e f. f .many) (w .volumeEnvelopes list i .each)
   chunk-told (PENV list) i = every-of (λ e f. f .many) (w .panningEnvelopes list i .each)

@@ -130,6 +130,20 @@ Once chunks = (before between after : List Chunk) (one two : Chunk) → chunks �
 abbrev pub InfoFirst : List Chunk → Type 0
 InfoFirst chunks = (before after : List Chunk) (c : Chunk) → chunks ≡ before ++ (c ∷ after) → NeedsInfo (identifier c) → (info : Info) × In before (INFO info)
 
+-- What the mandatory chunks hold.
+pub record ListsFit (info : Info) (songs : List Song) (instruments : List Instrument) (patterns : List Pattern) (samples : List Sample) : Type 0 where
+  -- M9, B1: INFO's numbers are those of the lists.
+  pub infoFits : InfoFits info
+  pub songCount : length songs ≡ info .songs
+  pub instrumentCount : length instruments ≡ info .instruments
+  pub patternCount : length patterns ≡ info .patterns
+  pub sampleCount : length samples ≡ info .samples
+  -- B2 to B5, V1, V2, V6 and V7.
+  pub songsFit : Every (SongFits (length patterns)) songs
+  pub instrumentsFit : Every (InstrumentFits samples) instruments
+  pub patternsFit : Every (PatternFits (info .tracks)) patterns
+  pub samplesFit : Every SampleFits samples
+
 -- A description of a module.
 pub record WellFormed (d : Description) : Type 0 where
   -- M2: at most 16,777,216 bytes.
@@ -156,16 +170,7 @@ pub record WellFormed (d : Description) : Type 0 where
   pub instrumentsThere : In (d .chunks) (INST instruments)
   pub patternsThere : In (d .chunks) (PATT patterns)
   pub samplesThere : In (d .chunks) (SMPL samples)
-  -- M9, B1: INFO's numbers are those of the lists.
-  pub infoFits : InfoFits info
-  pub songCount : length songs ≡ info .songs
-  pub instrumentCount : length instruments ≡ info .instruments
-  pub patternCount : length patterns ≡ info .patterns
-  pub sampleCount : length samples ≡ info .samples
-  -- B2 to B6, V1 to V7.
-  pub songsFit : Every (SongFits (length patterns)) songs
-  pub instrumentsFit : Every (InstrumentFits samples) instruments
-  pub patternsFit : Every (PatternFits (info .tracks)) patterns
-  pub samplesFit : Every SampleFits samples
+  pub lists : ListsFit info songs instruments patterns samples
+  -- B6, V3 to V5: the envelopes, where there are some.
   pub volumeEnvelopes : (es : List Envelope) → In (d .chunks) (VENV es) → EnvelopesFit (length instruments) VolumeFits es
   pub panningEnvelopes : (es : List Envelope) → In (d .chunks) (PENV es) → EnvelopesFit (length instruments) (PanningValueFits (d .version)) es
