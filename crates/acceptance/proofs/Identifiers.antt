@@ -77,44 +77,33 @@ identifierOf Covered.smpl = SMPL
 identifierOf Covered.venv = VENV
 identifierOf Covered.penv = PENV
 
-covered-bytes : {letters : List ℕ} → Covered letters → FourBytes letters
-covered-bytes Covered.name = four-bytes nameLetters refl
-covered-bytes Covered.info = four-bytes infoLetters refl
-covered-bytes Covered.song = four-bytes songLetters refl
-covered-bytes Covered.inst = four-bytes instLetters refl
-covered-bytes Covered.patt = four-bytes pattLetters refl
-covered-bytes Covered.smpl = four-bytes smplLetters refl
-covered-bytes Covered.venv = four-bytes venvLetters refl
-covered-bytes Covered.penv = four-bytes penvLetters refl
+-- What is computed of each of them: its letters are four bytes, whose number is the identifier, which the check takes for covered.
+record Identifies (letters : List ℕ) (identifier : ℕ) : Type 0 where
+  four : eqb (length letters) 4 && allBelow letters ≡ true
+  number : number32 letters 0 ≡ identifier
+  taken : covered identifier ≡ true
 
-covered-number : {letters : List ℕ} (covers : Covered letters) → number32 letters 0 ≡ identifierOf covers
+covered-identified : {letters : List ℕ} (covers : Covered letters) → Identifies letters (identifierOf covers)
 unfolding number32 number16 byteAt
-covered-number Covered.name = refl
-covered-number Covered.info = refl
-covered-number Covered.song = refl
-covered-number Covered.inst = refl
-covered-number Covered.patt = refl
-covered-number Covered.smpl = refl
-covered-number Covered.venv = refl
-covered-number Covered.penv = refl
+covered-identified Covered.name = record { four = refl; number = refl; taken = refl }
+covered-identified Covered.info = record { four = refl; number = refl; taken = refl }
+covered-identified Covered.song = record { four = refl; number = refl; taken = refl }
+covered-identified Covered.inst = record { four = refl; number = refl; taken = refl }
+covered-identified Covered.patt = record { four = refl; number = refl; taken = refl }
+covered-identified Covered.smpl = record { four = refl; number = refl; taken = refl }
+covered-identified Covered.venv = record { four = refl; number = refl; taken = refl }
+covered-identified Covered.penv = record { four = refl; number = refl; taken = refl }
 
 -- A chunk has that identifier exactly where it has those letters.
 pub chunk-named : {chunk letters : List ℕ} → ChunkBytes chunk → (covers : Covered letters) → (number32 chunk 0 ≡ identifierOf covers) ↔ (take 4 chunk ≡ letters)
-chunk-named {chunk} {letters} c covers = rw (← covered-number covers) (
-  number-letters chunk letters (omega (arith, c .size)) (λ i h. omega (arith, c .letters i h .1)) (covered-bytes covers),
+chunk-named {chunk} {letters} c covers = rw (← covered-identified covers .number) (
+  number-letters chunk letters (omega (arith, c .size)) (λ i h. omega (arith, c .letters i h .1)) (four-bytes letters (covered-identified covers .four)),
   letters-number chunk letters,
 )
 
 -- The check takes exactly these identifiers for covered.
 pub covered-holds : {letters : List ℕ} (covers : Covered letters) → covered (identifierOf covers) ≡ true
-covered-holds Covered.name = refl
-covered-holds Covered.info = refl
-covered-holds Covered.song = refl
-covered-holds Covered.inst = refl
-covered-holds Covered.patt = refl
-covered-holds Covered.smpl = refl
-covered-holds Covered.venv = refl
-covered-holds Covered.penv = refl
+covered-holds covers = covered-identified covers .taken
 
 -- The four that INFO stands before are covered.
 abbrev pub needing : {letters : List ℕ} → NeedsInfo letters → Covered letters

@@ -81,7 +81,7 @@ Told tracks (PENV list) = Every (λ e. length (e .points) ≡ 32) list
 Told tracks (Other letters bytes) = OtherFits letters bytes
 
 -- The kind by the identifier as one number.
-kindBy : ℕ → Kind
+abbrev pub kindBy : ℕ → Kind
 kindBy n =
     cond (eqb n (identifierOf Covered.name)) named
     (cond (eqb n (identifierOf Covered.info)) counted
@@ -98,21 +98,24 @@ not-covered letters bytes fits c {covering} covers =
     ne-eqb _ _ (λ same. fits .notCovered (subst Covered (sym (chunk-named c covers .0 same) ∙ four) covers))
 
 other-read : (letters bytes : List ℕ) → OtherFits letters bytes → ChunkBytes (chunkBytes (Other letters bytes)) → kindBy (number32 (chunkBytes (Other letters bytes)) 0) ≡ others
-unfolding kindBy
 other-read letters bytes h c =
     simp (not-covered letters bytes h c Covered.name, not-covered letters bytes h c Covered.info, not-covered letters bytes h c Covered.song, not-covered letters bytes h c Covered.inst, not-covered letters bytes h c Covered.patt, not-covered letters bytes h c Covered.smpl, not-covered letters bytes h c Covered.venv, not-covered letters bytes h c Covered.penv)
 
-kind-read : (tracks : ℕ) (c : Chunk) → Told tracks c → ChunkBytes (chunkBytes c) → kindBy (number32 (chunkBytes c) 0) ≡ kindOf c
-unfolding kindBy number32 number16 byteAt
-kind-read tracks (NAME name) h c = refl
-kind-read tracks (INFO info) h c = refl
-kind-read tracks (SONG list) h c = refl
-kind-read tracks (INST list) h c = refl
-kind-read tracks (PATT list) h c = refl
-kind-read tracks (SMPL list) h c = refl
-kind-read tracks (VENV list) h c = refl
-kind-read tracks (PENV list) h c = refl
-kind-read tracks (Other letters bytes) h c = other-read letters bytes h c
+kind-read : (c : Chunk) → ((letters bytes : List ℕ) → c ≡ Other letters bytes → OtherFits letters bytes) → ChunkBytes (chunkBytes c) → kindBy (number32 (chunkBytes c) 0) ≡ kindOf c
+unfolding number32 number16 byteAt
+kind-read (NAME name) other c = refl
+kind-read (INFO info) other c = refl
+kind-read (SONG list) other c = refl
+kind-read (INST list) other c = refl
+kind-read (PATT list) other c = refl
+kind-read (SMPL list) other c = refl
+kind-read (VENV list) other c = refl
+kind-read (PENV list) other c = refl
+kind-read (Other letters bytes) other c = other-read letters bytes (other letters bytes refl) c
+
+-- A chunk with covered letters is of the kind that they name.
+pub kind-covered : (c : Chunk) → ((letters bytes : List ℕ) → c ≡ Other letters bytes → OtherFits letters bytes) → ChunkBytes (chunkBytes c) → {letters : List ℕ} (covers : Covered letters) → take 4 (chunkBytes c) ≡ letters → kindOf c ≡ kindBy (identifierOf covers)
+kind-covered c other whole covers same = sym (kind-read c other whole) ∙ ap kindBy (chunk-named whole covers .1 same)
 
 -- A chunk of which the bytes tell the end, and that is whole.
 pub record Plain (tracks : ℕ) (c : Chunk) : Type 0 where
@@ -121,7 +124,9 @@ pub record Plain (tracks : ℕ) (c : Chunk) : Type 0 where
 
 pub kind-same : {tracks tracks′ : ℕ} {c other : Chunk} → Plain tracks c → Plain tracks′ other → chunkBytes c ≡ chunkBytes other → kindOf c ≡ kindOf other
 kind-same {tracks} {tracks′} {c} {other} p q e =
-    sym (kind-read tracks c (p .told) (p .whole)) ∙ ap (λ (chunk : List ℕ). kindBy (number32 chunk 0)) e ∙ kind-read tracks′ other (q .told) (q .whole)
+    sym (kind-read c (λ letters bytes is. subst (Told tracks) is (p .told)) (p .whole))
+    ∙ ap (λ (chunk : List ℕ). kindBy (number32 chunk 0)) e
+    ∙ kind-read other (λ letters bytes is. subst (Told tracks′) is (q .told)) (q .whole)
 
 -- The parts of a chunk: its identifier, and its data behind their length.
 pub parts-same : (letters letters′ bytes bytes′ : List ℕ) → length letters ≡ length letters′ → letters ++ (bytes32 (length bytes) ++ bytes) ≡ letters′ ++ (bytes32 (length bytes′) ++ bytes′) → (letters ≡ letters′) × (bytes ≡ bytes′)

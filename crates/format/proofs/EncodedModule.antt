@@ -22,13 +22,15 @@ use Rattle.numbers.specs.Numbers.{byteAt, Bytes, number32, bytes32}
 use Rattle.acceptance.specs.Rules.{ChunkBytes, Covered, NeedsInfo, Among, AtMostOnce, BehindInfo, InfoRules, Filled, EnvelopesRules, VolumeFits, PanningValueFits, Content, ChunkRules, Rules}
 use Rattle.acceptance.proofs.Locating.{byteAt-front, bytes32-number}
 use Rattle.acceptance.proofs.Holding.{leb-says, and-says}
+use Rattle.acceptance.proofs.Identifiers.{identifierOf}
 use Rattle.acceptance.proofs.Acceptance.{accepted-exactly}
 use Rattle.acceptance.proofs.Recorded.{among-within, within-among}
-use Rattle.format.specs.Description.{Info, Song, Instrument, Pattern, Sample, Envelope, Chunk, NAME, INFO, SONG, INST, PATT, SMPL, VENV, PENV, Other, Description}
+use Rattle.format.specs.Description.{Chunk, NAME, INFO, SONG, INST, PATT, SMPL, VENV, PENV, Other, Description}
 use Rattle.format.specs.Encoding.{songBytes, instrumentBytes, patternBytes, sampleBytes, envelopesBytes, identifier, contents, chunkBytes, headerBytes, encoded}
 use Rattle.format.specs.WellFormed.{In, Fits32, WellFormed}
 use Rattle.format.proofs.ReadingBlocks.{info-instruments, info-samples, info-songs, info-patterns, info-tracks}
 use Rattle.format.proofs.ChunksIn.{in-within, within-in, every-in, in-every, once-letters, in-once}
+use Rattle.format.proofs.ChunkKinds.{holder, held-as, kindBy, kind-covered}
 use Rattle.format.proofs.EncodedBlocks.{all-bytes, filled-by, info-at, info-bytes, info-rules, song-bytes, song-rules, instrument-bytes, instrument-rules, pattern-bytes, pattern-rules, sample-bytes, sample-rules, envelopes-bytes, envelopes-rules}
 
 -- M5: an identifier is four letters A to Z.
@@ -74,29 +76,7 @@ module _ (c : Chunk) (letters : Capitals (identifier c)) where
 pub in-among : (chunks : List Chunk) (c : Chunk) → In chunks c → length (identifier c) ≡ 4 → Among (map chunkBytes chunks) (identifier c) (chunkBytes c)
 in-among chunks c i four = within-among (within-mapped chunkBytes (in-within i)) (take-at (identifier c) _ 4 four)
 
--- A covered chunk, by its letters.
-pub data Known : List ℕ → Chunk → Type 0 where
-  name : (held : List ℕ) → Known nameLetters (NAME held)
-  info : (held : Info) → Known infoLetters (INFO held)
-  song : (held : List Song) → Known songLetters (SONG held)
-  inst : (held : List Instrument) → Known instLetters (INST held)
-  patt : (held : List Pattern) → Known pattLetters (PATT held)
-  smpl : (held : List Sample) → Known smplLetters (SMPL held)
-  venv : (held : List Envelope) → Known venvLetters (VENV held)
-  penv : (held : List Envelope) → Known penvLetters (PENV held)
-
 module _ (d : Description) (w : WellFormed d) where
-  pub known-by : (c : Chunk) → In (d .chunks) c → Covered (identifier c) → Known (identifier c) c
-  known-by (NAME held) i covers = Known.name held
-  known-by (INFO held) i covers = Known.info held
-  known-by (SONG held) i covers = Known.song held
-  known-by (INST held) i covers = Known.inst held
-  known-by (PATT held) i covers = Known.patt held
-  known-by (SMPL held) i covers = Known.smpl held
-  known-by (VENV held) i covers = Known.venv held
-  known-by (PENV held) i covers = Known.penv held
-  known-by (Other letters held) i covers = absurd (w .others letters held i .notCovered covers)
-
   -- M5: the identifier of each is of four letters.
   chunk-letters : (c : Chunk) → In (d .chunks) c → Capitals (identifier c)
   chunk-letters (NAME held) i = capitals nameLetters refl refl
@@ -165,39 +145,18 @@ module _ (d : Description) (w : WellFormed d) where
       let (c, within, same) = mapped-within chunkBytes (among-within a) in
       (c, within-in within, letters-of c (within-in within) same (a .named), same)
 
-  -- So a chunk with covered letters is what they name.
-  pub known-among : (letters chunk : List ℕ) → Covered letters → Among (map chunkBytes (d .chunks)) letters chunk → (c : Chunk) × In (d .chunks) c × Known letters c × (chunk ≡ chunkBytes c)
-  known-among letters chunk covers a =
-      let found = among-in letters chunk a in
-      (found .0, found .1, subst (λ (l : List ℕ). Known l (found .0)) (found .2) (known-by (found .0) (found .1) (subst Covered (sym (found .2)) covers)), found .3)
-
   -- Such a chunk is the encoding of one of the description, with what it holds.
   abbrev pub Encodes : {A : Type 0} → (A → Chunk) → List ℕ → Type 0
   Encodes {A} make chunk = (held : A) × In (d .chunks) (make held) × (chunk ≡ chunkBytes (make held))
 
-  pub among-name : (chunk : List ℕ) → Among (map chunkBytes (d .chunks)) nameLetters chunk → Encodes NAME chunk
-  among-name chunk a = let (c, i, known, same) = known-among nameLetters chunk Covered.name a in go known i same
-    where
-      go : {c : Chunk} → Known nameLetters c → In (d .chunks) c → chunk ≡ chunkBytes c → Encodes NAME chunk
-      go (Known.name held) i same = (held, i, same)
-
-  pub among-info : (chunk : List ℕ) → Among (map chunkBytes (d .chunks)) infoLetters chunk → Encodes INFO chunk
-  among-info chunk a = let (c, i, known, same) = known-among infoLetters chunk Covered.info a in go known i same
-    where
-      go : {c : Chunk} → Known infoLetters c → In (d .chunks) c → chunk ≡ chunkBytes c → Encodes INFO chunk
-      go (Known.info held) i same = (held, i, same)
-
-  pub among-venv : (chunk : List ℕ) → Among (map chunkBytes (d .chunks)) venvLetters chunk → Encodes VENV chunk
-  among-venv chunk a = let (c, i, known, same) = known-among venvLetters chunk Covered.venv a in go known i same
-    where
-      go : {c : Chunk} → Known venvLetters c → In (d .chunks) c → chunk ≡ chunkBytes c → Encodes VENV chunk
-      go (Known.venv held) i same = (held, i, same)
-
-  pub among-penv : (chunk : List ℕ) → Among (map chunkBytes (d .chunks)) penvLetters chunk → Encodes PENV chunk
-  among-penv chunk a = let (c, i, known, same) = known-among penvLetters chunk Covered.penv a in go known i same
-    where
-      go : {c : Chunk} → Known penvLetters c → In (d .chunks) c → chunk ≡ chunkBytes c → Encodes PENV chunk
-      go (Known.penv held) i same = (held, i, same)
+  -- So a chunk with covered letters is what they name.
+  pub among-held : {letters : List ℕ} (covers : Covered letters) (chunk : List ℕ) → Among (map chunkBytes (d .chunks)) letters chunk → Encodes (holder (kindBy (identifierOf covers))) chunk
+  among-held {letters} covers chunk a =
+      let (c, i, letters-are, same) = among-in letters chunk a in
+      let whole = chunk-whole c (chunk-letters c i) in
+      let kind = kind-covered c (λ other bytes is. w .others other bytes (subst (In (d .chunks)) is i)) whole covers (ap (take 4) (sym same) ∙ a .named) in
+      let (held, is) = held-as c (kindBy (identifierOf covers)) kind in
+      (held, subst (In (d .chunks)) is i, same ∙ ap chunkBytes is)
 
   encoded-once : (letters : List ℕ) → Covered letters → AtMostOnce (map chunkBytes (d .chunks)) letters
   encoded-once letters covers =
@@ -225,11 +184,11 @@ module _ (d : Description) (w : WellFormed d) where
     once = encoded-once;
     behindInfo = encoded-behind;
     name = λ chunk a. (
-        let (held, i, same) = among-name chunk a in
+        let (held, i, same) = among-held Covered.name chunk a in
         ap length same ∙ omega (arith, w .name held i .0)
         );
     info = λ chunk a. (
-        let (held, i, same) = among-info chunk a in
+        let (held, i, same) = among-held Covered.info chunk a in
         subst InfoRules (sym (same ∙ ap chunkBytes (in-once (w .once) i (w .infoThere) Covered.info refl))) (info-rules (w .info) (w .lists .infoFits))
         );
   }
@@ -255,12 +214,12 @@ module _ (d : Description) (w : WellFormed d) where
     patternRules = rw (info-at (w .info) 8 ∙ info-tracks (w .info)) (every-map patternBytes (w .patterns) .1 (every-of (pattern-rules (w .info .tracks)) (w .lists .patternsFit)));
     sampleRules = every-map sampleBytes (w .samples) .1 (every-of sample-rules (w .lists .samplesFit));
     volumeEnvelopes = λ chunk a. (
-        let (held, i, same) = among-venv chunk a in
+        let (held, i, same) = among-held Covered.venv chunk a in
         let fits = rw (← length-map (w .instruments) instrumentBytes) at (w .volumeEnvelopes held i) in
         subst (EnvelopesRules _ VolumeFits) (sym same) (envelopes-rules _ VolumeFits held fits (venvLetters ++ bytes32 (length (envelopesBytes held))) refl)
         );
     panningEnvelopes = λ chunk a. (
-        let (held, i, same) = among-penv chunk a in
+        let (held, i, same) = among-held Covered.penv chunk a in
         let fits = rw (← length-map (w .instruments) instrumentBytes) at (w .panningEnvelopes held i) in
         subst (EnvelopesRules _ (PanningValueFits (d .version))) (sym same) (envelopes-rules _ (PanningValueFits (d .version)) held fits (penvLetters ++ bytes32 (length (envelopesBytes held))) refl)
         );

@@ -26,7 +26,7 @@ use Rattle.format.specs.Encoding.{songBytes, instrumentBytes, patternByt
 use Rattle.format.specs.WellFormed.{In, SongFits, InstrumentFits, PatternFits, SampleFits, EnvelopeFits, WellFormed}
 use Rattle.format.specs.Shown.{Envelopes}
 use Rattle.format.proofs.ChunksIn.{in-once}
-use Rattle.format.proofs.EncodedModule.{in-among, among-name, among-venv, among-penv}
+use Rattle.format.proofs.EncodedModule.{in-among, among-held}
 use Rattle.format.proofs.Placed.{Listed, chunk-listed, info-numbers}
 use Rattle.format.proofs.ShownSongs.{song-sized}
 use Rattle.format.proofs.ShownInstruments.{instrument-sized}
@@ -92,13 +92,13 @@ module _ (d : Description) (w : WellFormed d) {l : Layout} (layout : LayoutOf (e
 
   -- NAME and the envelopes' chunks are missing where the description has none.
   pub name-missing : ((other : List ℕ) → In (d .chunks) (NAME other) → ⊥) → l .places .name .present ≡ false
-  name-missing lacks = missing (layout .name) (λ chunk a. let (held, i, same) = among-name d w chunk a in lacks held i)
+  name-missing lacks = missing (layout .name) (λ chunk a. let (held, i, same) = among-held d w Covered.name chunk a in lacks held i)
 
   volume-missing : ((others : List Envelope) → In (d .chunks) (VENV others) → ⊥) → l .places .venv .present ≡ false
-  volume-missing lacks = missing (layout .venv) (λ chunk a. let (held, i, same) = among-venv d w chunk a in lacks held i)
+  volume-missing lacks = missing (layout .venv) (λ chunk a. let (held, i, same) = among-held d w Covered.venv chunk a in lacks held i)
 
   panning-missing : ((others : List Envelope) → In (d .chunks) (PENV others) → ⊥) → l .places .penv .present ≡ false
-  panning-missing lacks = missing (layout .penv) (λ chunk a. let (held, i, same) = among-penv d w chunk a in lacks held i)
+  panning-missing lacks = missing (layout .penv) (λ chunk a. let (held, i, same) = among-held d w Covered.penv chunk a in lacks held i)
 
   -- The envelopes of a kind, none where their chunk is missing.
   absent-listed : (thing : Thing) {A : Type 0} {bytes : A → List ℕ} {Fits : A → Type 0} (xs : List A) → countOf (encoded d) l thing ≡ 0 → xs ≡ [] → Listed (encoded d) l thing bytes Fits xs

@@ -25,7 +25,7 @@ use Rattle.acceptance.proofs.OpenModules.{Opens, module-opens}
 use Rattle.records.specs.Records.{summaryRecord, recordAt, recordsOf, allRecords}
 use Rattle.records.specs.Steps.{recordsFrom, recordsOfThree, ValuesFit}
 use Rattle.records.proofs.Ahead.{every-any}
-use Rattle.records.proofs.RecordLengths.{summary-length, song-length, instrument-length, pattern-length, sample-length, volume-length, panning-length, equal-lengths, block-lengths}
+use Rattle.records.proofs.RecordLengths.{summary-length, record-length, equal-lengths, block-lengths}
 
 -- An envelope of panning whose rules hold.
 panning-fits : (m : List ℕ) (instruments version at : ℕ) → AllHold (envelopeRules m instruments (eqb version 3) at) → ValuesFit m version PanningEnvelope at
@@ -45,24 +45,24 @@ module _ (m : List ℕ) (l : Layout) (o : opened m ≡ Found l) where
   values-fit PanningEnvelope = every-of (λ at hold. panning-fits m (l .instruments) (l .version) at hold) (opens .content .fields .panningEnvelopes)
 
   pub songs-length : length (recordsOf m l Song) ≡ l .places .song .length
-  songs-length = omega (arith, block-lengths (recordAt m (l .version) Song) (sizeOf (kindOf Song) m) (song-length m (l .version)) (l .songs) (l .places .song .at + 8), opens .content .blocks .songs)
+  songs-length = omega (arith, block-lengths (recordAt m (l .version) Song) (sizeOf (kindOf Song) m) (record-length m (l .version) Song) (l .songs) (l .places .song .at + 8), opens .content .blocks .songs)
 
 -- The records of a kind that are of one length.
 module _ (m : List ℕ) (l : Layout) where
   pub instruments-length : length (recordsOf m l Instrument) ≡ countOf m l Instrument * 50
-  instruments-length = equal-lengths (recordAt m (l .version) Instrument) (sizeOf (kindOf Instrument) m) 50 (instrument-length m (l .version)) _ _
+  instruments-length = equal-lengths (recordAt m (l .version) Instrument) (sizeOf (kindOf Instrument) m) 50 (record-length m (l .version) Instrument) _ _
 
   pub patterns-length : length (recordsOf m l Pattern) ≡ countOf m l Pattern * 2
-  patterns-length = equal-lengths (recordAt m (l .version) Pattern) (sizeOf (kindOf Pattern) m) 2 (pattern-length m (l .version)) _ _
+  patterns-length = equal-lengths (recordAt m (l .version) Pattern) (sizeOf (kindOf Pattern) m) 2 (record-length m (l .version) Pattern) _ _
 
   pub samples-length : length (recordsOf m l Sample) ≡ countOf m l Sample * 6
-  samples-length = equal-lengths (recordAt m (l .version) Sample) (sizeOf (kindOf Sample) m) 6 (sample-length m (l .version)) _ _
+  samples-length = equal-lengths (recordAt m (l .version) Sample) (sizeOf (kindOf Sample) m) 6 (record-length m (l .version) Sample) _ _
 
   pub volumes-length : length (recordsOf m l VolumeEnvelope) ≡ countOf m l VolumeEnvelope * 136
-  volumes-length = equal-lengths (recordAt m (l .version) VolumeEnvelope) (sizeOf (kindOf VolumeEnvelope) m) 136 (volume-length m (l .version)) _ _
+  volumes-length = equal-lengths (recordAt m (l .version) VolumeEnvelope) (sizeOf (kindOf VolumeEnvelope) m) 136 (record-length m (l .version) VolumeEnvelope) _ _
 
   pub pannings-length : length (recordsOf m l PanningEnvelope) ≡ countOf m l PanningEnvelope * 136
-  pannings-length = equal-lengths (recordAt m (l .version) PanningEnvelope) (sizeOf (kindOf PanningEnvelope) m) 136 (panning-length m (l .version)) _ _
+  pannings-length = equal-lengths (recordAt m (l .version) PanningEnvelope) (sizeOf (kindOf PanningEnvelope) m) 136 (record-length m (l .version) PanningEnvelope) _ _
 
   -- The length that is told for each kind.
   pub songs-told : opened m ≡ Found l → (thing : Thing) (chunk : Place) → thing ≡ Song → chunk ≡ chunkOf l thing → chunk .length ≡ length (recordsOf m l thing)

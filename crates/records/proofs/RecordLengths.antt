@@ -13,6 +13,7 @@ use Rattle.layout.specs.declared.Layout.{Layout}
 use Rattle.blocks.specs.StoredFields.{songLength}
 use Rattle.blocks.specs.Sizes.{sizeOf, placesFrom, placeAfter}
 use Rattle.blocks.specs.declared.Kind.the-variants.{Song as SongKind}
+use Rattle.blocks.specs.declared.Thing.{Thing}
 use Rattle.blocks.specs.declared.Thing.the-variants.{Song, Instrument, Pattern, Sample, VolumeEnvelope, PanningEnvelope}
 use Rattle.summary.specs.Shown.{nameOf, shownInfo}
 use Rattle.records.specs.Records.{infoRecord, countsRecord, summaryRecord, recordAt}
@@ -28,30 +29,23 @@ name-length m l = go (l .places .name .present)
 pub summary-length : (m : List ℕ) (l : Layout) → length (summaryRecord m l) ≡ 60
 summary-length m l = omega (arith, length-append (nameOf m l) (infoRecord (shownInfo l) ++ countsRecord m l), name-length m l)
 
-module _ (m : List ℕ) (version at : ℕ) where
-  pub song-length : length (recordAt m version Song at) ≡ sizeOf SongKind m at
-  unfolding recordAt sizeOf
-  song-length = omega (arith, each-length (byteAt m) (2 * songLength m at) (at + 46))
+-- A song's record is as long as its block, and those of each other kind have one length.
+abbrev recordLength : List ℕ → Thing → ℕ → ℕ
+recordLength m Song at = sizeOf SongKind m at
+recordLength m Instrument at = 50
+recordLength m Pattern at = 2
+recordLength m Sample at = 6
+recordLength m VolumeEnvelope at = 136
+recordLength m PanningEnvelope at = 136
 
-  pub instrument-length : length (recordAt m version Instrument at) ≡ 50
-  unfolding recordAt
-  instrument-length = refl
-
-  pub pattern-length : length (recordAt m version Pattern at) ≡ 2
-  unfolding recordAt
-  pattern-length = refl
-
-  pub sample-length : length (recordAt m version Sample at) ≡ 6
-  unfolding recordAt
-  sample-length = refl
-
-  pub volume-length : length (recordAt m version VolumeEnvelope at) ≡ 136
-  unfolding recordAt
-  volume-length = refl
-
-  pub panning-length : length (recordAt m version PanningEnvelope at) ≡ 136
-  unfolding recordAt
-  panning-length = refl
+pub record-length : (m : List ℕ) (version : ℕ) (thing : Thing) (at : ℕ) → length (recordAt m version thing at) ≡ recordLength m thing at
+unfolding recordAt sizeOf
+record-length m version Song at = omega (arith, each-length (byteAt m) (2 * songLength m at) (at + 46))
+record-length m version Instrument at = refl
+record-length m version Pattern at = refl
+record-length m version Sample at = refl
+record-length m version VolumeEnvelope at = refl
+record-length m version PanningEnvelope at = refl
 
 -- Records of one length.
 pub equal-lengths : (f : ℕ → List ℕ) (size : ℕ → ℕ) (w : ℕ) → ((at : ℕ) → length (f at) ≡ w) → (n at : ℕ) → length (joined (map f (placesFrom size n at))) ≡ n * w

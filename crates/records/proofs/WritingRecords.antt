@@ -22,7 +22,7 @@ use Rattle.acceptance.proofs.Ends.{copied}
 use Rattle.records.specs.Records.{infoRecord, countsRecord, sampleRecord, summaryRecord, recordAt}
 use Rattle.records.specs.Steps.{pointRecord, pointsFrom}
 use Rattle.records.proofs.Ahead.{Ahead, ahead-second, ahead-last, second-inside, second-part, third-length, third-put, AheadBlocks, blocks-last}
-use Rattle.records.proofs.RecordLengths.{name-length, song-length, instrument-length, pattern-length, sample-length, equal-lengths}
+use Rattle.records.proofs.RecordLengths.{name-length, record-length, equal-lengths}
 use Rattle.records.proofs.StoredRecords.{two-bytes, song-stored, instrument-stored, envelope-stored}
 
 -- A copy of so many bytes.
@@ -46,20 +46,20 @@ module _ (m : List ℕ) (bytes : Bytes m) (version at : ℕ) (thing : Thing) whe
 
     pub song-written : thing ≡ Song → n ≡ sizeOf SongKind m at → (r ≡ n) × (out′ ≡ bytesFrom m at n ++ drop n out) → RecordWritten m version thing at out out′ r
     unfolding recordAt sizeOf
-    song-written e size w = written-as Song (bytesFrom m at n) e (ap (bytesFrom m at) size ∙ song-stored m bytes at) (song-length m version at ∙ sym size) w
+    song-written e size w = written-as Song (bytesFrom m at n) e (ap (bytesFrom m at) size ∙ song-stored m bytes at) (record-length m version Song at ∙ sym size) w
 
   module _ (out : List ℕ) {out′ : List ℕ} {r : ℕ} where
     pub instrument-written : thing ≡ Instrument → (r ≡ 50) × (out′ ≡ bytesFrom m at 50 ++ drop 50 out) → RecordWritten m version thing at out out′ r
     unfolding recordAt
-    instrument-written e w = written-as out Instrument (bytesFrom m at 50) e (instrument-stored m bytes at) (instrument-length m version at) w
+    instrument-written e w = written-as out Instrument (bytesFrom m at 50) e (instrument-stored m bytes at) (record-length m version Instrument at) w
 
     pub pattern-written : thing ≡ Pattern → (r ≡ 2) × (out′ ≡ bytesFrom m at 2 ++ drop 2 out) → RecordWritten m version thing at out out′ r
     unfolding recordAt
-    pattern-written e w = written-as out Pattern (bytesFrom m at 2) e (two-bytes m bytes at) (pattern-length m version at) w
+    pattern-written e w = written-as out Pattern (bytesFrom m at 2) e (two-bytes m bytes at) (record-length m version Pattern at) w
 
     pub sample-written : thing ≡ Sample → (r ≡ 6) × (out′ ≡ sampleRecord (shownSample m at) ++ drop 6 out) → RecordWritten m version thing at out out′ r
     unfolding recordAt
-    sample-written e w = written-as out Sample (sampleRecord (shownSample m at)) e refl (sample-length m version at) w
+    sample-written e w = written-as out Sample (sampleRecord (shownSample m at)) e refl (record-length m version Sample at) w
 
     pub envelope-written : {kind : Thing} → thing ≡ kind → length (recordAt m version kind at) ≡ 136 → (r ≡ 136) × (out′ ≡ recordAt m version kind at ++ drop 136 out) → RecordWritten m version thing at out out′ r
     envelope-written {kind} e size w = written-as out kind (recordAt m version kind at) e refl size w
