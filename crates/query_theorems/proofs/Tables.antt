@@ -8,33 +8,25 @@ use lib.Dec.{eqb}
 use borrow.Author.Tests.{eqb-true}
 use Rattle.acceptance.proofs.Holding.{and-says}
 
--- Whether two rows hold the same numbers, and whether two columns hold the same rows.
-unfoldable pub sameRow : List ℕ → List ℕ → Bool
-sameRow [] [] = true
-sameRow [] (y ∷ ys) = false
-sameRow (x ∷ xs) [] = false
-sameRow (x ∷ xs) (y ∷ ys) = eqb x y && sameRow xs ys
+-- Whether a test finds all elements of two lists the same.
+unfoldable pub sameEach : {A : Type 0} → (A → A → Bool) → List A → List A → Bool
+sameEach same [] [] = true
+sameEach same [] (y ∷ ys) = false
+sameEach same (x ∷ xs) [] = false
+sameEach same (x ∷ xs) (y ∷ ys) = same x y && sameEach same xs ys
 
-unfoldable pub sameRows : List (List ℕ) → List (List ℕ) → Bool
-sameRows [] [] = true
-sameRows [] (y ∷ ys) = false
-sameRows (x ∷ xs) [] = false
-sameRows (x ∷ xs) (y ∷ ys) = sameRow x y && sameRows xs ys
+same-each : {A : Type 0} (same : A → A → Bool) → ((x y : A) → same x y ≡ true → x ≡ y) → (xs ys : List A) → sameEach same xs ys ≡ true → xs ≡ ys
+unfolding sameEach
+same-each same each [] [] e = refl
+same-each same each [] (y ∷ ys) e = cc
+same-each same each (x ∷ xs) [] e = cc
+same-each same each (x ∷ xs) (y ∷ ys) e =
+    let parts = and-says (same x y) (sameEach same xs ys) .0 e in
+    simp (each x y (parts .0), same-each same each xs ys (parts .1))
 
-same-row : (xs ys : List ℕ) → sameRow xs ys ≡ true → xs ≡ ys
-unfolding sameRow
-same-row [] [] e = refl
-same-row [] (y ∷ ys) e = cc
-same-row (x ∷ xs) [] e = cc
-same-row (x ∷ xs) (y ∷ ys) e =
-    let parts = and-says (eqb x y) (sameRow xs ys) .0 e in
-    simp (eqb-true x y (parts .0), same-row xs ys (parts .1))
+-- Whether two columns hold the same rows, which are lists of numbers.
+abbrev pub sameRows : List (List ℕ) → List (List ℕ) → Bool
+sameRows = sameEach (sameEach eqb)
 
 pub same-rows : (xs ys : List (List ℕ)) → sameRows xs ys ≡ true → xs ≡ ys
-unfolding sameRows
-same-rows [] [] e = refl
-same-rows [] (y ∷ ys) e = cc
-same-rows (x ∷ xs) [] e = cc
-same-rows (x ∷ xs) (y ∷ ys) e =
-    let parts = and-says (sameRow x y) (sameRows xs ys) .0 e in
-    simp (same-row x y (parts .0), same-rows xs ys (parts .1))
+same-rows = same-each (sameEach eqb) (same-each eqb eqb-true)

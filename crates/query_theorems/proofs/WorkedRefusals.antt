@@ -30,7 +30,7 @@ use Rattle.envelopes.specs.declared.EnvelopeKind.{EnvelopeKind}
 use Rattle.envelopes.specs.declared.EnvelopeKind.the-variants.{Volume, Panning}
 use Rattle.patterns.specs.Shown.{rowsAnswer, cellAnswer, unpackAnswer as patternAnswer}
 use Rattle.samples.specs.Shown.{sampleAnswer, framesAnswer, frameAnswer, allFramesAnswer}
-use Rattle.query_theorems.proofs.Tables.{sameRow, sameRows, same-rows}
+use Rattle.query_theorems.proofs.Tables.{sameEach, same-rows}
 use Rattle.query_theorems.proofs.SmallModules.{checked, moduleChecked, chunk, moduleOf, info, content, song, fullInstrument, instrument, pattern, sample, envelope, oneEnvelope}
 
 -- A row of the table: what the definitions give, and the number and the place that document 01 says.
@@ -558,7 +558,7 @@ worked =
 
 -- The statement.
 pub refusals-agree : map (λ (w : Worked). w .found) worked ≡ map (λ (w : Worked). w .said) worked
-unfolding worked sameRow sameRows readFrom reading byteAt number16 number32 chunksFrom chunks sizeOf
+unfolding worked sameEach readFrom reading byteAt number16 number32 chunksFrom chunks sizeOf
 refusals-agree = same-rows (map (λ (w : Worked). w .found) worked) (map (λ (w : Worked). w .said) worked) refl
 
 -- Number 1.
