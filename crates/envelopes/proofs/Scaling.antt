@@ -1,5 +1,5 @@
 -- Values of panning in 4 bytes: a stored v as 4v − 128, and a signed number of 2 bytes.
-use Prim.Native.Nat.{ℕ, _*_, _<_}
+use Prim.Native.Nat.{ℕ, _*_, _<_, _≤_}
 use mathlib.Core.Path.{_≡_, refl, ap, _∙_}
 use mathlib.Core.Bool.{Bool, true, false}
 use native.Mathlib.Omega.{arith}
@@ -19,15 +19,16 @@ times-fits v h = rw (times v h) (record { sfits = omega arith })
 less : (v : ℕ) → v < 65536 → toZ w32 (ofZ w32 (pos 4 *ℤ toZ w32 v)) -ℤ pos 128 ≡ pos (4 * v) -ℤ pos 128
 less v h = ap (λ (z : ℤ). z -ℤ pos 128) (toZ-ofZ w32 (pos 4 *ℤ toZ w32 v) (times-fits v h) ∙ times v h)
 
-less-mag : (n : ℕ) → n < 262144 → mag (pos n -ℤ pos 128) < 2147483648
-less-mag n h = go (ltb n 128) refl
+-- The size of a number less 128: below each bound that is above the number and not below 128.
+pub less-mag : (n bound : ℕ) → n < bound → 128 ≤ bound → mag (pos n -ℤ pos 128) < bound
+less-mag n bound h least = go (ltb n 128) refl
   where
-    go : (t : Bool) → ltb n 128 ≡ t → mag (pos n -ℤ pos 128) < 2147483648
-    go true t = simp t (omega arith)
+    go : (t : Bool) → ltb n 128 ≡ t → mag (pos n -ℤ pos 128) < bound
+    go true t = simp t (omega (arith, least))
     go false t = simp t (omega (arith, h))
 
 pub less-fits : (v : ℕ) → v < 65536 → SFits w32 (toZ w32 (ofZ w32 (pos 4 *ℤ toZ w32 v)) -ℤ pos 128)
-less-fits v h = rw (less v h) (record { sfits = less-mag (4 * v) (omega arith) })
+less-fits v h = rw (less v h) (record { sfits = less-mag (4 * v) 2147483648 (omega arith) (omega arith) })
 
 pub scaled : (v : ℕ) → v < 65536 → toZ w32 (ofZ w32 (toZ w32 (ofZ w32 (pos 4 *ℤ toZ w32 v)) -ℤ pos 128)) ≡ pos (4 * v) -ℤ pos 128
 scaled v h = toZ-ofZ w32 (toZ w32 (ofZ w32 (pos 4 *ℤ toZ w32 v)) -ℤ pos 128) (less-fits v h) ∙ less v h

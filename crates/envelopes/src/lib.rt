@@ -21,8 +21,6 @@ use refusal::Refusal;
 use refusal::Verdict;
 use refusal::outcome_of;
 ghost use mathlib.Core.Path.{_≡_};
-ghost use mathlib.Core.Bool.{Bool};
-ghost use Prim.Native.Nat.{_<_};
 ghost use lib.Dec.{leb};
 ghost use lib.ListN.{length};
 ghost use Rattle.numbers.specs.Numbers.{eachFrom};
@@ -99,19 +97,18 @@ pub fn count(m: &[u8], kind: EnvelopeKind) -> CountAnswer
 }
 
 // Whether a point is in use: there is one more of these than there are sections.
-fn in_use(sections: u8, point: usize) -> bool
+fn in_use(sections: u8, point: u8) -> bool
     ensures { λ r. ⌜ r ≡ leb point sections ⌝ }
 {
-    point <= (sections as usize)
+    point <= sections
 }
 
-// The position of a point of the envelope at a place.
-fn position(m: &[u8], at: usize, sections: u8, point: usize) -> u16
-    requires { ⌜ point < 32 ⌝ }
+// The position of a point of the envelope at a place, as it is shown.
+pub fn position(m: &[u8], at: usize, sections: u8, point: u8) -> u16
     ensures { λ r. ⌜ r ≡ positionShown (now (m .entry)) at sections point ⌝ }
 {
     if in_use(sections, point) {
-        return envelope_position(m, at, point as u8);
+        return envelope_position(m, at, point);
     }
     0
 }
@@ -131,13 +128,12 @@ fn value_of(kind: EnvelopeKind, version: u8, v: u16) -> i32
     }
 }
 
-// The value of a point of the envelope at a place.
-fn value(m: &[u8], kind: EnvelopeKind, version: u8, at: usize, sections: u8, point: usize) -> i32
-    requires { ⌜ point < 32 ⌝ }
+// The value of a point of the envelope at a place, as it is shown.
+pub fn value(m: &[u8], kind: EnvelopeKind, version: u8, at: usize, sections: u8, point: u8) -> i32
     ensures { λ r. ⌜ r ≡ valueShown (now (m .entry)) kind version at sections point ⌝ }
 {
     if in_use(sections, point) {
-        return value_of(kind, version, envelope_value(m, at, point as u8));
+        return value_of(kind, version, envelope_value(m, at, point));
     }
     0
 }
@@ -149,7 +145,7 @@ fn fill_positions(m: &[u8], at: usize, sections: u8, out: &mut [u16])
 {
     let mut i = 0;
     while i < out.len() {
-        out[i] = position(m, at, sections, i);
+        out[i] = position(m, at, sections, i as u8);
         i = i + 1;
     }
 }
@@ -161,7 +157,7 @@ fn fill_values(m: &[u8], kind: EnvelopeKind, version: u8, at: usize, sections: u
 {
     let mut i = 0;
     while i < out.len() {
-        let v = value(m, kind, version, at, sections, i);
+        let v = value(m, kind, version, at, sections, i as u8);
         out[i] = v;
         i = i + 1;
     }

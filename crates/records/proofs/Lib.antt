@@ -1,5 +1,6 @@
 pub mod Ahead
 pub mod StoredRecords
+pub mod Unsigned16
 pub mod Points
 pub mod RecordLengths
 pub mod WritingRecords

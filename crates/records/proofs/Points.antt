@@ -1,58 +1,66 @@
--- The values of envelopes in 2 bytes, and the points that are written.
-use Prim.Native.Nat.{ℕ, suc, _+_, _-_, _*_, _%_, _≤_, _<_}
-use mathlib.Core.Path.{_≡_, refl, sym, _∙_}
+-- The values of envelopes fit 2 bytes, and the points that are written.
+use Prim.Native.Nat.{ℕ, _*_, _≤_, _<_}
+use mathlib.Core.Path.{_≡_, refl, ap, _∙_}
 use mathlib.Core.List.{List, [], _∷_, _++_, flatten}
-use mathlib.Core.Bool.{Bool, true, false, cond}
-use mathlib.Core.Logic.{_≢_}
+use mathlib.Core.Bool.{Bool, true, false}
 use native.Mathlib.Omega.{arith}
 use lib.ListN.{length, drop}
-use lib.Dec.{ltb}
-use lib.IntN.{pos, negsuc, _-ℤ_}
-use borrow.Author.Tests.{ltb-true, ltb-false, eq-eqb, ne-eqb}
-use Rattle.numbers.specs.Numbers.{bytes16, unsigned16, putAt}
+use lib.Dec.{eqb, leb, ltb}
+use lib.IntN.{ℤ}
+use lib.Signed.{mag}
+use mir.Syntax.{w32}
+use mir.Val.{SFits, toZ, ofZ}
+use mir.ValLaws.{toZ-ofZ}
+use borrow.Author.Tests.{eqb-true, leb-true}
+use Rattle.numbers.specs.Numbers.{Bytes, signed16, bytes16, unsigned16, putAt}
 use Rattle.numbers.proofs.PutBytes.{put-front}
+use Rattle.numbers.proofs.AllBytes.{number16-below}
 use Rattle.blocks.specs.StoredFields.{envelopeSections, envelopeValue}
-use Rattle.samples.proofs.SixteenBits.{stored-again}
 use Rattle.envelopes.specs.Shown.{thingOf, positionShown, valueOf, valueShown}
+use Rattle.envelopes.proofs.Scaling.{less-mag}
 use Rattle.envelopes.specs.declared.EnvelopeKind.{EnvelopeKind}
 use Rattle.envelopes.specs.declared.EnvelopeKind.the-variants.{Volume, Panning}
 use Rattle.records.specs.Steps.{pointRecord, ValueFits, ValuesFit}
 
--- A number less 128 in 2 bytes, as the code counts.
-below-zero : (n : ℕ) → n < 128 → (65408 + n) % 65536 ≡ 65535 - (128 - suc n)
-below-zero n h = omega arith
-
-from-zero : (n : ℕ) → 128 ≤ n → n ≤ 256 → (65408 + n) % 65536 ≡ n - 128
-from-zero n h most = omega arith
-
--- 4v − 128 in 2 bytes.
-pub scaled-stored : (v : ℕ) → v ≤ 64 → (65408 + 4 * v) % 65536 ≡ unsigned16 (pos (4 * v) -ℤ pos 128)
-scaled-stored v h = go (ltb (4 * v) 128) refl
+-- A value as it is shown fits 2 bytes.
+signed-mag : (v : ℕ) → v < 65536 → mag (signed16 v) < 65536
+signed-mag v h = go (ltb v 32768) refl
   where
-    go : (t : Bool) → ltb (4 * v) 128 ≡ t → (65408 + 4 * v) % 65536 ≡ unsigned16 (cond t (negsuc (128 - suc (4 * v))) (pos (4 * v - 128)))
-    go true t = below-zero (4 * v) (ltb-true (4 * v) 128 t)
-    go false t = from-zero (4 * v) (ltb-false (4 * v) 128 t) (omega arith)
+    go : (t : Bool) → ltb v 32768 ≡ t → mag (signed16 v) < 65536
+    go true t = simp t h
+    go false t = simp t (omega arith)
 
--- A value of panning that is not scaled is stored as it is.
-pub value-plain : (version v : ℕ) → version ≢ 2 → v < 65536 → v ≡ unsigned16 (valueOf Panning version v)
-value-plain version v other h = rw (ne-eqb version 2 other) (sym (stored-again v h))
-
-pub value-scaled : (version v r : ℕ) → version ≡ 2 → r ≡ unsigned16 (pos (4 * v) -ℤ pos 128) → r ≡ unsigned16 (valueOf Panning version v)
-value-scaled version v r two e = rw (eq-eqb version 2 two) e
+value-mag : (kind : EnvelopeKind) (version v : ℕ) → v < 65536 → ValueFits kind version v → mag (valueOf kind version v) < 65536
+value-mag Volume version v h fits = h
+value-mag Panning version v h fits = go (eqb version 2) refl
+  where
+    go : (t : Bool) → eqb version 2 ≡ t → mag (valueOf Panning version v) < 65536
+    go true t = simp t (less-mag (4 * v) 65536 (omega (arith, fits (eqb-true version 2 t))) (omega arith))
+    go false t = simp t (signed-mag v h)
 
 -- What is asked of a value in use.
-pub value-ready : (m : List ℕ) (kind : EnvelopeKind) (version at : ℕ) → ValuesFit m version (thingOf kind) at → (point : ℕ) → point ≤ envelopeSections m at → ValueFits kind version (envelopeValue m at point)
+value-ready : (m : List ℕ) (kind : EnvelopeKind) (version at : ℕ) → ValuesFit m version (thingOf kind) at → (point : ℕ) → point ≤ envelopeSections m at → ValueFits kind version (envelopeValue m at point)
 value-ready m Volume version at fits point h = tt
 value-ready m Panning version at fits point h = fits point h
 
--- A point: two numbers.
-module _ (m : List ℕ) (kind : EnvelopeKind) (version at point sections p v : ℕ) (out : List ℕ) (s : sections ≡ envelopeSections m at) where
-  abbrev is-position : Type 0
-  is-position = p ≡ positionShown m at sections point
+shown-mag : (m : List ℕ) (kind : EnvelopeKind) (version at point : ℕ) → Bytes m → ValuesFit m version (thingOf kind) at → mag (valueShown m kind version at (envelopeSections m at) point) < 65536
+shown-mag m kind version at point bytes fits = go (leb point (envelopeSections m at)) refl
+  where
+    go : (t : Bool) → leb point (envelopeSections m at) ≡ t → mag (valueShown m kind version at (envelopeSections m at) point) < 65536
+    go true t =
+        let used = leb-true point (envelopeSections m at) t in
+        simp t (value-mag kind version (envelopeValue m at point) (number16-below m bytes _) (value-ready m kind version at fits point used))
+    go false t = simp t (omega arith)
 
-  abbrev is-value : Type 0
-  is-value = v ≡ unsigned16 (valueShown m kind version at sections point)
+-- A point: its position, and its value, which the code passes on in 4 bytes.
+module _ (m : List ℕ) (kind : EnvelopeKind) (version at point sections : ℕ) (v : ℤ) (s : sections ≡ envelopeSections m at) (small : SFits w32 v)
+    (shown : v ≡ valueShown m kind version at sections point) where
+  passed : toZ w32 (ofZ w32 v) ≡ valueShown m kind version at (envelopeSections m at) point
+  passed = toZ-ofZ w32 v small ∙ shown ∙ ap (λ (n : ℕ). valueShown m kind version at n point) s
 
-  pub point-written : is-position → is-value → 4 ≤ length out → putAt (bytes16 v) 2 (putAt (bytes16 p) 0 out) ≡ pointRecord m kind version at point ++ drop 4 out
+  pub passed-mag : Bytes m → ValuesFit m version (thingOf kind) at → mag (toZ w32 (ofZ w32 v)) < 65536
+  passed-mag bytes fits = rw passed (shown-mag m kind version at point bytes fits)
+
+  pub point-written : (p u : ℕ) (out : List ℕ) → p ≡ positionShown m at sections point → u ≡ unsigned16 (toZ w32 (ofZ w32 v)) → 4 ≤ length out → putAt (bytes16 u) 2 (putAt (bytes16 p) 0 out) ≡ pointRecord m kind version at point ++ drop 4 out
   unfolding flatten
-  point-written e f room = put-front (bytes16 p ∷ bytes16 v ∷ []) out room ∙ rw (e, f, s) refl
+  point-written p u out e f room = put-front (bytes16 p ∷ bytes16 u ∷ []) out room ∙ rw (e, f, passed, s) refl

@@ -8,13 +8,13 @@ use blocks::count_of;
 use blocks::envelope_count;
 use blocks::kind_of;
 use blocks::size;
-use blocks::stored::envelope_position;
 use blocks::stored::envelope_sections;
-use blocks::stored::envelope_value;
 use blocks::stored::sample_flags;
 use blocks::stored::sample_frames;
 use blocks::width;
 use envelopes::EnvelopeKind;
+use envelopes::position;
+use envelopes::value;
 use layout::Layout;
 use layout::Outline;
 use numbers::copy;
@@ -28,9 +28,9 @@ use refusal::written;
 use summary::name_of;
 ghost use mathlib.Core.Path.{_≡_};
 ghost use mathlib.Core.List.{_++_};
-ghost use Prim.Native.Nat.{_+_, _*_, _<_, _≤_};
+ghost use Prim.Native.Nat.{_<_, _≤_};
 ghost use lib.ListN.{length, drop};
-ghost use lib.IntN.{pos, _-ℤ_};
+ghost use lib.Signed.{mag};
 ghost use Rattle.vocabulary.specs.Lists.{Every};
 ghost use Rattle.numbers.specs.Numbers.{SmallPlace, bytesFrom, unsigned16, putAt};
 ghost use Rattle.layout.specs.declared.Outline.the-variants.{Found};
@@ -40,9 +40,9 @@ ghost use Rattle.module.specs.Verdicts.{opened};
 ghost use Rattle.module.specs.Outputs.{answerOpened, outputOpened};
 ghost use Rattle.summary.specs.Shown.{shownInfo};
 ghost use Rattle.samples.specs.Shown.{shownSample};
-ghost use Rattle.envelopes.specs.Shown.{thingOf, positionShown, valueShown, valueOf};
+ghost use Rattle.envelopes.specs.Shown.{thingOf};
 ghost use Rattle.records.specs.Records.{infoRecord, countsRecord, summaryRecord, sampleRecord, recordAt, recordsOf, allRecords, allAnswer, allOutput};
-ghost use Rattle.records.specs.Steps.{pointRecord, pointsFrom, recordsFrom, recordsOfThree, ValueFits, ValuesFit};
+ghost use Rattle.records.specs.Steps.{pointRecord, pointsFrom, recordsFrom, recordsOfThree, ValuesFit};
 
 // Writes the numbers of INFO and how many volume and panning envelopes there are: 14 bytes from 46 on.
 fn write_counts(m: &[u8], l: Layout, out: &mut [u8])
@@ -93,50 +93,12 @@ fn write_sample(m: &[u8], at: usize, out: &mut [u8]) -> usize
     6
 }
 
-// The position of a point of the envelope at a place, as it is shown.
-fn position(m: &[u8], at: usize, sections: u8, point: usize) -> u16
-    requires { ⌜ point < 32 ⌝ }
-    ensures { λ r. ⌜ r ≡ positionShown (now (m .entry)) at sections point ⌝ }
+// A signed number as it is stored in 2 bytes: 65,536 more where it is negative.
+fn unsigned(v: i32) -> u16
+    requires { ⌜ mag v < 65536 ⌝ }
+    ensures { λ r. ⌜ r ≡ unsigned16 v ⌝ }
 {
-    if point <= (sections as usize) {
-        return envelope_position(m, at, point as u8);
-    }
-    0
-}
-
-// A value of panning of version 2, shown as 4v − 128, as it is stored in 2 bytes: from 65,536 on the bytes count from 0 again.
-fn scaled(v: u16) -> u16
-    requires { ⌜ v ≤ 64 ⌝ }
-    ensures { λ r. ⌜ r ≡ unsigned16 (pos (4 * v) -ℤ pos 128) ⌝ }
-{
-    ((65408 + 4 * (v as u32)) % 65536) as u16
-}
-
-// A value that is stored in the module, as it is shown, in 2 bytes.
-fn value_of(kind: EnvelopeKind, version: u8, v: u16) -> u16
-    requires { ⌜ ValueFits kind version v ⌝ }
-    ensures { λ r. ⌜ r ≡ unsigned16 (valueOf kind version v) ⌝ }
-{
-    match kind {
-        EnvelopeKind::Volume => v,
-        EnvelopeKind::Panning => {
-            if version == 2 {
-                return scaled(v);
-            }
-            v
-        }
-    }
-}
-
-// The value of a point of the envelope at a place, as it is shown, in 2 bytes.
-fn value(m: &[u8], kind: EnvelopeKind, version: u8, at: usize, sections: u8, point: usize) -> u16
-    requires { ⌜ (point < 32) × (sections ≡ envelopeSections (now m) at) × ValuesFit (now m) version (thingOf kind) at ⌝ }
-    ensures { λ r. ⌜ r ≡ unsigned16 (valueShown (now (m .entry)) kind version at sections point) ⌝ }
-{
-    if point <= (sections as usize) {
-        return value_of(kind, version, envelope_value(m, at, point as u8));
-    }
-    0
+    (((v + 65536) as u32) % 65536) as u16
 }
 
 // Writes a point of the envelope at a place to the front of an output.
@@ -146,16 +108,16 @@ fn write_point(
     version: u8,
     at: usize,
     sections: u8,
-    point: usize,
+    point: u8,
     out: &mut [u8],
 )
-    requires { ⌜ (point < 32) × (sections ≡ envelopeSections (now m) at) × ValuesFit (now m) version (thingOf kind) at × (4 ≤ length (now out)) ⌝ }
+    requires { ⌜ (sections ≡ envelopeSections (now m) at) × ValuesFit (now m) version (thingOf kind) at × (4 ≤ length (now out)) ⌝ }
     ensures { λ r. ⌜ now (out .exit) ≡ pointRecord (now (m .entry)) kind version at point ++ drop 4 (now (out .entry)) ⌝ }
 {
     let p = position(m, at, sections, point);
     let v = value(m, kind, version, at, sections, point);
     put16(p, 0, out);
-    put16(v, 2, out);
+    put16(unsigned(v), 2, out);
 }
 
 // Writes the points of the envelope at a place to the front of an output.
@@ -164,7 +126,7 @@ fn write_points(m: &[u8], kind: EnvelopeKind, version: u8, at: usize, out: &mut 
     ensures { λ r. ⌜ now (out .exit) ≡ pointsFrom (now (m .entry)) kind version at 32 0 ++ drop 128 (now (out .entry)) ⌝ }
 {
     let sections = envelope_sections(m, at);
-    let mut point: usize = 0;
+    let mut point: u8 = 0;
     let mut to: usize = 0;
     let mut left: u8 = 32;
     while 0 < left {

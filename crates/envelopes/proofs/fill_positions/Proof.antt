@@ -1,6 +1,6 @@
+use borrow.Author.Needs.{needs}
 use native.Mathlib.Nat.{zero-add}
 use native.Mathlib.Omega.{arith}
-use borrow.Author.Needs.{needs}
 use mathlib.Core.Path.{ap, sym, _∙_}
 use Prim.Native.Nat.{ℕ, _-_}
 use lib.ListN.{length}
@@ -19,8 +19,8 @@ abbrev μ-loop : tie.MeasureT-loop
 loop-holds : tie.Need-loop-holds Inv-loop μ-loop
 loop-holds c = filling-first _ _ _
 
-position-requires : tie.Need-position-requires Inv-loop μ-loop
-position-requires c κs = let kept = filling-length _ _ _ _ _ (c .before .loop .inv) in omega (arith, kept, c .loop-test .taken, c .before .before .before .before .pre)
+cast-position : tie.Need-cast-position Inv-loop μ-loop
+cast-position c = let kept = filling-length _ _ _ _ _ (c .before .loop .inv) in omega (arith, kept, c .loop-test .taken, c .before .before .before .before .pre)
 
 loop-less : tie.Need-loop-less Inv-loop μ-loop
 loop-less c = let kept = filling-length _ _ _ _ _ (c .before .before .loop .inv) in omega (arith, kept, c .before .loop-test .taken)
@@ -37,4 +37,4 @@ returns c = filling-last _ _ _ _ _ (c .before .loop .inv) (c .loop-test .left) �
 pub fill-positions-spec : {M : Type 1} → statement M
 fill-positions-spec =
     tie.close
-    (tie.spec Inv-loop μ-loop loop-holds position-requires (λ c. search needs) (λ c. search needs) (λ c. search needs) loop-less loop-again same-length returns)
+    (tie.spec Inv-loop μ-loop loop-holds cast-position (λ c κs. search needs) (λ c. search needs) (λ c. search needs) (λ c. search needs) loop-less loop-again same-length returns)

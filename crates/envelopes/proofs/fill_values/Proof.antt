@@ -1,8 +1,8 @@
+use borrow.Author.Needs.{needs}
 use mir.Syntax.{w32}
 use mir.ValLaws.{toZ-ofZ}
 use native.Mathlib.Nat.{zero-add}
 use native.Mathlib.Omega.{arith}
-use borrow.Author.Needs.{needs}
 use mathlib.Core.Path.{ap, sym, _∙_}
 use Prim.Native.Nat.{ℕ, _-_}
 use lib.ListN.{length}
@@ -21,8 +21,8 @@ abbrev μ-loop : tie.MeasureT-loop
 loop-holds : tie.Need-loop-holds Inv-loop μ-loop
 loop-holds c = filling-first _ _ _
 
-value-requires : tie.Need-value-requires Inv-loop μ-loop
-value-requires c κs = let kept = filling-length _ _ _ _ _ (c .before .loop .inv) in omega (arith, kept, c .loop-test .taken, c .before .before .before .pre)
+cast-value : tie.Need-cast-value Inv-loop μ-loop
+cast-value c = let kept = filling-length _ _ _ _ _ (c .before .loop .inv) in omega (arith, kept, c .loop-test .taken, c .before .before .before .pre)
 
 loop-less : tie.Need-loop-less Inv-loop μ-loop
 loop-less c = let kept = filling-length _ _ _ _ _ (c .before .before .loop .inv) in omega (arith, kept, c .before .loop-test .taken)
@@ -39,4 +39,4 @@ returns c = filling-last _ _ _ _ _ (c .before .loop .inv) (c .loop-test .left) �
 pub fill-values-spec : {M : Type 1} → statement M
 fill-values-spec =
     tie.close
-    (tie.spec Inv-loop μ-loop loop-holds value-requires (λ c. search needs) (λ c. search needs) (λ c. search needs) loop-less loop-again same-length returns)
+    (tie.spec Inv-loop μ-loop loop-holds cast-value (λ c κs. search needs) (λ c. search needs) (λ c. search needs) (λ c. search needs) loop-less loop-again same-length returns)

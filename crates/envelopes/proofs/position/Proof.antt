@@ -9,6 +9,4 @@ returns-2 : tie.Need-returns-2
 returns-2 c = simp (← c .before .in-use .ensures, c .if1 .left)
 
 pub position-spec : {M : Type 1} → statement M
-position-spec =
-    tie.close
-    (tie.spec (λ c κs. search needs) (λ c. search needs) (λ c κs. search needs) returns returns-2)
+position-spec = tie.close (tie.spec (λ c κs. search needs) (λ c κs. search needs) returns returns-2)

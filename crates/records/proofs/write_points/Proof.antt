@@ -16,7 +16,7 @@ abbrev μ-loop : tie.MeasureT-loop
 μ-loop m kind version at out₀ sections point₀ to₀ left₀ out point to left = left
 
 loop-holds : tie.Need-loop-holds Inv-loop μ-loop
-loop-holds c = (blocks-first (c .before .before .before .args .out .now) (every-any (λ p. tt) (placesFrom (λ p. 1) 32 0)) (omega (arith, points-size (c .before .before .before .args .m .now) (c .before .before .before .args .kind) (c .before .before .before .args .version) (c .before .before .before .args .at), c .before .before .before .pre .1)), refl)
+loop-holds c = let args = c .before .before .before .args in (blocks-first (args .out .now) (every-any (λ p. tt) (placesFrom (λ p. 1) 32 0)) (omega (arith, points-size (args .m .now) (args .kind) (args .version) (args .at), c .before .before .before .pre .1)), refl)
 
 sub-write-point : tie.Need-sub-write-point Inv-loop μ-loop
 sub-write-point c = blocks-inside (c .before .before .before .before .before .args .out .now) (c .before .loop .out) (c .before .loop .inv .0)
@@ -25,13 +25,13 @@ part-write-point-start : tie.Need-part-write-point-start Inv-loop μ-loop
 part-write-point-start c = blocks-inside (c .before .before .before .before .before .args .out .now) (c .before .loop .out) (c .before .loop .inv .0)
 
 write-point-requires : tie.Need-write-point-requires Inv-loop μ-loop
-write-point-requires c κs = (omega (arith, c .before .before .loop .inv .1, c .before .loop-test .taken), c .before .before .before .envelope-sections .ensures, c .before .before .before .before .before .before .pre .0, blocks-part (c .before .before .before .before .before .before .args .out .now) (c .before .before .loop .out) (c .before .before .loop .inv .0) (c .before .loop-test .taken))
+write-point-requires c κs = (c .before .before .before .envelope-sections .ensures, c .before .before .before .before .before .before .pre .0, blocks-part (c .before .before .before .before .before .before .args .out .now) (c .before .before .loop .out) (c .before .before .loop .inv .0) (c .before .loop-test .taken))
 
 add-to : tie.Need-add-to Inv-loop μ-loop
 add-to c = let small = blocks-small (c .before .before .before .before .before .before .before .before .before .args .out .now) (c .before .before .before .before .before .loop .out) (c .before .before .before .before .before .loop .inv .0) (c .before .before .before .before .loop-test .taken) in search needs
 
 add-point : tie.Need-add-point Inv-loop μ-loop
-add-point c = omega (arith, c .before .before .before .before .before .loop .inv .1)
+add-point c = let all = c .before .before .before .before .before .loop .inv .1 in search needs
 
 loop-again : tie.Need-loop-again Inv-loop μ-loop
 loop-again c = (blocks-turn (c .before .before .before .before .before .before .before .before .before .args .out .now) (c .before .before .before .before .before .loop .out) (c .before .before .before .before .before .loop .inv .0) (c .before .before .before .before .loop-test .taken) _ (refl, c .before .before .write-point .ensures) refl, omega (arith, c .before .before .before .before .before .loop .inv .1, c .before .before .before .before .loop-test .taken))
@@ -40,7 +40,7 @@ same-length : tie.Need-same-length Inv-loop μ-loop
 same-length c = blocks-length (c .before .before .before .before .before .args .out .now) (c .before .loop .out) (c .before .loop .inv .0)
 
 returns : tie.Need-returns Inv-loop μ-loop
-returns c = points-last (c .before .before .before .before .before .args .m .now) (c .before .before .before .before .before .args .kind) (c .before .before .before .before .before .args .version) (c .before .before .before .before .before .args .at) (c .before .before .before .before .before .args .out .now) (c .before .loop .out) (c .before .loop .inv .0) (c .loop-test .left)
+returns c = let args = c .before .before .before .before .before .args in points-last (args .m .now) (args .kind) (args .version) (args .at) (args .out .now) (c .before .loop .out) (c .before .loop .inv .0) (c .loop-test .left)
 
 pub write-points-spec : {M : Type 1} → statement M
 write-points-spec =
