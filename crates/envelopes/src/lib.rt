@@ -1,5 +1,6 @@
 // Envelopes: how many there are, and one of them. Each query gives the module's own refusal, then 18.
 use blocks::Thing;
+use blocks::chunk_of;
 use blocks::envelope_count;
 use blocks::stored::envelope_first_sustain;
 use blocks::stored::envelope_flags;
@@ -10,9 +11,7 @@ use blocks::stored::envelope_position;
 use blocks::stored::envelope_second_sustain;
 use blocks::stored::envelope_sections;
 use blocks::stored::envelope_value;
-use layout::Layout;
 use layout::Outline;
-use layout::Place;
 use numbers::signed;
 use queries::Found;
 use queries::find;
@@ -24,7 +23,6 @@ ghost use mathlib.Core.Path.{_≡_};
 ghost use lib.Dec.{leb};
 ghost use lib.ListN.{length};
 ghost use Rattle.numbers.specs.Numbers.{eachFrom};
-ghost use Rattle.blocks.specs.Things.{chunkOf};
 ghost use Rattle.envelopes.specs.Shown.{thingOf, noCount, countAnswer, positionShown, valueOf, valueShown, noEnvelope, shownEnvelope, envelopeAnswer};
 
 // The two kinds of envelopes.
@@ -64,16 +62,6 @@ fn thing_of(kind: EnvelopeKind) -> Thing
     }
 }
 
-fn chunk_of(l: Layout, kind: EnvelopeKind) -> Place
-    ensures { λ r. ⌜ r ≡ chunkOf l (thingOf kind) ⌝ }
-{
-    let p = l.places;
-    match kind {
-        EnvelopeKind::Volume => p.venv,
-        EnvelopeKind::Panning => p.penv,
-    }
-}
-
 fn no_count(r: Refusal) -> CountAnswer
     ensures { λ a. ⌜ a ≡ noCount r ⌝ }
 {
@@ -90,7 +78,7 @@ pub fn count(m: &[u8], kind: EnvelopeKind) -> CountAnswer
     match module::open(m) {
         Outline::Found(l) => CountAnswer {
             outcome: outcome_of(Verdict::Accepted),
-            count: envelope_count(m, chunk_of(l, kind)),
+            count: envelope_count(m, chunk_of(l, thing_of(kind))),
         },
         Outline::Refused(r) => no_count(r),
     }

@@ -27,7 +27,7 @@ use Rattle.format.specs.Description.{Info, Song, Instrument, Pattern, Wi
 use Rattle.format.specs.Encoding.{infoBytes, songBytes, instrumentBytes, patternBytes, flagsOf, frameBytes, sampleBytes, pointBytes, envelopeBytes, envelopesBytes, chunkBytes}
 use Rattle.format.specs.WellFormed.{InfoFits, SongFits, InstrumentFits, PatternFits, FrameFits, SampleFits, PointFits, EnvelopeFits, EnvelopesFit, noSample, framesOf}
 use Rattle.format.proofs.Stored.{number16-past}
-use Rattle.format.proofs.ReadingBlocks.{info-instruments, info-samples, info-songs, info-patterns, info-tracks, song-size, song-length, song-entry, instrument-size, instrument-sample, instrument-volume, instrument-loop-start, instrument-loop-length, instrument-panning, instrument-flags, sample-size, sample-flags, sample-frames, envelope-size, envelope-instrument, envelope-flags, envelope-sections, envelope-first-sustain, envelope-loop-first, envelope-loop-last, envelope-second-sustain, envelope-value}
+use Rattle.format.proofs.ReadingBlocks.{info-read, song-size, song-length, song-entry, instrument-size, instrument-sample, instrument-volume, instrument-loop-start, instrument-loop-length, instrument-panning, instrument-flags, sample-size, sample-flags, sample-frames, envelope-size, envelope-instrument, envelope-flags, envelope-sections, envelope-first-sustain, envelope-loop-first, envelope-loop-last, envelope-second-sustain, envelope-value}
 
 -- Records of which the encoding of each is bytes.
 pub all-bytes : {A : Type 0} {P : A → Type 0} (f : A → List ℕ) → ((x : A) → P x → Bytes (f x)) → (xs : List A) → Every P xs → Bytes (joined (map f xs))
@@ -58,11 +58,11 @@ module _ (i : Info) (fits : InfoFits i) where
   pub info-rules : InfoRules (chunkBytes (INFO i))
   info-rules = record {
     size = refl;
-    instruments = rw (info-at i 0 ∙ info-instruments i) (fits .instruments);
-    samples = rw (info-at i 2 ∙ info-samples i) (fits .samples);
-    songs = rw (info-at i 4 ∙ info-songs i) (fits .songs);
-    patterns = rw (info-at i 6 ∙ info-patterns i) (fits .patterns);
-    tracks = rw (info-at i 8 ∙ info-tracks i) (fits .tracks);
+    instruments = rw (info-at i 0 ∙ info-read i .instruments) (fits .instruments);
+    samples = rw (info-at i 2 ∙ info-read i .samples) (fits .samples);
+    songs = rw (info-at i 4 ∙ info-read i .songs) (fits .songs);
+    patterns = rw (info-at i 6 ∙ info-read i .patterns) (fits .patterns);
+    tracks = rw (info-at i 8 ∙ info-read i .tracks) (fits .tracks);
   }
 
 -- B2, V1: the numbers of patterns fit 2 bytes, since there are so few patterns.

@@ -28,7 +28,7 @@ use Rattle.acceptance.proofs.Recorded.{among-within, within-among}
 use Rattle.format.specs.Description.{Chunk, NAME, INFO, SONG, INST, PATT, SMPL, VENV, PENV, Other, Description}
 use Rattle.format.specs.Encoding.{songBytes, instrumentBytes, patternBytes, sampleBytes, envelopesBytes, identifier, contents, chunkBytes, headerBytes, encoded}
 use Rattle.format.specs.WellFormed.{In, Fits32, WellFormed}
-use Rattle.format.proofs.ReadingBlocks.{info-instruments, info-samples, info-songs, info-patterns, info-tracks}
+use Rattle.format.proofs.ReadingBlocks.{info-read}
 use Rattle.format.proofs.ChunksIn.{in-within, within-in, every-in, in-every, once-letters, in-once}
 use Rattle.format.proofs.ChunkKinds.{holder, held-as, kindBy, kind-covered}
 use Rattle.format.proofs.EncodedBlocks.{all-bytes, filled-by, info-at, info-bytes, info-rules, song-bytes, song-rules, instrument-bytes, instrument-rules, pattern-bytes, pattern-rules, sample-bytes, sample-rules, envelopes-bytes, envelopes-rules}
@@ -205,13 +205,13 @@ module _ (d : Description) (w : WellFormed d) where
     instruments = map instrumentBytes (w .instruments);
     patterns = map patternBytes (w .patterns);
     samples = map sampleBytes (w .samples);
-    songsFill = fills songLetters refl songBytes (w .songs) (w .lists .songCount ∙ sym (info-at (w .info) 4 ∙ info-songs (w .info)));
-    instrumentsFill = fills instLetters refl instrumentBytes (w .instruments) (w .lists .instrumentCount ∙ sym (info-at (w .info) 0 ∙ info-instruments (w .info)));
-    patternsFill = fills pattLetters refl patternBytes (w .patterns) (w .lists .patternCount ∙ sym (info-at (w .info) 6 ∙ info-patterns (w .info)));
-    samplesFill = fills smplLetters refl sampleBytes (w .samples) (w .lists .sampleCount ∙ sym (info-at (w .info) 2 ∙ info-samples (w .info)));
+    songsFill = fills songLetters refl songBytes (w .songs) (w .lists .songCount ∙ sym (info-at (w .info) 4 ∙ info-read (w .info) .songs));
+    instrumentsFill = fills instLetters refl instrumentBytes (w .instruments) (w .lists .instrumentCount ∙ sym (info-at (w .info) 0 ∙ info-read (w .info) .instruments));
+    patternsFill = fills pattLetters refl patternBytes (w .patterns) (w .lists .patternCount ∙ sym (info-at (w .info) 6 ∙ info-read (w .info) .patterns));
+    samplesFill = fills smplLetters refl sampleBytes (w .samples) (w .lists .sampleCount ∙ sym (info-at (w .info) 2 ∙ info-read (w .info) .samples));
     songRules = rw (length-map (w .patterns) patternBytes) (every-map songBytes (w .songs) .1 (every-of (song-rules (length (w .patterns))) (w .lists .songsFit)));
     instrumentRules = every-map instrumentBytes (w .instruments) .1 (every-of (instrument-rules (w .samples)) (w .lists .instrumentsFit));
-    patternRules = rw (info-at (w .info) 8 ∙ info-tracks (w .info)) (every-map patternBytes (w .patterns) .1 (every-of (pattern-rules (w .info .tracks)) (w .lists .patternsFit)));
+    patternRules = rw (info-at (w .info) 8 ∙ info-read (w .info) .tracks) (every-map patternBytes (w .patterns) .1 (every-of (pattern-rules (w .info .tracks)) (w .lists .patternsFit)));
     sampleRules = every-map sampleBytes (w .samples) .1 (every-of sample-rules (w .lists .samplesFit));
     volumeEnvelopes = λ chunk a. (
         let (held, i, same) = among-held Covered.venv chunk a in

@@ -32,7 +32,7 @@ use Rattle.format.specs.Encoding.{infoBytes, chunkBytes, headerBytes, en
 use Rattle.format.specs.WellFormed.{In, WellFormed}
 use Rattle.format.specs.Shown.{notThere, listed}
 use Rattle.format.proofs.Stored.{number16-past}
-use Rattle.format.proofs.ReadingBlocks.{info-instruments, info-samples, info-songs, info-patterns, info-tracks}
+use Rattle.format.proofs.ReadingBlocks.{info-read}
 use Rattle.format.proofs.EncodedModule.{in-among, encoded-chunks, encoded-accepted}
 
 -- The records of a list, which all fit, are those that are asked for: so many are counted, and each stands at its place.
@@ -92,7 +92,7 @@ module _ (d : Description) (w : WellFormed d) where
     pub info-numbers : (info : Info) → In (d .chunks) (INFO info) → (l .instruments ≡ info .instruments) × (l .samples ≡ info .samples) × (l .songs ≡ info .songs) × (l .patterns ≡ info .patterns) × (l .tracks ≡ info .tracks)
     info-numbers info i =
         let counts = layout .counts (chunkBytes (INFO info)) (in-among (d .chunks) (INFO info) i refl) in
-        (counts .0 ∙ held 0 ∙ info-instruments info, counts .1 ∙ held 2 ∙ info-samples info, counts .2 ∙ held 4 ∙ info-songs info, counts .3 ∙ held 6 ∙ info-patterns info, counts .4 ∙ held 8 ∙ info-tracks info)
+        (counts .0 ∙ held 0 ∙ info-read info .instruments, counts .1 ∙ held 2 ∙ info-read info .samples, counts .2 ∙ held 4 ∙ info-read info .songs, counts .3 ∙ held 6 ∙ info-read info .patterns, counts .4 ∙ held 8 ∙ info-read info .tracks)
       where
         held : (k : ℕ) → number16 (chunkBytes (INFO info)) (8 + k) ≡ number16 (infoBytes info) k
         held = number16-past (infoLetters ++ bytes32 (length (infoBytes info))) (infoBytes info) 8 refl

@@ -15,26 +15,22 @@ use Rattle.format.specs.Encoding.{infoBytes, songBytes, instrumentBytes,
 use Rattle.format.specs.WellFormed.{noPoint}
 use Rattle.format.proofs.Stored.{number16-past, number32-past, part-past, pieces-size, piece-at}
 
-module _ (i : Info) where
-  pub info-instruments : number16 (infoBytes i) 0 ≡ i .instruments
-  unfolding byteAt number16
-  info-instruments = bytes16-again (i .instruments)
+pub record InfoRead (i : Info) : Type 0 where
+  pub instruments : number16 (infoBytes i) 0 ≡ i .instruments
+  pub samples : number16 (infoBytes i) 2 ≡ i .samples
+  pub songs : number16 (infoBytes i) 4 ≡ i .songs
+  pub patterns : number16 (infoBytes i) 6 ≡ i .patterns
+  pub tracks : number16 (infoBytes i) 8 ≡ i .tracks
 
-  pub info-samples : number16 (infoBytes i) 2 ≡ i .samples
-  unfolding byteAt number16
-  info-samples = bytes16-again (i .samples)
-
-  pub info-songs : number16 (infoBytes i) 4 ≡ i .songs
-  unfolding byteAt number16
-  info-songs = bytes16-again (i .songs)
-
-  pub info-patterns : number16 (infoBytes i) 6 ≡ i .patterns
-  unfolding byteAt number16
-  info-patterns = bytes16-again (i .patterns)
-
-  pub info-tracks : number16 (infoBytes i) 8 ≡ i .tracks
-  unfolding byteAt number16
-  info-tracks = bytes16-again (i .tracks)
+pub info-read : (i : Info) → InfoRead i
+unfolding byteAt number16
+info-read i = record {
+  instruments = bytes16-again (i .instruments);
+  samples = bytes16-again (i .samples);
+  songs = bytes16-again (i .songs);
+  patterns = bytes16-again (i .patterns);
+  tracks = bytes16-again (i .tracks);
+}
 
 module _ (s : Song) (name : length (s .name) ≡ 44) where
   pub song-size : length (songBytes s) ≡ 46 + 2 * length (s .playlist)
