@@ -17,12 +17,12 @@ use Rattle.refusal.specs.declared.Refusal.{Refusal}
 use Rattle.refusal.specs.declared.Verdict.{Verdict}
 use Rattle.refusal.specs.declared.Verdict.the-variants.{Accepted, Refused}
 use Rattle.cells.specs.Cells.{sizesFit}
+use Rattle.numbers.specs.Numbers.{Bytes, number16, number32, partOf}
 use Rattle.packed_rows.specs.Entries.{Entry}
 use Rattle.packed_rows.specs.Stream.{readStream, whole, cellsRead, AcceptedAs}
 use Rattle.packed_rows.specs.Answers.{checkAnswer, verdictOf}
 use Rattle.packed_rows.specs.Theorems.{StreamOf}
 use Rattle.packed_rows.proofs.Theorems.{reads-exactly, accepts-exactly}
-use Rattle.numbers.specs.Numbers.{Bytes, number16, number32, partOf}
 use Rattle.blocks.specs.StoredFields.{packedBytes}
 use Rattle.blocks.specs.Sizes.{sizeOf}
 use Rattle.blocks.specs.declared.Kind.the-variants.{Pattern}

@@ -12,11 +12,11 @@ use lib.Dec.{eqb}
 use borrow.Author.Tests.{eqb-true, eq-eqb, ne-eqb}
 use Rattle.vocabulary.specs.Lists.{joined, Every, none, also}
 use Rattle.vocabulary.proofs.EveryOne.{every-append, every-first}
+use Rattle.vocabulary.proofs.Splits.{Within}
 use Rattle.numbers.specs.Numbers.{number32}
 use Rattle.layout.specs.Chunks.{Chunk, occurs}
 use Rattle.layout.specs.Outlines.{standing, placeOf}
 use Rattle.acceptance.specs.Rules.{ChunkBytes, Among, Covered}
-use Rattle.vocabulary.proofs.Splits.{Within}
 use Rattle.acceptance.proofs.Identifiers.{identifierOf, chunk-named}
 
 -- The record of a chunk at a place, and of chunks one behind the other.

@@ -9,9 +9,9 @@ use mathlib.Core.List.{List, [], _∷_}
 use lib.ListN.{length, getD, take}
 use Rattle.vocabulary.specs.Lists.{Every}
 use Rattle.vocabulary.specs.Letters.{nameLetters, infoLetters, songLetters, instLetters, pattLetters, smplLetters, venvLetters, penvLetters}
+use Rattle.numbers.specs.Numbers.{byteAt, number16, number32, partOf}
 use Rattle.packed_rows.specs.Entries.{Entry}
 use Rattle.packed_rows.specs.Theorems.{StreamOf}
-use Rattle.numbers.specs.Numbers.{byteAt, number16, number32, partOf}
 use Rattle.blocks.specs.declared.Thing.{Thing}
 use Rattle.blocks.specs.declared.Thing.the-variants.{Song, Instrument, Pattern, Sample, VolumeEnvelope, PanningEnvelope}
 use Rattle.acceptance.specs.Rules.{Among, Covered, NeedsInfo, Filled, PanningFits, Looped, SampleRules, VolumeFits, PanningValueFits}

@@ -11,9 +11,9 @@ use lib.IntN.{pos, negsuc}
 use lib.Signed.{_≤ℤ_}
 use Rattle.vocabulary.specs.Lists.{joined, Every}
 use Rattle.vocabulary.specs.Letters.{nameLetters, infoLetters, songLetters, instLetters, pattLetters, smplLetters, venvLetters, penvLetters}
+use Rattle.numbers.specs.Numbers.{byteAt, number16, number32, signed16}
 use Rattle.packed_rows.specs.Entries.{Entry}
 use Rattle.packed_rows.specs.Theorems.{StreamOf}
-use Rattle.numbers.specs.Numbers.{byteAt, number16, number32, signed16}
 
 -- M5: a chunk has 8 bytes, identifier and length, and as many bytes of data as its length says. Its identifier is four letters A to Z.
 pub record ChunkBytes (chunk : List ℕ) : Type 0 where

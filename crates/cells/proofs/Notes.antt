@@ -1,12 +1,12 @@
 -- A shown note loses nothing: its byte is the note that is stored (N2 to N4). And which note each number is, without the tests.
-use Prim.Native.Nat.{ℕ, _/_, _%_, _≤_}
+use Prim.Native.Nat.{ℕ, _/_, _%_}
 use mathlib.Core.Path.{_≡_, refl, sym, subst, _∙_}
 use mathlib.Core.Logic.{_↔_}
 use mathlib.Core.Bool.{Bool, true, false, cond, true≢false}
 use native.Mathlib.Nat.{div-add-mod'}
 use native.Mathlib.Omega.{arith}
 use lib.Dec.{eqb, leb}
-use borrow.Author.Tests.{eqb-true, eqb-false, eq-eqb, ne-eqb, leb-true, le-leb}
+use borrow.Author.Tests.{eqb-true, eqb-false, ne-eqb, leb-true, le-leb}
 use Rattle.cells.specs.Cells.{both}
 use Rattle.cells.specs.Shown.{isPitch, shownNote, noteByte, PitchNumber, NoteOf, none, keyOff, pitch, unknown}
 use Rattle.cells.specs.declared.Note.{Note}

@@ -27,15 +27,15 @@ ghost use Rattle.refusal.specs.Numbers.{outcomeNumbers, verdictNumbers};
 ghost use Rattle.packed_rows.specs.Answers.{cellNumbers};
 ghost use Rattle.packed_rows.specs.declared.CellAnswer.the-variants.{Found, Refused as CellRefused};
 ghost use Rattle.module.specs.Verdicts.{moduleVerdict};
-ghost use Rattle.summary.specs.Shown.{versionAnswer, nameAnswer, infoAnswer};
-ghost use Rattle.songs.specs.Shown.{songAnswer, entryAnswer, playlistAnswer, playlistOutput};
-ghost use Rattle.instruments.specs.Shown.{instrumentAnswer};
+ghost use Rattle.repack.specs.Repacked.{repackAnswer, repackOutput};
+ghost use Rattle.samples.specs.Shown.{sampleAnswer, framesAnswer, frameAnswer, allFramesAnswer, allFramesOutput};
 ghost use Rattle.envelopes.specs.Shown.{countAnswer, envelopeAnswer};
 ghost use Rattle.envelopes.specs.declared.EnvelopeKind.the-variants.{Volume, Panning};
 ghost use Rattle.patterns.specs.Shown.{rowsAnswer, cellAnswer, unpackAnswer, unpackOutput};
-ghost use Rattle.samples.specs.Shown.{sampleAnswer, framesAnswer, frameAnswer, allFramesAnswer, allFramesOutput};
+ghost use Rattle.songs.specs.Shown.{songAnswer, entryAnswer, playlistAnswer, playlistOutput};
+ghost use Rattle.summary.specs.Shown.{versionAnswer, nameAnswer, infoAnswer};
+ghost use Rattle.instruments.specs.Shown.{instrumentAnswer};
 ghost use Rattle.records.specs.Records.{allAnswer, allOutput};
-ghost use Rattle.repack.specs.Repacked.{repackAnswer, repackOutput};
 ghost use Rattle.dbm0.specs.Answers.{fieldsOfCell};
 
 // A cell.

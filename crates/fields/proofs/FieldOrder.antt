@@ -8,10 +8,10 @@ use Rattle.refusal.specs.Rules.{Rule, firstBroken, rulesOfEach}
 use Rattle.refusal.specs.declared.Refusal.{Refusal}
 use Rattle.refusal.specs.declared.Verdict.{Verdict}
 use Rattle.refusal.specs.declared.Verdict.the-variants.{Accepted, Refused}
+use Rattle.refusal.proofs.InOrder.{rules-stopped, rules-passed}
 use Rattle.layout.specs.declared.Layout.{Layout}
 use Rattle.blocks.specs.StoredFields.{envelopeFlags, envelopeSections}
 use Rattle.blocks.specs.Sizes.{songBlocks, instrumentBlocks, envelopeBlocks}
-use Rattle.refusal.proofs.InOrder.{rules-stopped, rules-passed}
 use Rattle.fields.specs.Fields.{songRules, instrumentRules, envelopeHeadRules, envelopePointRules, valuesRules, envelopeRules}
 
 -- The four parts of the fields.

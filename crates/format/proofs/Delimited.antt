@@ -9,11 +9,11 @@ use native.Mathlib.Omega.{arith}
 use lib.ListN.{length, getD, length-append}
 use lib.Dec.{eqb}
 use Rattle.vocabulary.specs.Lists.{joined, Every, none, also}
+use Rattle.numbers.specs.Numbers.{number16, number32, bytes16, bytes32}
+use Rattle.numbers.proofs.Stored.{bytes16-again, bytes32-again}
 use Rattle.packed_rows.specs.Entries.{streamOf}
 use Rattle.packed_rows.specs.Theorems.{StreamOf}
 use Rattle.packed_rows.proofs.Grammar.{reads-one}
-use Rattle.numbers.specs.Numbers.{number16, number32, bytes16, bytes32}
-use Rattle.numbers.proofs.Stored.{bytes16-again, bytes32-again}
 use Rattle.format.specs.Description.{Info, Song, Instrument, Pattern, Width, eight, sixteen, thirtyTwo, Sample, Envelope}
 use Rattle.format.specs.Encoding.{infoBytes, songBytes, instrumentBytes, patternBytes, flagsOf, frameBytes, sampleBytes, pointBytes, envelopeBytes, envelopesBytes}
 use Rattle.format.specs.WellFormed.{PatternFits}

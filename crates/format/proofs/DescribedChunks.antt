@@ -10,9 +10,9 @@ use Rattle.vocabulary.specs.Lists.{joined, Every, none, also}
 use Rattle.vocabulary.proofs.EveryOne.{every-of, every-both}
 use Rattle.vocabulary.proofs.MappedLists.{every-map}
 use Rattle.cells.specs.Cells.{blocksOf}
-use Rattle.packed_rows.proofs.Shapes.{none as no-block, one as one-block, Blocks, blocks-joined}
 use Rattle.numbers.specs.Numbers.{Bytes, number16, number32, bytes16, bytes32}
 use Rattle.numbers.proofs.AllBytes.{bytes-drop, bytes-joined}
+use Rattle.packed_rows.proofs.Shapes.{none as no-block, one as one-block, Blocks, blocks-joined}
 use Rattle.acceptance.specs.Rules.{ChunkBytes, Filled, EnvelopeRules, EnvelopesRules}
 use Rattle.format.specs.Description.{sixteen, thirtyTwo, Envelope}
 use Rattle.format.specs.Encoding.{envelopeBytes, envelopesBytes}

@@ -12,14 +12,14 @@ use Rattle.vocabulary.specs.Lists.{joined, Every, none, also}
 use Rattle.vocabulary.specs.Letters.{infoLetters}
 use Rattle.vocabulary.proofs.EveryOne.{every-at, every-of}
 use Rattle.vocabulary.proofs.MappedLists.{every-map}
+use Rattle.numbers.specs.Numbers.{byteAt, Bytes, number16, number32, bytes16, bytes32}
+use Rattle.numbers.proofs.Stored.{bytes16-again, bytes32-again}
+use Rattle.numbers.proofs.AllBytes.{bytes-nil, bytes-cons, bytes-append, bytes-joined, bytes16-bytes, bytes32-bytes}
 use Rattle.packed_rows.specs.Entries.{Entry, soundEntry, streamOf}
 use Rattle.packed_rows.specs.Theorems.{every, allSound}
 use Rattle.packed_rows.proofs.Reading.{both-true}
 use Rattle.packed_rows.proofs.Shapes.{getD-mapped}
 use Rattle.packed_rows.proofs.Soundness.{sound-facts}
-use Rattle.numbers.specs.Numbers.{byteAt, Bytes, number16, number32, bytes16, bytes32}
-use Rattle.numbers.proofs.Stored.{bytes16-again, bytes32-again}
-use Rattle.numbers.proofs.AllBytes.{bytes-nil, bytes-cons, bytes-append, bytes-joined, bytes16-bytes, bytes32-bytes}
 use Rattle.acceptance.specs.Rules.{Filled, InfoRules, SongRules, InstrumentRules, PatternRules, SampleRules, EnvelopeRules, EnvelopesRules}
 use Rattle.acceptance.proofs.Locating.{bytes16-number}
 use Rattle.repacking.proofs.PackedBytes.{EntriesBytes, stream-bytes}

@@ -14,11 +14,11 @@ use Rattle.vocabulary.proofs.EveryOne.{every-at, every-of}
 use Rattle.vocabulary.proofs.MappedLists.{every-map, map-split}
 use Rattle.vocabulary.proofs.Splits.{within-mapped, mapped-within, no-two-mapped}
 use Rattle.refusal.specs.declared.Verdict.the-variants.{Accepted}
+use Rattle.numbers.proofs.AllBytes.{bytes-nil, bytes-cons, bytes-append, bytes-every, bytes-joined, bytes16-bytes, bytes32-bytes}
+use Rattle.numbers.specs.Numbers.{byteAt, Bytes, number32, bytes32}
 use Rattle.packed_rows.specs.Theorems.{every}
 use Rattle.packed_rows.proofs.Reading.{both-true}
-use Rattle.numbers.proofs.AllBytes.{bytes-nil, bytes-cons, bytes-append, bytes-every, bytes-joined, bytes16-bytes, bytes32-bytes}
 use Rattle.module.specs.Verdicts.{moduleVerdict}
-use Rattle.numbers.specs.Numbers.{byteAt, Bytes, number32, bytes32}
 use Rattle.acceptance.specs.Rules.{ChunkBytes, Covered, NeedsInfo, Among, AtMostOnce, BehindInfo, InfoRules, Filled, EnvelopesRules, VolumeFits, PanningValueFits, Content, ChunkRules, Rules}
 use Rattle.acceptance.proofs.Locating.{byteAt-front, bytes32-number}
 use Rattle.acceptance.proofs.Holding.{leb-says, and-says}

@@ -10,8 +10,8 @@ use Rattle.vocabulary.specs.Lists.{joined, Every}
 use Rattle.vocabulary.specs.Letters.{infoLetters}
 use Rattle.vocabulary.proofs.EveryOne.{every-at, every-of}
 use Rattle.vocabulary.proofs.MappedLists.{every-map}
-use Rattle.packed_rows.proofs.Shapes.{getD-mapped}
 use Rattle.numbers.specs.Numbers.{number16, bytes32}
+use Rattle.packed_rows.proofs.Shapes.{getD-mapped}
 use Rattle.layout.specs.declared.Layout.{Layout}
 use Rattle.layout.specs.declared.Outline.the-variants.{Found as Opened}
 use Rattle.blocks.specs.Sizes.{firstBlock, blockAt}

@@ -14,13 +14,13 @@ use Rattle.layout.specs.declared.Layout.{Layout}
 use Rattle.blocks.specs.Things.{countOf}
 use Rattle.blocks.specs.declared.Thing.{Thing}
 use Rattle.blocks.specs.declared.Thing.the-variants.{Song as SongThing, Instrument as InstrumentThing, Pattern as PatternThing, Sample as SampleThing, VolumeEnvelope, PanningEnvelope}
-use Rattle.envelopes.specs.Shown.{thingOf}
-use Rattle.envelopes.specs.declared.EnvelopeKind.{EnvelopeKind}
-use Rattle.envelopes.specs.declared.EnvelopeKind.the-variants.{Volume, Panning}
 use Rattle.acceptance.specs.Rules.{Among, Covered, VolumeFits, PanningValueFits}
 use Rattle.acceptance.proofs.Locating.{bytes16-number}
 use Rattle.acceptance.proofs.Standing.{Found, LayoutOf}
 use Rattle.acceptance.proofs.ContentHalf.{count-same}
+use Rattle.envelopes.specs.Shown.{thingOf}
+use Rattle.envelopes.specs.declared.EnvelopeKind.{EnvelopeKind}
+use Rattle.envelopes.specs.declared.EnvelopeKind.the-variants.{Volume, Panning}
 use Rattle.format.specs.Description.{Info, Song, Instrument, Pattern, Sample, Envelope, NAME, INFO, SONG, INST, PATT, SMPL, VENV, PENV, Description}
 use Rattle.format.specs.Encoding.{songBytes, instrumentBytes, patternBytes, sampleBytes, envelopeBytes, envelopesBytes, chunkBytes, headerBytes, encoded}
 use Rattle.format.specs.WellFormed.{In, SongFits, InstrumentFits, PatternFits, SampleFits, EnvelopeFits, WellFormed}

@@ -6,9 +6,9 @@ use native.Mathlib.Omega.{arith}
 use lib.ListN.{length, getD, take, drop, length-append}
 use lib.Seq.{take-append-seam}
 use Rattle.vocabulary.specs.Lists.{joined}
-use Rattle.packed_rows.specs.Entries.{streamOf}
 use Rattle.numbers.specs.Numbers.{byteAt, number16, number32, bytes16}
 use Rattle.numbers.proofs.Stored.{bytes16-again, bytes32-again}
+use Rattle.packed_rows.specs.Entries.{streamOf}
 use Rattle.acceptance.proofs.Locating.{PartAt, number16-at, number16-start, part-of-part}
 use Rattle.format.specs.Description.{Info, Song, Instrument, Pattern, Width, eight, sixteen, thirtyTwo, Sample, Envelope}
 use Rattle.format.specs.Encoding.{infoBytes, songBytes, instrumentBytes, patternBytes, flagsOf, frameBytes, sampleBytes, pointBytes, envelopeBytes}

@@ -7,6 +7,8 @@ use native.Mathlib.Omega.{arith}
 use lib.ListN.{length, length-map, length-replicate}
 use Rattle.vocabulary.specs.Lists.{Every}
 use Rattle.vocabulary.proofs.EveryOne.{every-of}
+use Rattle.numbers.specs.Numbers.{number16, partOf, bytes16, bytes32}
+use Rattle.numbers.proofs.AllBytes.{bytes-rest, bytes-front, bytes-behind, bytes-replicate}
 use Rattle.packed_rows.specs.Entries.{Entry, rowFrom, rowsFrom, streamOf}
 use Rattle.packed_rows.specs.Stream.{whole, readStream, entriesRead, AcceptedAs}
 use Rattle.packed_rows.specs.Packer.{packedEntries, packedStream, packedLength}
@@ -18,8 +20,6 @@ use Rattle.packed_rows.proofs.Soundness.{entries-sound}
 use Rattle.packed_rows.proofs.StreamLength.{packed-length}
 use Rattle.packed_rows.proofs.Accepted.{accepted-rows}
 use Rattle.packed_rows.proofs.Theorems.{none-shorter, reads-exactly}
-use Rattle.numbers.specs.Numbers.{number16, partOf, bytes16, bytes32}
-use Rattle.numbers.proofs.AllBytes.{bytes-rest, bytes-front, bytes-behind, bytes-replicate}
 use Rattle.blocks.specs.StoredFields.{packedBytes}
 use Rattle.repack.specs.Repacked.{packed}
 use Rattle.repacking.proofs.PackedBytes.{EntriesBytes, stream-bytes, repacked-bytes}

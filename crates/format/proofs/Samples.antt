@@ -5,9 +5,9 @@ use mathlib.Core.Path.{_≡_, refl}
 use mathlib.Core.List.{List, [], _∷_, _++_}
 use lib.ListN.{length, replicate}
 use Rattle.refusal.specs.declared.Verdict.the-variants.{Accepted}
+use Rattle.numbers.specs.Numbers.{byteAt, number16, number32}
 use Rattle.packed_rows.specs.Entries.{Entry}
 use Rattle.packed_rows.specs.Stream.{readFrom, reading}
-use Rattle.numbers.specs.Numbers.{byteAt, number16, number32}
 use Rattle.layout.specs.Chunks.{chunksFrom, chunks}
 use Rattle.blocks.specs.Sizes.{sizeOf}
 use Rattle.module.specs.Verdicts.{moduleVerdict}

@@ -12,10 +12,10 @@ use Rattle.numbers.specs.Numbers.{byteAt, eachFrom}
 use Rattle.blocks.specs.StoredFields.{envelopePosition, envelopeValue}
 use Rattle.blocks.specs.Sizes.{sizeOf}
 use Rattle.blocks.specs.declared.Kind.the-variants.{Envelope as EnvelopeBlock}
-use Rattle.envelopes.specs.Shown.{positionShown, valueOf, valueShown, shownEnvelope}
-use Rattle.envelopes.specs.declared.EnvelopeKind.{EnvelopeKind}
 use Rattle.acceptance.proofs.Locating.{PartAt, byteAt-at, number16-at, number16-start}
 use Rattle.acceptance.proofs.Cutting.{Sized}
+use Rattle.envelopes.specs.Shown.{positionShown, valueOf, valueShown, shownEnvelope}
+use Rattle.envelopes.specs.declared.EnvelopeKind.{EnvelopeKind}
 use Rattle.showing.proofs.SameBytes.{each-same, same-if}
 use Rattle.format.specs.Description.{Envelope}
 use Rattle.format.specs.Encoding.{envelopeBytes}

@@ -7,9 +7,9 @@ use lib.ListN.{length}
 use Rattle.numbers.specs.Numbers.{number16, number32, bytesFrom}
 use Rattle.blocks.specs.Sizes.{sizeOf}
 use Rattle.blocks.specs.declared.Kind.the-variants.{Instrument as InstrumentKind}
-use Rattle.instruments.specs.Shown.{shownInstrument}
 use Rattle.acceptance.proofs.Locating.{PartAt, number16-at, number32-at}
 use Rattle.acceptance.proofs.Cutting.{Sized, part-first}
+use Rattle.instruments.specs.Shown.{shownInstrument}
 use Rattle.format.specs.Description.{Instrument, Sample}
 use Rattle.format.specs.Encoding.{instrumentBytes}
 use Rattle.format.specs.WellFormed.{InstrumentFits}

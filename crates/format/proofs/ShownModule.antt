@@ -5,30 +5,30 @@ use mathlib.Core.Logic.{inl, inr}
 use mathlib.Core.List.{List, _++_, map}
 use mathlib.Core.Bool.{Bool, true, false, cond}
 use lib.ListN.{length, replicate}
-use Rattle.queries.specs.Finding.{answerFound, outputFound}
-use Rattle.refusal.specs.Numbers.{noRefusal}
 use Rattle.vocabulary.specs.Letters.{nameLetters}
+use Rattle.refusal.specs.Numbers.{noRefusal}
+use Rattle.refusal.specs.Lengths.{refusedLength}
+use Rattle.numbers.specs.Numbers.{byteAt, number16, partOf, bytesFrom, bytes32}
 use Rattle.packed_rows.specs.Answers.{cellOf, unpackAnswer as streamAnswer, unpackOutput as streamOutput}
 use Rattle.packed_rows.specs.declared.CellAnswer.the-variants.{Refused}
-use Rattle.numbers.specs.Numbers.{byteAt, number16, partOf, bytesFrom, bytes32}
 use Rattle.layout.specs.declared.Layout.{Layout}
 use Rattle.layout.specs.declared.Outline.the-variants.{Found as Opened}
 use Rattle.blocks.specs.StoredFields.{packedBytes}
 use Rattle.module.specs.Verdicts.{opened}
-use Rattle.refusal.specs.Lengths.{refusedLength}
-use Rattle.summary.specs.Shown.{versionIf, versionAnswer, nameIf, nameAnswer, infoIf, infoAnswer}
-use Rattle.songs.specs.Shown.{songIf, entryIf, playlistSize, playlistBytes}
-use Rattle.instruments.specs.Shown.{instrumentIf}
-use Rattle.envelopes.specs.Shown.{thingOf, countIf, countAnswer, noEnvelope, shownEnvelope, envelopeIf, envelopeAnswer}
-use Rattle.envelopes.specs.declared.EnvelopeKind.{EnvelopeKind}
-use Rattle.envelopes.specs.declared.EnvelopeKind.the-variants.{Volume, Panning}
-use Rattle.patterns.specs.Shown.{lengthOf, rowsIf, cellIf, cellAnswer, unpackIf, unpackAnswer, unpackOutputIf, unpackOutput}
-use Rattle.samples.specs.Shown.{sampleIf, framesIf, frameIf, allFramesSize, allFrames}
+use Rattle.queries.specs.Finding.{answerFound, outputFound}
 use Rattle.acceptance.proofs.Standing.{LayoutOf}
 use Rattle.acceptance.proofs.Locating.{PartAt}
 use Rattle.acceptance.proofs.Cutting.{part-rest}
 use Rattle.acceptance.proofs.ChunkHalf.{stands-part}
 use Rattle.acceptance.proofs.BlockStreams.{TracksFit}
+use Rattle.samples.specs.Shown.{sampleIf, framesIf, frameIf, allFramesSize, allFrames}
+use Rattle.envelopes.specs.Shown.{thingOf, countIf, countAnswer, noEnvelope, shownEnvelope, envelopeIf, envelopeAnswer}
+use Rattle.envelopes.specs.declared.EnvelopeKind.{EnvelopeKind}
+use Rattle.envelopes.specs.declared.EnvelopeKind.the-variants.{Volume, Panning}
+use Rattle.patterns.specs.Shown.{lengthOf, rowsIf, cellIf, cellAnswer, unpackIf, unpackAnswer, unpackOutputIf, unpackOutput}
+use Rattle.songs.specs.Shown.{songIf, entryIf, playlistSize, playlistBytes}
+use Rattle.summary.specs.Shown.{versionIf, versionAnswer, nameIf, nameAnswer, infoIf, infoAnswer}
+use Rattle.instruments.specs.Shown.{instrumentIf}
 use Rattle.format.specs.Description.{Info, Pattern, Sample, Envelope, NAME, INFO, PATT, SMPL, Description}
 use Rattle.format.specs.Encoding.{envelopeBytes, chunkBytes, headerBytes, encoded}
 use Rattle.format.specs.WellFormed.{In, EnvelopeFits, WellFormed, noSample as emptySample}

@@ -10,8 +10,10 @@ use lib.Dec.{ltb}
 use borrow.Author.Tests.{le-leb, eq-eqb}
 use Rattle.refusal.specs.Numbers.{refusal}
 use Rattle.refusal.specs.declared.Cause.the-variants.{Room}
+use Rattle.refusal.specs.Lengths.{refusedLength, writtenLength, lengthIf, outputIf}
 use Rattle.cells.specs.Cells.{sizesFit, cellBytes, bytesOf, emptyCell}
 use Rattle.cells.specs.Shown.{shownCell}
+use Rattle.numbers.specs.Numbers.{number16, bytes16, bytes32}
 use Rattle.packed_rows.specs.Entries.{Entry, rowsFrom, streamOf}
 use Rattle.packed_rows.specs.Stream.{readStream, whole}
 use Rattle.packed_rows.specs.Answers.{cellThere, cellOf, outputUnpacked, unpackAnswer as streamAnswer, unpackOutput as streamOutput}
@@ -20,15 +22,13 @@ use Rattle.packed_rows.specs.declared.CellAnswer.the-variants.{Found, Refused}
 use Rattle.packed_rows.specs.declared.Unpacking.the-variants.{Unpacked, Refused as UnpackingRefused}
 use Rattle.packed_rows.proofs.Shapes.{rows-from-shaped, length-bytes}
 use Rattle.packed_rows.proofs.Theorems.{reads-exactly}
-use Rattle.numbers.specs.Numbers.{number16, bytes16, bytes32}
 use Rattle.blocks.specs.StoredFields.{packedBytes}
 use Rattle.blocks.specs.Sizes.{sizeOf}
 use Rattle.blocks.specs.declared.Kind.the-variants.{Pattern as PatternKind}
-use Rattle.refusal.specs.Lengths.{refusedLength, writtenLength, lengthIf, outputIf}
-use Rattle.patterns.specs.Shown.{lengthOf}
 use Rattle.acceptance.proofs.Locating.{PartAt, number16-start}
 use Rattle.acceptance.proofs.Cutting.{Sized}
 use Rattle.acceptance.proofs.BlockStreams.{TracksFit, stream-same}
+use Rattle.patterns.specs.Shown.{lengthOf}
 use Rattle.format.specs.Description.{Pattern}
 use Rattle.format.specs.Encoding.{patternBytes}
 use Rattle.format.specs.WellFormed.{PatternFits}

@@ -8,16 +8,16 @@ use lib.ListN.{length, getD}
 use lib.Dec.{ltb}
 use lib.IntN.{ℤ, pos, _*ℤ_}
 use borrow.Author.Tests.{ltb-true}
-use Rattle.refusal.specs.Lengths.{lengthIf, outputOf}
 use Rattle.vocabulary.specs.Lists.{joined}
+use Rattle.refusal.specs.Lengths.{lengthIf, outputOf}
 use Rattle.numbers.specs.Numbers.{byteAt, partOf, signedBy, signed16, bytes16, bytes32, unsigned16}
 use Rattle.numbers.proofs.Stored.{bytes16-again, bytes32-again}
 use Rattle.blocks.specs.StoredFields.{sampleFrames}
 use Rattle.blocks.specs.Sizes.{widthOf, sizeOf}
 use Rattle.blocks.specs.declared.Kind.the-variants.{Sample as SampleKind}
-use Rattle.samples.specs.Shown.{frameBytes as frameWidth, shownSample, dividedDown, frame16 as frame16At, frameOf, frameIn, allFrames, allFramesSize}
 use Rattle.acceptance.proofs.Locating.{PartAt, byteAt-start, number16-start, number32-start, number32-at, part-is}
 use Rattle.acceptance.proofs.Cutting.{Sized, part-rest}
+use Rattle.samples.specs.Shown.{frameBytes as frameWidth, shownSample, dividedDown, frame16 as frame16At, frameOf, frameIn, allFrames, allFramesSize}
 use Rattle.showing.proofs.SameBytes.{same-if}
 use Rattle.format.specs.Description.{Width, eight, sixteen, thirtyTwo, Sample}
 use Rattle.format.specs.Encoding.{flagsOf, frameBytes, sampleBytes}

@@ -7,15 +7,15 @@ use native.Mathlib.Nat.{add-assoc}
 use lib.ListN.{length, getD, length-append}
 use lib.Dec.{ltb}
 use borrow.Author.Tests.{ltb-true}
-use Rattle.refusal.specs.Lengths.{lengthIf, outputOf}
 use Rattle.vocabulary.specs.Lists.{joined}
+use Rattle.refusal.specs.Lengths.{lengthIf, outputOf}
 use Rattle.numbers.specs.Numbers.{bytesFrom, bytes16}
 use Rattle.blocks.specs.StoredFields.{songLength, songEntry}
 use Rattle.blocks.specs.Sizes.{sizeOf}
 use Rattle.blocks.specs.declared.Kind.the-variants.{Song as SongKind}
-use Rattle.songs.specs.Shown.{shownSong, entryIn, playlistBytes, playlistSize}
 use Rattle.acceptance.proofs.Locating.{PartAt, number16-at}
 use Rattle.acceptance.proofs.Cutting.{Sized, part-first, part-rest}
+use Rattle.songs.specs.Shown.{shownSong, entryIn, playlistBytes, playlistSize}
 use Rattle.showing.proofs.SameBytes.{same-if}
 use Rattle.format.specs.Description.{Song}
 use Rattle.format.specs.Encoding.{songBytes}

@@ -8,28 +8,22 @@ use mathlib.Core.Bool.{cond, _&&_}
 use lib.ListN.{length, getD, replicate}
 use lib.Dec.{leb, ltb}
 use lib.IntN.{ℤ, pos, _*ℤ_}
-use Rattle.refusal.specs.Numbers.{refusal, noRefusal, refusedOutcome}
 use Rattle.vocabulary.specs.Lists.{joined}
+use Rattle.refusal.specs.Numbers.{refusal, noRefusal, refusedOutcome}
 use Rattle.refusal.specs.declared.Cause.the-variants.{NotThere}
 use Rattle.refusal.specs.declared.Refusal.{Refusal}
+use Rattle.refusal.specs.Lengths.{refusedLength, lengthIf, outputIf}
+use Rattle.refusal.specs.declared.LengthAnswer.{LengthAnswer}
 use Rattle.cells.specs.Cells.{cellBytes, bytesOf, emptyCell}
 use Rattle.cells.specs.Shown.{shownCell}
+use Rattle.numbers.specs.Numbers.{signedBy, signed16, eachFrom, bytes16, unsigned16}
 use Rattle.packed_rows.specs.Entries.{rowsFrom}
 use Rattle.packed_rows.specs.Answers.{cellThere}
 use Rattle.packed_rows.specs.declared.CellAnswer.{CellAnswer}
 use Rattle.packed_rows.specs.declared.CellAnswer.the-variants.{Found, Refused}
-use Rattle.numbers.specs.Numbers.{signedBy, signed16, eachFrom, bytes16, unsigned16}
-use Rattle.refusal.specs.Lengths.{refusedLength, lengthIf, outputIf}
-use Rattle.refusal.specs.declared.LengthAnswer.{LengthAnswer}
-use Rattle.summary.specs.Shown.{versionAnswer, nameAnswer, infoAnswer}
-use Rattle.summary.specs.declared.VersionAnswer.{VersionAnswer}
-use Rattle.summary.specs.declared.NameAnswer.{NameAnswer}
-use Rattle.summary.specs.declared.InfoAnswer.{InfoAnswer}
-use Rattle.songs.specs.Shown.{noSong, songAnswer, noEntry, entryAnswer, playlistAnswer, playlistOutput}
-use Rattle.songs.specs.declared.SongAnswer.{SongAnswer}
-use Rattle.songs.specs.declared.EntryAnswer.{EntryAnswer}
-use Rattle.instruments.specs.Shown.{noInstrument, instrumentAnswer}
-use Rattle.instruments.specs.declared.InstrumentAnswer.{InstrumentAnswer}
+use Rattle.samples.specs.Shown.{noSample, sampleAnswer, framesAnswer, framesPart, dividedDown, noFrame, frameAnswer, allFramesAnswer, allFramesOutput}
+use Rattle.samples.specs.declared.SampleAnswer.{SampleAnswer}
+use Rattle.samples.specs.declared.FrameAnswer.{FrameAnswer}
 use Rattle.envelopes.specs.Shown.{countAnswer, valueOf, noEnvelope, envelopeAnswer}
 use Rattle.envelopes.specs.declared.CountAnswer.{CountAnswer}
 use Rattle.envelopes.specs.declared.EnvelopeAnswer.{EnvelopeAnswer}
@@ -37,9 +31,15 @@ use Rattle.envelopes.specs.declared.EnvelopeKind.{EnvelopeKind}
 use Rattle.envelopes.specs.declared.EnvelopeKind.the-variants.{Volume, Panning}
 use Rattle.patterns.specs.Shown.{noRows, rowsAnswer, cellAnswer, unpackAnswer, unpackOutput}
 use Rattle.patterns.specs.declared.RowsAnswer.{RowsAnswer}
-use Rattle.samples.specs.Shown.{noSample, sampleAnswer, framesAnswer, framesPart, dividedDown, noFrame, frameAnswer, allFramesAnswer, allFramesOutput}
-use Rattle.samples.specs.declared.SampleAnswer.{SampleAnswer}
-use Rattle.samples.specs.declared.FrameAnswer.{FrameAnswer}
+use Rattle.songs.specs.Shown.{noSong, songAnswer, noEntry, entryAnswer, playlistAnswer, playlistOutput}
+use Rattle.songs.specs.declared.SongAnswer.{SongAnswer}
+use Rattle.songs.specs.declared.EntryAnswer.{EntryAnswer}
+use Rattle.summary.specs.Shown.{versionAnswer, nameAnswer, infoAnswer}
+use Rattle.summary.specs.declared.VersionAnswer.{VersionAnswer}
+use Rattle.summary.specs.declared.NameAnswer.{NameAnswer}
+use Rattle.summary.specs.declared.InfoAnswer.{InfoAnswer}
+use Rattle.instruments.specs.Shown.{noInstrument, instrumentAnswer}
+use Rattle.instruments.specs.declared.InstrumentAnswer.{InstrumentAnswer}
 use Rattle.format.specs.Description.{Info, Song, Instrument, Pattern, Width, eight, sixteen, thirtyTwo, Sample, Envelope, Chunk, NAME, INFO, SONG, INST, PATT, SMPL, VENV, PENV, Description}
 use Rattle.format.specs.Encoding.{flagsOf, frameBytes}
 use Rattle.format.specs.WellFormed.{noSample as emptySample, noPoint, In}

@@ -6,9 +6,9 @@ use mathlib.Core.List.{List, [], _∷_, _++_}
 use mathlib.Core.Bool.{true}
 use lib.ListN.{length, getD}
 use Rattle.vocabulary.specs.Lists.{Every}
+use Rattle.numbers.specs.Numbers.{Bytes}
 use Rattle.packed_rows.specs.Entries.{Entry, streamOf}
 use Rattle.packed_rows.specs.Theorems.{allSound}
-use Rattle.numbers.specs.Numbers.{Bytes}
 use Rattle.acceptance.specs.Rules.{Covered, NeedsInfo, PanningFits, VolumeFits, PanningValueFits}
 use Rattle.format.specs.Description.{Info, Song, Instrument, Pattern, Width, eight, sixteen, thirtyTwo, Sample, Point, Envelope, Chunk, NAME, INFO, SONG, INST, PATT, SMPL, VENV, PENV, Other, Description}
 use Rattle.format.specs.Encoding.{identifier, contents, encoded}

@@ -11,6 +11,7 @@ use Rattle.refusal.specs.Rules.{firstBroken}
 use Rattle.refusal.specs.declared.Cause.the-variants.{Missing}
 use Rattle.refusal.specs.declared.Refusal.{Refusal}
 use Rattle.refusal.specs.declared.Verdict.the-variants.{Accepted, Refused as VerdictRefused}
+use Rattle.refusal.proofs.RuleLists.{rules-held}
 use Rattle.layout.specs.Header.{headerRules}
 use Rattle.layout.specs.Chunks.{Walk, whole, stopped, chunks}
 use Rattle.layout.specs.Outlines.{placesOf, layoutWith, outlineOf, outline}
@@ -18,7 +19,6 @@ use Rattle.layout.specs.Steps.{walked, outlineWith}
 use Rattle.layout.specs.declared.Places.{Places}
 use Rattle.layout.specs.declared.Outline.the-variants.{Found, Refused}
 use Rattle.layout.specs.declared.walk.Walked.the-variants.{Whole, Refused as WalkRefused}
-use Rattle.refusal.proofs.RuleLists.{rules-held}
 use Rattle.layout.proofs.ChunksBefore.{present-all}
 
 module _ (m : List ℕ) where

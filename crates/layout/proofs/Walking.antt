@@ -10,13 +10,13 @@ use Rattle.refusal.specs.Rules.{firstBroken}
 use Rattle.refusal.specs.declared.Refusal.{Refusal}
 use Rattle.refusal.specs.declared.Verdict.{Verdict}
 use Rattle.refusal.specs.declared.Verdict.the-variants.{Accepted, Refused}
+use Rattle.refusal.proofs.RuleLists.{rules-held}
 use Rattle.numbers.specs.Numbers.{number32}
 use Rattle.layout.specs.Chunks.{Chunk, chunkAt, chunkEnd, covered, occurs, chunkRules, whole, goOn, chunksFrom, chunks}
 use Rattle.layout.specs.Outlines.{standing, placesOf}
 use Rattle.layout.specs.Steps.{putIn, placedRules, walked, OthersTo}
 use Rattle.layout.specs.declared.Places.{Places}
 use Rattle.layout.specs.declared.walk.Walked.the-variants.{Whole, Refused as WalkRefused}
-use Rattle.refusal.proofs.RuleLists.{rules-held}
 use Rattle.layout.proofs.ChunksBefore.{rules-placed, put-more}
 use Rattle.layout.proofs.Others.{other-end, other-holds, other-stays}
 

@@ -12,8 +12,8 @@ use refusal::Refusal;
 use refusal::Verdict;
 use refusal::refuse;
 ghost use mathlib.Core.Path.{_≡_};
-ghost use Rattle.layout.specs.Outlines.{layoutWith, outline, outlineNumbers};
 ghost use Rattle.refusal.specs.Numbers.{IsAnswer};
+ghost use Rattle.layout.specs.Outlines.{layoutWith, outline, outlineNumbers};
 ghost use Rattle.layout.specs.Steps.{allPresent, outlineWith};
 
 // Where a chunk stands: its header's place and the length of its data. All 0 where there is none.

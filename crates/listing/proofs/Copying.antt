@@ -7,11 +7,11 @@ use native.Mathlib.Numerals.{add-one}
 use lib.ListN.{length, getD, take, drop, set, length-append}
 use lib.Seq.{length-take-le, take-append-seam, take-suc, take-suc-set}
 use borrow.Author.Tests.{le-ltb}
-use Rattle.io.specs.Counts.{Counts}
+use Rattle.refusal.specs.declared.Refusal.{Refusal}
 use Rattle.listing_text.specs.Lines.{listing, linesAnswer, linesOutput}
 use Rattle.listing_text.specs.declared.Listing.{Listing}
 use Rattle.listing_text.specs.declared.Listing.the-variants.{Written, Refused}
-use Rattle.refusal.specs.declared.Refusal.{Refusal}
+use Rattle.io.specs.Counts.{Counts}
 
 -- One byte more.
 pub copy-turn : (text bytes : List ℕ) (i : ℕ) → i < length text → i < length bytes → take i text ≡ take i bytes → take (i + 1) (set text i (getD bytes i 0)) ≡ take (i + 1) bytes

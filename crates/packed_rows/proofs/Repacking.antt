@@ -9,8 +9,8 @@ use lib.Seq.{take-all}
 use Rattle.vocabulary.specs.Lists.{joined}
 use Rattle.refusal.specs.declared.Refusal.{Refusal}
 use Rattle.refusal.specs.declared.Verdict.the-variants.{Accepted, Refused}
-use Rattle.packed_rows.specs.declared.Packing.the-variants.{Refused as PackingRefused}
 use Rattle.cells.specs.Cells.{Row, rowOf, rowsOf}
+use Rattle.packed_rows.specs.declared.Packing.the-variants.{Refused as PackingRefused}
 use Rattle.packed_rows.specs.Entries.{Entry, rowFrom, rowsFrom, rowStream}
 use Rattle.packed_rows.specs.Stream.{Reading, reading, readStream, entriesRead, brokenAt, whole}
 use Rattle.packed_rows.specs.Packer.{packedEntries, packedStream, packedLength}

@@ -12,9 +12,9 @@ use borrow.Author.Tests.{leb-true, ltb-true}
 use Rattle.vocabulary.specs.Lists.{joined}
 use Rattle.refusal.specs.declared.Refusal.{Refusal}
 use Rattle.refusal.specs.declared.Verdict.the-variants.{Accepted, Refused}
-use Rattle.packed_rows.specs.declared.CellAnswer.the-variants.{Found, Refused as CellRefused}
 use Rattle.cells.specs.Shown.{shownCell}
 use Rattle.cells.specs.Cells.{Row, emptyCell, rowOf}
+use Rattle.packed_rows.specs.declared.CellAnswer.the-variants.{Found, Refused as CellRefused}
 use Rattle.packed_rows.specs.Entries.{Entry, rowFrom, rowsFrom}
 use Rattle.packed_rows.specs.Answers.{verdictOf, cellThere, cellIf}
 use Rattle.packed_rows.specs.Stream.{Reading, reading, brokenAt, whole, readStream, entriesRead}

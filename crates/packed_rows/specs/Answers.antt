@@ -10,10 +10,10 @@ use Rattle.refusal.specs.declared.Cause.the-variants.{Stream, Sizes, Room, NotT
 use Rattle.refusal.specs.declared.Verdict.{Verdict}
 use Rattle.refusal.specs.declared.Verdict.the-variants.{Accepted, Refused}
 use Rattle.cells.specs.Cells.{both, sizesFit, cellBytes, rowsOf, emptyCell}
+use Rattle.cells.specs.Shown.{shownCell, cellValues}
 use Rattle.packed_rows.specs.Entries.{rowsFrom}
 use Rattle.packed_rows.specs.Stream.{Reading, brokenAt, whole, readStream, entriesRead, cellsRead}
 use Rattle.packed_rows.specs.Packer.{packedStream, packedLength}
-use Rattle.cells.specs.Shown.{shownCell, cellValues}
 use Rattle.packed_rows.specs.declared.Unpacking.{Unpacking}
 use Rattle.packed_rows.specs.declared.Unpacking.the-variants.{Unpacked, Refused as UnpackingRefused}
 use Rattle.packed_rows.specs.declared.Packing.{Packing}

@@ -22,13 +22,13 @@ ghost use lib.ListN.{length};
 ghost use Prim.Native.Nat.{_+_, _*_, _≤_, _<_};
 ghost use mathlib.Core.Bool.{true};
 ghost use Rattle.refusal.specs.declared.Verdict.the-variants.{Accepted};
+ghost use Rattle.refusal.specs.Numbers.{verdictNumbers, IsAnswer};
+ghost use Rattle.cells.specs.Cells.{sizesFit};
+ghost use Rattle.cells.specs.Shown.{shownCell};
 ghost use Rattle.packed_rows.specs.Stream.{readStream};
 ghost use Rattle.packed_rows.specs.Packer.{packedLength, packedStream};
 ghost use Rattle.packed_rows.specs.Steps.{cellAt, cellRead, rowsRead};
-ghost use Rattle.cells.specs.Cells.{sizesFit};
-ghost use Rattle.cells.specs.Shown.{shownCell};
 ghost use Rattle.packed_rows.specs.Answers.{packedIf, outputPacked, checkAnswer, unpackAnswer, unpackOutput, packAnswer, packOutput, repackAnswer, repackOutput, cellThere, cellOf, verdictOf, unpackingNumbers, packingNumbers, cellNumbers};
-ghost use Rattle.refusal.specs.Numbers.{verdictNumbers, IsAnswer};
 
 // What unpacking answers: the length written, or a refusal.
 pub enum Unpacking {

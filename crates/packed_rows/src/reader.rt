@@ -7,10 +7,10 @@ ghost use Prim.Native.Nat.{ℕ, _+_, _*_, _<_, _≤_};
 ghost use mathlib.Core.Bool.{cond};
 ghost use lib.Dec.{eqb};
 ghost use lib.ListN.{length, drop, replicate};
-ghost use Rattle.packed_rows.specs.Entries.{bits, count, fieldsNamed};
-ghost use Rattle.packed_rows.specs.Stream.{front, readStream, reading, whole, cellsRead};
-ghost use Rattle.packed_rows.specs.Answers.{verdictOf};
 ghost use Rattle.refusal.specs.declared.Verdict.the-variants.{Accepted};
+ghost use Rattle.packed_rows.specs.Entries.{bits, count, fieldsNamed};
+ghost use Rattle.packed_rows.specs.Stream.{front, readStream, cellsRead};
+ghost use Rattle.packed_rows.specs.Answers.{verdictOf};
 ghost use Rattle.packed_rows.specs.Steps.{entryLengths, entryLength, pieceLength, frontLength, storedFrom, storedAt, RowAhead, Carried, Loaded, Skipped, RowsRead, AfterRows};
 
 // How long an entry with each sound mask is, in bytes: the track, the mask and the named fields.

@@ -2,9 +2,10 @@
 -- definitions of `pattern` say.
 use Prim.Native.Nat.{ℕ}
 use mathlib.Core.List.{List}
-use lib.ListN.{length}
 use Rattle.refusal.specs.Numbers.{noRefusal, refusedOutcome}
 use Rattle.refusal.specs.declared.Refusal.{Refusal}
+use Rattle.refusal.specs.Lengths.{refusedLength, writtenLength}
+use Rattle.refusal.specs.declared.LengthAnswer.{LengthAnswer}
 use Rattle.packed_rows.specs.Answers.{cellOf, unpackAnswer as streamAnswer, unpackOutput as streamOutput}
 use Rattle.packed_rows.specs.declared.CellAnswer.{CellAnswer}
 use Rattle.packed_rows.specs.declared.CellAnswer.the-variants.{Refused as CellRefused}
@@ -13,11 +14,9 @@ use Rattle.packed_rows.specs.declared.Unpacking.the-variants.{Unpacked, Refused
 use Rattle.blocks.specs.declared.Thing.the-variants.{Pattern}
 use Rattle.blocks.specs.StoredFields.{patternRows, packedBytes}
 use Rattle.queries.specs.Finding.{found}
-use Rattle.refusal.specs.Lengths.{refusedLength, writtenLength}
 use Rattle.queries.specs.declared.Block.{Block}
 use Rattle.queries.specs.declared.Found.{Found}
 use Rattle.queries.specs.declared.Found.the-variants.{At, Refused}
-use Rattle.refusal.specs.declared.LengthAnswer.{LengthAnswer}
 use Rattle.patterns.specs.declared.RowsAnswer.{RowsAnswer}
 
 abbrev pub noRows : Refusal → RowsAnswer

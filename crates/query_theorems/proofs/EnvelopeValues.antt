@@ -20,14 +20,14 @@ use Rattle.queries.specs.Finding.{found}
 use Rattle.queries.specs.declared.Block.{Block}
 use Rattle.queries.specs.declared.Found.{Found}
 use Rattle.queries.specs.declared.Found.the-variants.{At, Refused}
-use Rattle.envelopes.specs.Shown.{thingOf, valueOf, valueShown, envelopeIf}
-use Rattle.envelopes.specs.declared.EnvelopeKind.{EnvelopeKind}
-use Rattle.envelopes.specs.declared.EnvelopeKind.the-variants.{Volume, Panning}
 use Rattle.acceptance.proofs.OpenModules.{module-opens}
-use Rattle.query_theorems.specs.Queries.{valueAt, Between}
 use Rattle.acceptance.proofs.Holding.{every-place, AllHold}
 use Rattle.acceptance.proofs.BlockFields.{leZ-says, panning-says}
 use Rattle.acceptance.proofs.PointsInUse.{sections-fit, value-fits}
+use Rattle.envelopes.specs.Shown.{thingOf, valueOf, valueShown, envelopeIf}
+use Rattle.envelopes.specs.declared.EnvelopeKind.{EnvelopeKind}
+use Rattle.envelopes.specs.declared.EnvelopeKind.the-variants.{Volume, Panning}
+use Rattle.query_theorems.specs.Queries.{valueAt, Between}
 use Rattle.query_theorems.proofs.FoundBlocks.{found-numbered, found-opened}
 
 -- What stands in a list that a function fills, and in a list of one value.

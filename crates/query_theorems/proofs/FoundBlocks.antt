@@ -27,12 +27,12 @@ use Rattle.queries.specs.Finding.{firstOf, there, blockOf, foundIn, foundIf, fo
 use Rattle.queries.specs.declared.Block.{Block}
 use Rattle.queries.specs.declared.Found.the-variants.{At, Refused}
 use Rattle.queries.proofs.Numbering.{counted-found}
-use Rattle.query_theorems.specs.Queries.{identifierOf, InChunk}
 use Rattle.acceptance.proofs.Holding.{and-says, leb-says, ltb-says}
 use Rattle.acceptance.proofs.Cutting.{after-least}
 use Rattle.acceptance.proofs.ContentRules.{thing-fills}
 use Rattle.acceptance.proofs.WholeChunks.{WholeAt, PlacesWhole}
 use Rattle.acceptance.proofs.OpenModules.{Opens, module-opens}
+use Rattle.query_theorems.specs.Queries.{identifierOf, InChunk}
 
 -- The block that a query finds in a module that opens: that of a number which is counted.
 pub record Numbered (m : List ℕ) (l : Layout) (thing : Thing) (number : ℕ) (b : Block) : Type 0 where

@@ -13,8 +13,10 @@ use Rattle.vocabulary.proofs.EveryOne.{every-first}
 use Rattle.refusal.specs.Numbers.{refusal}
 use Rattle.refusal.specs.declared.Cause.the-variants.{Room, NotThere}
 use Rattle.refusal.specs.declared.Verdict.the-variants.{Accepted}
+use Rattle.refusal.specs.Lengths.{refusedLength, writtenLength, lengthIf}
 use Rattle.cells.specs.Cells.{sizesFit, cellBytes, rowsOf, emptyCell, Row}
 use Rattle.cells.specs.Shown.{shownCell}
+use Rattle.numbers.specs.Numbers.{number16}
 use Rattle.packed_rows.specs.Entries.{rowsFrom}
 use Rattle.packed_rows.specs.Stream.{cellsRead}
 use Rattle.packed_rows.specs.Answers.{checkAnswer, cellThere, cellOf, unpackAnswer as streamAnswer}
@@ -22,21 +24,19 @@ use Rattle.packed_rows.specs.declared.CellAnswer.the-variants.{Found as CellFou
 use Rattle.packed_rows.specs.declared.Unpacking.the-variants.{Unpacked, Refused as UnpackingRefused}
 use Rattle.packed_rows.proofs.Reading.{both-true}
 use Rattle.packed_rows.proofs.Accepted.{accepted-rows}
-use Rattle.numbers.specs.Numbers.{number16}
 use Rattle.blocks.specs.StoredFields.{patternPackedLength, packedBytes}
 use Rattle.blocks.specs.Sizes.{sizeOf, firstBlock}
 use Rattle.blocks.specs.declared.Kind.the-variants.{Pattern as PatternKind}
 use Rattle.blocks.specs.declared.Thing.the-variants.{Pattern}
 use Rattle.queries.specs.Finding.{found}
-use Rattle.refusal.specs.Lengths.{refusedLength, writtenLength, lengthIf}
 use Rattle.queries.specs.declared.Block.{Block}
 use Rattle.queries.specs.declared.Found.the-variants.{At}
-use Rattle.patterns.specs.Shown.{lengthOf, cellIf, cellAnswer, unpackIf, unpackAnswer}
 use Rattle.acceptance.proofs.OpenModules.{module-opens}
-use Rattle.query_theorems.specs.Queries.{HasCell, storedCell}
 use Rattle.acceptance.proofs.Locating.{part-length}
 use Rattle.acceptance.proofs.Holding.{every-place}
 use Rattle.acceptance.proofs.BlockStreams.{accepted-says, accepted-sizes, holds}
+use Rattle.patterns.specs.Shown.{lengthOf, cellIf, cellAnswer, unpackIf, unpackAnswer}
+use Rattle.query_theorems.specs.Queries.{HasCell, storedCell}
 use Rattle.query_theorems.proofs.FoundBlocks.{found-numbered, found-opened}
 use Rattle.query_theorems.proofs.ShownBytes.{block-ends}
 

@@ -20,12 +20,12 @@ use Rattle.queries.specs.Finding.{found}
 use Rattle.queries.specs.declared.Block.{Block}
 use Rattle.queries.specs.declared.Found.{Found}
 use Rattle.queries.specs.declared.Found.the-variants.{At, Refused}
-use Rattle.samples.specs.Shown.{frameBytes, framesIf, framesPart}
 use Rattle.acceptance.proofs.OpenModules.{module-opens}
-use Rattle.query_theorems.specs.Queries.{InChunk, FramesIn}
 use Rattle.acceptance.proofs.Locating.{part-length}
 use Rattle.acceptance.proofs.Holding.{every-place}
 use Rattle.acceptance.proofs.BlockFields.{width-says}
+use Rattle.samples.specs.Shown.{frameBytes, framesIf, framesPart}
+use Rattle.query_theorems.specs.Queries.{InChunk, FramesIn}
 use Rattle.query_theorems.proofs.FoundBlocks.{found-numbered, block-in-chunk}
 
 -- Flags that the check lets pass say 1, 2 or 4 bytes.

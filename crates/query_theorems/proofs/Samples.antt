@@ -7,22 +7,22 @@ use mathlib.Core.Path.{_≡_, refl}
 use mathlib.Core.List.{List, [], _∷_, _++_, map}
 use lib.ListN.{take, replicate}
 use lib.IntN.{ℤ, pos, negsuc}
-use Rattle.refusal.specs.Numbers.{outcomeNumbers}
 use Rattle.vocabulary.specs.Lists.{joined}
 use Rattle.vocabulary.specs.Letters.{penvLetters}
+use Rattle.refusal.specs.Numbers.{outcomeNumbers}
 use Rattle.cells.specs.Cells.{rowsOf}
 use Rattle.cells.specs.Shown.{shownNote, noteNumbers}
+use Rattle.numbers.specs.Numbers.{byteAt, number16, number32}
 use Rattle.packed_rows.specs.Stream.{readFrom, reading, cellsRead}
 use Rattle.packed_rows.specs.Packer.{packedStream}
 use Rattle.packed_rows.specs.Answers.{cellOf, cellNumbers}
-use Rattle.numbers.specs.Numbers.{byteAt, number16, number32}
 use Rattle.layout.specs.Chunks.{chunksFrom, chunks}
 use Rattle.blocks.specs.Sizes.{sizeOf}
+use Rattle.samples.specs.Shown.{frameAnswer}
+use Rattle.samples.specs.declared.FrameAnswer.{FrameAnswer}
 use Rattle.envelopes.specs.Shown.{envelopeAnswer}
 use Rattle.envelopes.specs.declared.EnvelopeAnswer.{EnvelopeAnswer}
 use Rattle.envelopes.specs.declared.EnvelopeKind.the-variants.{Panning}
-use Rattle.samples.specs.Shown.{frameAnswer}
-use Rattle.samples.specs.declared.FrameAnswer.{FrameAnswer}
 use Rattle.query_theorems.proofs.SmallModules.{checked, moduleChecked, chunk, smallModule, instrument}
 
 -- A row of the table: the sample's number (0: none of the register), what the definitions give, and what the register says.

@@ -21,10 +21,10 @@ use Rattle.queries.specs.Finding.{found}
 use Rattle.queries.specs.declared.Block.{Block}
 use Rattle.queries.specs.declared.Found.{Found}
 use Rattle.queries.specs.declared.Found.the-variants.{At}
-use Rattle.summary.specs.Shown.{nameIf, nameAnswer}
-use Rattle.songs.specs.Shown.{songIf, songAnswer, playlistBytes}
-use Rattle.instruments.specs.Shown.{instrumentIf, instrumentAnswer}
 use Rattle.acceptance.proofs.OpenModules.{module-opens}
+use Rattle.songs.specs.Shown.{songIf, songAnswer, playlistBytes}
+use Rattle.summary.specs.Shown.{nameIf, nameAnswer}
+use Rattle.instruments.specs.Shown.{instrumentIf, instrumentAnswer}
 use Rattle.query_theorems.proofs.FoundBlocks.{block-in-chunk}
 
 -- The data of NAME.

@@ -3,9 +3,9 @@
 use Prim.Native.Nat.{ℕ, _-_, _*_, _/_, _%_}
 use mathlib.Core.List.{List, [], _∷_, _++_, map}
 use lib.ListN.{length, replicate}
-use Rattle.refusal.specs.Numbers.{verdictNumbers}
 use Rattle.vocabulary.specs.Lists.{joined}
 use Rattle.vocabulary.specs.Letters.{infoLetters, songLetters, instLetters, pattLetters, smplLetters}
+use Rattle.refusal.specs.Numbers.{verdictNumbers}
 use Rattle.packed_rows.specs.Answers.{checkAnswer}
 use Rattle.module.specs.Verdicts.{moduleVerdict}
 

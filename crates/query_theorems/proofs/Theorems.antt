@@ -33,11 +33,12 @@ use Rattle.refusal.specs.Numbers.{refusal}
 use Rattle.refusal.specs.declared.Cause.the-variants.{NotThere}
 use Rattle.refusal.specs.declared.Refusal.{Refusal}
 use Rattle.refusal.specs.declared.Verdict.the-variants.{Accepted, Refused}
+use Rattle.refusal.specs.Lengths.{lengthIf}
 use Rattle.cells.specs.Cells.{cellBytes}
 use Rattle.cells.specs.Shown.{shownCell}
+use Rattle.numbers.specs.Numbers.{number16, partOf}
 use Rattle.packed_rows.specs.Answers.{checkAnswer}
 use Rattle.packed_rows.specs.declared.CellAnswer.the-variants.{Found as CellFound, Refused as CellRefused}
-use Rattle.numbers.specs.Numbers.{number16, partOf}
 use Rattle.layout.specs.declared.Layout.{Layout}
 use Rattle.layout.specs.declared.Outline.the-variants.{Found as Opened}
 use Rattle.blocks.specs.StoredFields.{songLength, patternPackedLength, packedBytes, envelopeSections, envelopeValue}
@@ -47,16 +48,15 @@ use Rattle.blocks.specs.Things.{kindOf, chunkOf}
 use Rattle.blocks.specs.declared.Thing.{Thing}
 use Rattle.blocks.specs.declared.Thing.the-variants.{Song, Instrument, Pattern, Sample, PanningEnvelope}
 use Rattle.module.specs.Verdicts.{opened, moduleVerdict}
-use Rattle.refusal.specs.Lengths.{lengthIf}
 use Rattle.queries.specs.Finding.{firstOf, found}
 use Rattle.queries.specs.declared.Block.{Block}
 use Rattle.queries.specs.declared.Found.the-variants.{At, Refused as FindingRefused}
-use Rattle.summary.specs.Shown.{nameAnswer}
-use Rattle.songs.specs.Shown.{songAnswer, playlistBytes}
-use Rattle.instruments.specs.Shown.{instrumentAnswer}
+use Rattle.samples.specs.Shown.{framesPart}
 use Rattle.envelopes.specs.declared.EnvelopeKind.the-variants.{Volume, Panning}
 use Rattle.patterns.specs.Shown.{cellAnswer, unpackAnswer}
-use Rattle.samples.specs.Shown.{framesPart}
+use Rattle.songs.specs.Shown.{songAnswer, playlistBytes}
+use Rattle.summary.specs.Shown.{nameAnswer}
+use Rattle.instruments.specs.Shown.{instrumentAnswer}
 use Rattle.query_theorems.specs.Queries.{InChunk, FramesIn, HasCell, storedCell, valueAt, Between}
 use Rattle.query_theorems.proofs.Samples as Samples
 use Rattle.query_theorems.proofs.FoundBlocks as FoundBlocks

@@ -10,26 +10,25 @@ use mathlib.Core.Path.{_≡_, refl}
 use mathlib.Core.List.{List, [], _∷_, _++_, map}
 use lib.ListN.{length, take, replicate}
 use borrow.Author.Tests.{lt-leb}
-use Rattle.refusal.specs.Numbers.{outcomeNumbers}
-use Rattle.refusal.specs.declared.Outcome.{Outcome}
 use Rattle.vocabulary.specs.Lists.{joined}
 use Rattle.vocabulary.specs.Letters.{nameLetters, infoLetters, songLetters, instLetters, pattLetters, smplLetters, venvLetters, penvLetters}
+use Rattle.refusal.specs.Numbers.{outcomeNumbers}
+use Rattle.refusal.specs.declared.Outcome.{Outcome}
 use Rattle.refusal.specs.declared.Verdict.the-variants.{Refused}
+use Rattle.numbers.specs.Numbers.{byteAt, number16, number32}
 use Rattle.packed_rows.specs.Stream.{readFrom, reading, cellsRead}
 use Rattle.packed_rows.specs.Answers.{unpackAnswer, packAnswer, repackAnswer, cellOf, unpackingNumbers, packingNumbers, cellNumbers}
 use Rattle.packed_rows.specs.declared.CellAnswer.{CellAnswer}
-use Rattle.numbers.specs.Numbers.{byteAt, number16, number32}
 use Rattle.layout.specs.Chunks.{chunksFrom, chunks}
 use Rattle.blocks.specs.Sizes.{sizeOf}
 use Rattle.module.specs.Verdicts.{moduleVerdict}
-use Rattle.summary.specs.Shown.{versionAnswer, nameAnswer, infoAnswer}
-use Rattle.songs.specs.Shown.{songAnswer, entryAnswer, playlistAnswer}
-use Rattle.instruments.specs.Shown.{instrumentAnswer}
+use Rattle.samples.specs.Shown.{sampleAnswer, framesAnswer, frameAnswer, allFramesAnswer}
 use Rattle.envelopes.specs.Shown.{countAnswer, envelopeAnswer}
-use Rattle.envelopes.specs.declared.EnvelopeKind.{EnvelopeKind}
 use Rattle.envelopes.specs.declared.EnvelopeKind.the-variants.{Volume, Panning}
 use Rattle.patterns.specs.Shown.{rowsAnswer, cellAnswer, unpackAnswer as patternAnswer}
-use Rattle.samples.specs.Shown.{sampleAnswer, framesAnswer, frameAnswer, allFramesAnswer}
+use Rattle.songs.specs.Shown.{songAnswer, entryAnswer, playlistAnswer}
+use Rattle.summary.specs.Shown.{versionAnswer, nameAnswer, infoAnswer}
+use Rattle.instruments.specs.Shown.{instrumentAnswer}
 use Rattle.query_theorems.proofs.Tables.{sameEach, same-rows}
 use Rattle.query_theorems.proofs.SmallModules.{checked, moduleChecked, chunk, moduleOf, info, content, song, fullInstrument, instrument, pattern, sample, envelope, oneEnvelope}
 

@@ -10,8 +10,8 @@ use lib.ListN.{length, getD}
 use lib.IntN.{ℤ, pos}
 use lib.Signed.{_≤ℤ_}
 use Rattle.cells.specs.Cells.{rowsOf, emptyCell}
-use Rattle.packed_rows.specs.Stream.{cellsRead}
 use Rattle.numbers.specs.Numbers.{number16, number32, partOf}
+use Rattle.packed_rows.specs.Stream.{cellsRead}
 use Rattle.layout.specs.Chunks.{SONG, INST, PATT, SMPL, VENV, PENV}
 use Rattle.layout.specs.declared.Layout.{Layout}
 use Rattle.layout.specs.declared.Outline.the-variants.{Found as Opened}
@@ -23,10 +23,10 @@ use Rattle.blocks.specs.declared.Thing.{Thing}
 use Rattle.blocks.specs.declared.Thing.the-variants.{Song, Instrument, Pattern, Sample, VolumeEnvelope, PanningEnvelope}
 use Rattle.module.specs.Verdicts.{opened}
 use Rattle.queries.specs.declared.Block.{Block}
+use Rattle.acceptance.specs.Places.{HeaderAt}
+use Rattle.samples.specs.Shown.{frameBytes, framesPart}
 use Rattle.envelopes.specs.Shown.{envelopeAnswer}
 use Rattle.envelopes.specs.declared.EnvelopeKind.{EnvelopeKind}
-use Rattle.samples.specs.Shown.{frameBytes, framesPart}
-use Rattle.acceptance.specs.Places.{HeaderAt}
 
 -- The identifier of the chunk that holds a thing.
 abbrev pub identifierOf : Thing → ℕ

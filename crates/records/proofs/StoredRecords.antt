@@ -13,12 +13,12 @@ use Rattle.blocks.specs.StoredFields.{songLength, instrumentSample, instrumentV
 use Rattle.blocks.specs.StoredFields.{instrumentLoopLength, instrumentPanning, envelopeFlags, envelopeSections, envelopeFirstSustain}
 use Rattle.blocks.specs.StoredFields.{envelopeLoopFirst, envelopeLoopLast, envelopeSecondSustain}
 use Rattle.blocks.specs.Sizes.{placesFrom}
-use Rattle.songs.specs.Shown.{shownSong, playlistBytes}
-use Rattle.instruments.specs.Shown.{shownInstrument}
 use Rattle.samples.proofs.SixteenBits.{stored-again}
 use Rattle.envelopes.specs.Shown.{thingOf, positionShown, valueShown, shownEnvelope}
 use Rattle.envelopes.specs.declared.EnvelopeKind.{EnvelopeKind}
 use Rattle.envelopes.specs.declared.EnvelopeKind.the-variants.{Volume, Panning}
+use Rattle.songs.specs.Shown.{shownSong, playlistBytes}
+use Rattle.instruments.specs.Shown.{shownInstrument}
 use Rattle.records.specs.Records.{songRecord, instrumentRecord, pointRecords, envelopeRecord, recordAt}
 use Rattle.records.specs.Steps.{pointsFrom}
 

@@ -14,13 +14,13 @@ use Rattle.blocks.specs.StoredFields.{songLength, songEntry}
 use Rattle.blocks.specs.declared.Thing.the-variants.{Song, Instrument, Pattern, Sample, VolumeEnvelope, PanningEnvelope}
 use Rattle.module.specs.Verdicts.{opened}
 use Rattle.queries.specs.declared.Found.{Found}
-use Rattle.summary.specs.Shown.{versionIf, nameIf, infoIf}
-use Rattle.songs.specs.Shown.{shownSong, songIf, entryIn, entryIf, playlistBytes}
-use Rattle.instruments.specs.Shown.{instrumentIf}
-use Rattle.patterns.specs.Shown.{rowsIf}
 use Rattle.samples.specs.Shown.{sampleIf}
 use Rattle.envelopes.specs.Shown.{countIf, envelopeIf}
 use Rattle.envelopes.specs.declared.EnvelopeKind.the-variants.{Volume, Panning}
+use Rattle.patterns.specs.Shown.{rowsIf}
+use Rattle.songs.specs.Shown.{shownSong, songIf, entryIn, entryIf, playlistBytes}
+use Rattle.summary.specs.Shown.{versionIf, nameIf, infoIf}
+use Rattle.instruments.specs.Shown.{instrumentIf}
 use Rattle.records.specs.Records.{versionRecord, infoRecord, summaryRecord, songRecord, instrumentRecord, sampleRecord, envelopeRecord, recordAt, recordsOf, allRecords}
 use Rattle.records.specs.Told.{summaryTold, songTold, instrumentTold, patternTold, sampleTold, envelopeTold, recordsTold}
 use Rattle.records.proofs.StoredRecords.{next16}

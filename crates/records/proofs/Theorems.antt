@@ -15,12 +15,12 @@ use mathlib.Core.List.{List}
 use lib.ListN.{length}
 use Rattle.refusal.specs.declared.Refusal.{Refusal}
 use Rattle.refusal.specs.declared.Verdict.the-variants.{Accepted, Refused}
+use Rattle.refusal.specs.Lengths.{refusedLength, lengthIf, outputIf}
 use Rattle.numbers.specs.Numbers.{Bytes}
 use Rattle.layout.specs.declared.Layout.{Layout}
 use Rattle.layout.specs.declared.Outline.the-variants.{Found}
 use Rattle.module.specs.Verdicts.{opened, moduleVerdict}
 use Rattle.module.specs.Outputs.{answerOpened, outputOpened}
-use Rattle.refusal.specs.Lengths.{refusedLength, lengthIf, outputIf}
 use Rattle.acceptance.proofs.OpenModules.{accepted-opens, refused-opens}
 use Rattle.records.specs.Records.{allRecords, allAnswer, allOutput}
 use Rattle.records.specs.Told.{recordsTold}

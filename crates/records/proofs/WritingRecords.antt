@@ -14,11 +14,11 @@ use Rattle.blocks.specs.Sizes.{widthOf, sizeOf, envelopeCount}
 use Rattle.blocks.specs.declared.Kind.the-variants.{Song as SongKind}
 use Rattle.blocks.specs.declared.Thing.{Thing}
 use Rattle.blocks.specs.declared.Thing.the-variants.{Song, Instrument, Pattern, Sample}
-use Rattle.summary.specs.Shown.{nameOf, shownInfo}
+use Rattle.acceptance.proofs.Ends.{copied}
 use Rattle.samples.specs.Shown.{shownSample}
 use Rattle.envelopes.specs.Shown.{thingOf}
 use Rattle.envelopes.specs.declared.EnvelopeKind.{EnvelopeKind}
-use Rattle.acceptance.proofs.Ends.{copied}
+use Rattle.summary.specs.Shown.{nameOf, shownInfo}
 use Rattle.records.specs.Records.{infoRecord, countsRecord, sampleRecord, summaryRecord, recordAt}
 use Rattle.records.specs.Steps.{pointRecord, pointsFrom}
 use Rattle.records.proofs.Ahead.{Ahead, ahead-second, ahead-last, second-inside, second-part, third-length, third-put, AheadBlocks, blocks-last}

@@ -13,18 +13,18 @@ use Rattle.blocks.specs.declared.Thing.{Thing}
 use Rattle.blocks.specs.declared.Thing.the-variants.{Song, Instrument, Pattern, Sample, VolumeEnvelope, PanningEnvelope}
 use Rattle.module.specs.Verdicts.{opened}
 use Rattle.module.specs.Outputs.{answerOpened, outputOpened}
-use Rattle.summary.specs.Shown.{shownVersion, nameOf, shownInfo}
-use Rattle.summary.specs.declared.VersionAnswer.{VersionAnswer}
-use Rattle.summary.specs.declared.InfoAnswer.{InfoAnswer}
-use Rattle.songs.specs.Shown.{shownSong, playlistBytes}
-use Rattle.songs.specs.declared.SongAnswer.{SongAnswer}
-use Rattle.instruments.specs.Shown.{shownInstrument}
-use Rattle.instruments.specs.declared.InstrumentAnswer.{InstrumentAnswer}
 use Rattle.samples.specs.Shown.{shownSample}
 use Rattle.samples.specs.declared.SampleAnswer.{SampleAnswer}
 use Rattle.envelopes.specs.Shown.{shownEnvelope}
 use Rattle.envelopes.specs.declared.EnvelopeKind.the-variants.{Volume, Panning}
 use Rattle.envelopes.specs.declared.EnvelopeAnswer.{EnvelopeAnswer}
+use Rattle.songs.specs.Shown.{shownSong, playlistBytes}
+use Rattle.songs.specs.declared.SongAnswer.{SongAnswer}
+use Rattle.summary.specs.Shown.{shownVersion, nameOf, shownInfo}
+use Rattle.summary.specs.declared.VersionAnswer.{VersionAnswer}
+use Rattle.summary.specs.declared.InfoAnswer.{InfoAnswer}
+use Rattle.instruments.specs.Shown.{shownInstrument}
+use Rattle.instruments.specs.declared.InstrumentAnswer.{InstrumentAnswer}
 
 -- Q4: the version byte and the revision byte.
 abbrev pub versionRecord : VersionAnswer → List ℕ

@@ -4,14 +4,14 @@ use Prim.Native.Nat.{ℕ}
 use mathlib.Core.List.{List, _++_}
 use Rattle.vocabulary.specs.Lists.{joined}
 use Rattle.numbers.specs.Numbers.{eachFrom, bytes16}
-use Rattle.summary.specs.Shown.{versionAnswer, nameAnswer, infoAnswer}
-use Rattle.songs.specs.Shown.{songAnswer, entryAnswer}
-use Rattle.instruments.specs.Shown.{instrumentAnswer}
-use Rattle.patterns.specs.Shown.{rowsAnswer}
 use Rattle.samples.specs.Shown.{sampleAnswer}
 use Rattle.envelopes.specs.Shown.{countAnswer, envelopeAnswer}
 use Rattle.envelopes.specs.declared.EnvelopeKind.{EnvelopeKind}
 use Rattle.envelopes.specs.declared.EnvelopeKind.the-variants.{Volume, Panning}
+use Rattle.patterns.specs.Shown.{rowsAnswer}
+use Rattle.songs.specs.Shown.{songAnswer, entryAnswer}
+use Rattle.summary.specs.Shown.{versionAnswer, nameAnswer, infoAnswer}
+use Rattle.instruments.specs.Shown.{instrumentAnswer}
 use Rattle.records.specs.Records.{versionRecord, infoRecord, songRecord, instrumentRecord, sampleRecord, envelopeRecord}
 
 -- Q4 to Q6, Q9: what a module says of itself.

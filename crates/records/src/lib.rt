@@ -38,9 +38,9 @@ ghost use Rattle.blocks.specs.StoredFields.{envelopeSections};
 ghost use Rattle.blocks.specs.Sizes.{sizeOf, placesFrom};
 ghost use Rattle.module.specs.Verdicts.{opened};
 ghost use Rattle.module.specs.Outputs.{answerOpened, outputOpened};
-ghost use Rattle.summary.specs.Shown.{shownInfo};
 ghost use Rattle.samples.specs.Shown.{shownSample};
 ghost use Rattle.envelopes.specs.Shown.{thingOf};
+ghost use Rattle.summary.specs.Shown.{shownInfo};
 ghost use Rattle.records.specs.Records.{infoRecord, countsRecord, summaryRecord, sampleRecord, recordAt, recordsOf, allRecords, allAnswer, allOutput};
 ghost use Rattle.records.specs.Steps.{pointRecord, pointsFrom, recordsFrom, recordsOfThree, ValuesFit};
 

@@ -9,6 +9,9 @@ use Rattle.vocabulary.specs.Lists.{Every}
 use Rattle.vocabulary.proofs.EveryOne.{every-first, every-rest}
 use Rattle.refusal.specs.Numbers.{refusal}
 use Rattle.refusal.specs.declared.Cause.the-variants.{Room}
+use Rattle.refusal.specs.Lengths.{refusedLength, writtenLength}
+use Rattle.refusal.proofs.FilledOutputs.{all-lacking, all-enough}
+use Rattle.refusal.specs.declared.LengthAnswer.{LengthAnswer}
 use Rattle.numbers.specs.Numbers.{Bytes}
 use Rattle.layout.specs.declared.Layout.{Layout}
 use Rattle.layout.specs.declared.Outline.the-variants.{Found}
@@ -17,9 +20,6 @@ use Rattle.blocks.specs.declared.Kind.the-variants.{Pattern}
 use Rattle.module.specs.Streams.{patternStreamRules}
 use Rattle.module.specs.Verdicts.{opened}
 use Rattle.module.specs.Outputs.{answerOpened, outputOpened}
-use Rattle.refusal.specs.Lengths.{refusedLength, writtenLength}
-use Rattle.refusal.proofs.FilledOutputs.{all-lacking, all-enough}
-use Rattle.refusal.specs.declared.LengthAnswer.{LengthAnswer}
 use Rattle.acceptance.specs.Rules.{Covered}
 use Rattle.acceptance.proofs.Holding.{AllHold}
 use Rattle.acceptance.proofs.BlockStreams.{accepted-says}

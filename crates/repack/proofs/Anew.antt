@@ -12,6 +12,7 @@ use Rattle.refusal.specs.Numbers.{refusal}
 use Rattle.refusal.specs.declared.Cause.the-variants.{Room}
 use Rattle.refusal.specs.declared.Verdict.the-variants.{Accepted}
 use Rattle.cells.specs.Cells.{sizesFit, rowsOf}
+use Rattle.numbers.specs.Numbers.{partOf}
 use Rattle.packed_rows.specs.Entries.{rowsFrom}
 use Rattle.packed_rows.specs.Stream.{Reading, readStream, entriesRead, cellsRead}
 use Rattle.packed_rows.specs.Packer.{packedLength}
@@ -22,7 +23,6 @@ use Rattle.packed_rows.proofs.StreamLength.{packed-length}
 use Rattle.packed_rows.proofs.Repacking.{repack-found}
 use Rattle.packed_rows.proofs.Accepted.{accepted-rows}
 use Rattle.packed_rows.proofs.Theorems.{none-shorter}
-use Rattle.numbers.specs.Numbers.{partOf}
 use Rattle.blocks.specs.StoredFields.{patternRows, patternPackedLength, packedBytes}
 use Rattle.blocks.specs.Sizes.{sizeOf}
 use Rattle.blocks.specs.declared.Kind.the-variants.{Pattern}

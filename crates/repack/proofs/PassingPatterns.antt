@@ -12,10 +12,10 @@ use Rattle.blocks.specs.Filling.{dataEnd}
 use Rattle.blocks.specs.declared.Kind.the-variants.{Pattern}
 use Rattle.module.specs.Streams.{streamVerdict}
 use Rattle.acceptance.proofs.Cutting.{after-least, size-least}
+use Rattle.acceptance.proofs.Ends.{mid-end, put-next, written-length}
 use Rattle.repack.specs.Repacked.{repackedBlock}
 use Rattle.repack.specs.Steps.{blocksAnew, PatternsTo, PatternsIn}
 use Rattle.repack.proofs.Anew.{block-shorter}
-use Rattle.acceptance.proofs.Ends.{mid-end, put-next, written-length}
 
 -- The first of the patterns that are left: its stream is sound, its block ends before the end, and the others follow.
 pub record NextPattern (m : List ℕ) (tracks left at end : ℕ) : Type 0 where

@@ -13,9 +13,9 @@ use Rattle.numbers.specs.Numbers.{partOf, bytes32, putAt}
 use Rattle.blocks.specs.StoredFields.{patternPackedLength}
 use Rattle.module.specs.Streams.{streamVerdict}
 use Rattle.acceptance.proofs.Locating.{part-length}
+use Rattle.acceptance.proofs.Ends.{copied}
 use Rattle.repack.specs.Repacked.{packed, repackedStream, repackedBlock}
 use Rattle.repack.proofs.Anew.{block-size}
-use Rattle.acceptance.proofs.Ends.{copied}
 use Rattle.repack.proofs.LengthBefore.{lent-length, third-is}
 
 -- An even stream ends the block; behind an odd one a filler stands.

@@ -7,11 +7,11 @@ use native.Mathlib.Omega.{arith}
 use lib.ListN.{length, take, drop, length-append, length-drop}
 use lib.Seq.{length-take-le}
 use borrow.Rule.Slice.PartMut.{midOf, putMid}
+use Rattle.numbers.specs.Numbers.{bytes32, putAt}
 use Rattle.layout.specs.declared.Place.{Place}
 use Rattle.blocks.specs.Filling.{dataEnd}
-use Rattle.numbers.specs.Numbers.{bytes32, putAt}
-use Rattle.repack.specs.Steps.{frontAnew, replaced}
 use Rattle.acceptance.proofs.Ends.{mid-end, copied, put-next, written-length}
+use Rattle.repack.specs.Steps.{frontAnew, replaced}
 use Rattle.repack.proofs.LengthBefore.{third-is}
 
 module _ (m : List ℕ) (chunk : Place) (anew : List ℕ) (whole : dataEnd chunk ≤ length m) where

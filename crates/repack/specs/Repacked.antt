@@ -6,10 +6,11 @@ use mathlib.Core.Bool.{cond}
 use lib.ListN.{length, replicate}
 use lib.Dec.{eqb}
 use Rattle.vocabulary.specs.Lists.{joined}
+use Rattle.refusal.specs.declared.LengthAnswer.{LengthAnswer}
+use Rattle.numbers.specs.Numbers.{partOf, bytes32}
 use Rattle.packed_rows.specs.Entries.{rowsFrom}
 use Rattle.packed_rows.specs.Stream.{readStream, entriesRead}
 use Rattle.packed_rows.specs.Packer.{packedStream}
-use Rattle.numbers.specs.Numbers.{partOf, bytes32}
 use Rattle.layout.specs.Chunks.{PATT, Chunk, Walk, whole, stopped, chunks}
 use Rattle.layout.specs.declared.Layout.{Layout}
 use Rattle.layout.specs.declared.Outline.{Outline}
@@ -18,7 +19,6 @@ use Rattle.blocks.specs.StoredFields.{patternRows, packedBytes}
 use Rattle.blocks.specs.Sizes.{patternBlocks}
 use Rattle.module.specs.Verdicts.{opened}
 use Rattle.module.specs.Outputs.{answerOpened, outputOpened}
-use Rattle.refusal.specs.declared.LengthAnswer.{LengthAnswer}
 
 -- X3: the packer's stream (W1 to W3) of the cells of the pattern at a place, with its rows and the module's tracks.
 abbrev pub repackedStream : List ℕ → ℕ → ℕ → List ℕ

@@ -6,12 +6,12 @@ use mathlib.Core.List.{List, _++_, map}
 use lib.ListN.{length, take, drop}
 use Rattle.vocabulary.specs.Lists.{joined}
 use Rattle.refusal.specs.declared.Verdict.the-variants.{Accepted}
+use Rattle.numbers.specs.Numbers.{bytes32}
 use Rattle.layout.specs.declared.Place.{Place}
 use Rattle.blocks.specs.Sizes.{sizeOf, placeAfter, placesFrom, firstBlock}
 use Rattle.blocks.specs.Filling.{dataEnd}
 use Rattle.blocks.specs.declared.Kind.the-variants.{Pattern}
 use Rattle.module.specs.Streams.{streamVerdict}
-use Rattle.numbers.specs.Numbers.{bytes32}
 use Rattle.repack.specs.Repacked.{repackedBlock}
 
 -- The blocks anew of so many patterns from a place on.

@@ -13,9 +13,9 @@ use Rattle.vocabulary.specs.Letters.{nameLetters, infoLetters, venvLetters, pen
 use Rattle.vocabulary.proofs.EveryOne.{every-of, every-at}
 use Rattle.refusal.specs.Numbers.{refusal}
 use Rattle.refusal.specs.declared.Cause.the-variants.{NotThere}
-use Rattle.packed_rows.proofs.Shapes.{getD-mapped}
 use Rattle.numbers.specs.Numbers.{Bytes, number16, partOf, bytesFrom}
 use Rattle.numbers.proofs.Parts.{bytes-part}
+use Rattle.packed_rows.proofs.Shapes.{getD-mapped}
 use Rattle.layout.specs.Chunks.{PATT}
 use Rattle.layout.specs.declared.Place.{Place}
 use Rattle.layout.specs.declared.Layout.{Layout}
@@ -29,7 +29,6 @@ use Rattle.blocks.specs.declared.Thing.the-variants.{Song, Instrument, Pattern,
 use Rattle.module.specs.Verdicts.{opened}
 use Rattle.queries.specs.Finding.{firstOf, there, blockOf, foundIn, foundIf, found}
 use Rattle.queries.specs.declared.Found.the-variants.{At, Refused}
-use Rattle.summary.specs.Shown.{nameOf}
 use Rattle.acceptance.specs.Rules.{Among, EnvelopesRules, Filled, Covered}
 use Rattle.acceptance.proofs.Standing.{Stands, Found as Standing, LayoutOf}
 use Rattle.acceptance.proofs.Locating.{PartAt, part-inside, part-is}
@@ -40,8 +39,9 @@ use Rattle.acceptance.proofs.ChunkHalf.{stands-part}
 use Rattle.acceptance.proofs.FillingChunks.{BlocksIn, filled-blocks}
 use Rattle.acceptance.proofs.BlockFields.{song-sized, instrument-sized, sample-sized, envelope-sized}
 use Rattle.acceptance.proofs.ContentHalf.{counted, count-same}
-use Rattle.showing.proofs.Alike.{SameBlock, SamePattern, SameThing, FoundAlike, neither, both, Alike}
 use Rattle.repack.specs.Repacked.{repackedModule}
+use Rattle.summary.specs.Shown.{nameOf}
+use Rattle.showing.proofs.Alike.{SameBlock, SamePattern, SameThing, FoundAlike, neither, both, Alike}
 use Rattle.repacking.proofs.BlockAnew.{blockAnew, packed-same, rows-same, SoundBlock, anew-sound, anew-rows, anew-cells}
 use Rattle.repacking.proofs.ModuleAnew.{all-of, layout-of, header, chunks, patt, blocks, anew, blocks-in, sound-blocks, sound-anew, changed, rules, stays-among, was-among, patt-among, filled-anew, opens-anew}
 

@@ -8,8 +8,8 @@ use lib.ListN.{length, take, replicate, length-append}
 use lib.Seq.{take-at, length-take-le}
 use Rattle.vocabulary.specs.Lists.{joined, Every, none, also}
 use Rattle.refusal.specs.declared.Verdict.the-variants.{Accepted}
-use Rattle.packed_rows.specs.Packer.{packedStream}
 use Rattle.numbers.specs.Numbers.{number16, number32, partOf, bytes32}
+use Rattle.packed_rows.specs.Packer.{packedStream}
 use Rattle.blocks.specs.StoredFields.{packedBytes}
 use Rattle.blocks.specs.Sizes.{sizeOf, placesFrom}
 use Rattle.blocks.specs.declared.Kind.the-variants.{Pattern}

@@ -13,6 +13,8 @@ use Rattle.vocabulary.proofs.EveryOne.{every-first, every-rest, every-of}
 use Rattle.vocabulary.proofs.MappedLists.{every-map}
 use Rattle.refusal.specs.declared.Verdict.the-variants.{Accepted}
 use Rattle.cells.specs.Cells.{Cell, Row, emptyCell, nonZeros}
+use Rattle.numbers.specs.Numbers.{Bytes}
+use Rattle.numbers.proofs.AllBytes.{bytes-getD, bytes-nil, bytes-cons, bytes-first, bytes-rest, bytes-append, bytes-front, bytes-drop, bytes-joined, bytes-replicate}
 use Rattle.packed_rows.specs.Entries.{Entry, named, entryBytes, store, carryOut, carryAll, rowFrom, rowsFrom, rowStream, streamOf}
 use Rattle.packed_rows.specs.Stream.{readStream, entriesRead}
 use Rattle.packed_rows.specs.Packer.{packedEntry, packedEntries, packedStream}
@@ -22,8 +24,6 @@ use Rattle.packed_rows.proofs.Shapes.{Each, none as no-cell, one as one-cell, B
 use Rattle.packed_rows.proofs.PackedRow.{Packs, done, written, passed, packs}
 use Rattle.packed_rows.proofs.Soundness.{packed-sound}
 use Rattle.packed_rows.proofs.Accepted.{accepted-stream}
-use Rattle.numbers.specs.Numbers.{Bytes}
-use Rattle.numbers.proofs.AllBytes.{bytes-getD, bytes-nil, bytes-cons, bytes-first, bytes-rest, bytes-append, bytes-front, bytes-drop, bytes-joined, bytes-replicate}
 use Rattle.acceptance.proofs.BlockStreams.{accepted-sizes, holds}
 
 -- A stream is bytes exactly when its entries are.

@@ -13,6 +13,7 @@ use Rattle.vocabulary.proofs.MappedLists.{map-stays}
 use Rattle.vocabulary.proofs.JoinedLists.{joined-shorter}
 use Rattle.numbers.specs.Numbers.{Bytes, number16, number32, partOf, bytes32}
 use Rattle.numbers.proofs.AllBytes.{bytes-drop, bytes32-bytes}
+use Rattle.numbers.proofs.Stored.{bytes32-again}
 use Rattle.layout.specs.Chunks.{PATT}
 use Rattle.layout.specs.declared.Layout.{Layout}
 use Rattle.layout.specs.declared.Outline.the-variants.{Found}
@@ -31,11 +32,10 @@ use Rattle.acceptance.proofs.Cutting.{Sized, sized-least, block-there}
 use Rattle.acceptance.proofs.Identifiers.{number-letters}
 use Rattle.acceptance.proofs.ChangedChunks.{split-alone}
 use Rattle.acceptance.proofs.ChangedData.{withData, data-same-but}
-use Rattle.query_theorems.proofs.FoundBlocks.{found-numbered}
 use Rattle.repack.specs.Repacked.{packed, repackedStream, repackedPatterns, repackedModule}
 use Rattle.repack.proofs.Accepting.{patterns-in, module-replaced}
+use Rattle.query_theorems.proofs.FoundBlocks.{found-numbered}
 use Rattle.repacking.specs.Packed.{fillerOf, PackedAt}
-use Rattle.numbers.proofs.Stored.{bytes32-again}
 use Rattle.repacking.proofs.BlockAnew.{blockAnew, packed-same, rows-same, SoundBlock, anew-length, anew-stream, filler-part, anew-shorter}
 use Rattle.repacking.proofs.ModuleAnew.{header, patt, pattThere, all-of, blocks, blocks-in, blocks-bytes, sound-blocks, rules, data-is, patt-bytes, patt-changed, patt-below, patt-size, repacked-size, repacked-bytes}
 

@@ -18,6 +18,7 @@ use native.Mathlib.Omega.{arith}
 use lib.ListN.{length}
 use borrow.Author.Tests.{le-ltb}
 use Rattle.refusal.specs.declared.Verdict.the-variants.{Accepted}
+use Rattle.refusal.specs.Lengths.{writtenLength}
 use Rattle.numbers.specs.Numbers.{Bytes}
 use Rattle.layout.specs.declared.Layout.{Layout}
 use Rattle.layout.specs.declared.Outline.the-variants.{Found}
@@ -25,13 +26,12 @@ use Rattle.blocks.specs.declared.Thing.the-variants.{Pattern}
 use Rattle.module.specs.Verdicts.{opened, verdictOf, moduleVerdict}
 use Rattle.module.specs.Outputs.{answerOpened}
 use Rattle.queries.specs.Finding.{found}
-use Rattle.refusal.specs.Lengths.{writtenLength}
 use Rattle.queries.specs.declared.Block.{Block}
 use Rattle.queries.specs.declared.Found.the-variants.{At}
 use Rattle.acceptance.proofs.OpenModules.{accepted-opens}
+use Rattle.repack.specs.Repacked.{repackedModule, repackAnswer, repacked}
 use Rattle.showing.specs.Showing.{ShowsSame}
 use Rattle.showing.proofs.Theorems.{alike-shows}
-use Rattle.repack.specs.Repacked.{repackedModule, repackAnswer, repacked}
 use Rattle.repacking.specs.Packed.{PackedAt}
 use Rattle.repacking.proofs.Opening.{repacked-opened}
 use Rattle.repacking.proofs.ModuleAnew.{no-longer, bytes-anew}

@@ -6,10 +6,11 @@ use mathlib.Core.Bool.{cond}
 use lib.ListN.{length}
 use lib.Dec.{eqb, ltb}
 use lib.IntN.{ℤ, pos, negsuc, _*ℤ_}
-use Rattle.refusal.specs.Numbers.{refusal, noRefusal, refusedOutcome}
 use Rattle.vocabulary.specs.Lists.{joined}
+use Rattle.refusal.specs.Numbers.{refusal, noRefusal, refusedOutcome}
 use Rattle.refusal.specs.declared.Cause.the-variants.{NotThere}
 use Rattle.refusal.specs.declared.Refusal.{Refusal}
+use Rattle.refusal.specs.declared.LengthAnswer.{LengthAnswer}
 use Rattle.numbers.specs.Numbers.{byteAt, number16, number32, partOf, signedBy, signed16, eachFrom, bytes16, unsigned16}
 use Rattle.blocks.specs.StoredFields.{sampleFlags, sampleFrames}
 use Rattle.blocks.specs.Sizes.{widthOf}
@@ -17,7 +18,6 @@ use Rattle.blocks.specs.declared.Thing.the-variants.{Sample}
 use Rattle.queries.specs.Finding.{found, answerFound, outputFound}
 use Rattle.queries.specs.declared.Found.{Found}
 use Rattle.queries.specs.declared.Found.the-variants.{At, Refused}
-use Rattle.refusal.specs.declared.LengthAnswer.{LengthAnswer}
 use Rattle.samples.specs.declared.SampleAnswer.{SampleAnswer}
 use Rattle.samples.specs.declared.FramesAnswer.{FramesAnswer}
 use Rattle.samples.specs.declared.FrameAnswer.{FrameAnswer}

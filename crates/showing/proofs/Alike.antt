@@ -5,10 +5,10 @@ use mathlib.Core.Path.{_≡_}
 use mathlib.Core.List.{List}
 use Rattle.refusal.specs.declared.Refusal.{Refusal}
 use Rattle.refusal.specs.declared.Verdict.the-variants.{Accepted}
+use Rattle.numbers.specs.Numbers.{number16}
 use Rattle.packed_rows.specs.Entries.{rowsFrom}
 use Rattle.packed_rows.specs.Stream.{readStream, entriesRead}
 use Rattle.packed_rows.specs.Answers.{checkAnswer}
-use Rattle.numbers.specs.Numbers.{number16}
 use Rattle.layout.specs.declared.Layout.{Layout}
 use Rattle.layout.specs.declared.Outline.the-variants.{Found as Opened}
 use Rattle.blocks.specs.StoredFields.{packedBytes}
@@ -22,9 +22,9 @@ use Rattle.queries.specs.Finding.{found}
 use Rattle.queries.specs.declared.Block.{Block}
 use Rattle.queries.specs.declared.Found.{Found}
 use Rattle.queries.specs.declared.Found.the-variants.{At, Refused}
-use Rattle.summary.specs.Shown.{nameOf}
 use Rattle.acceptance.proofs.Locating.{PartAt}
 use Rattle.acceptance.proofs.Cutting.{Sized}
+use Rattle.summary.specs.Shown.{nameOf}
 
 -- The same block stands in both modules, at two places.
 pub record SameBlock (kind : Kind) (m n : List ℕ) (at to : ℕ) : Type 0 where

@@ -2,14 +2,14 @@
 use Prim.Native.Nat.{ℕ}
 use mathlib.Core.Path.{_≡_, refl}
 use mathlib.Core.List.{List}
+use Rattle.numbers.specs.Numbers.{number16}
 use Rattle.packed_rows.specs.Entries.{Entry, rowsFrom}
 use Rattle.packed_rows.specs.Stream.{readStream, whole}
 use Rattle.packed_rows.specs.Answers.{cellOf, unpackAnswer as streamAnswer, unpackOutput as streamOutput}
-use Rattle.numbers.specs.Numbers.{number16}
 use Rattle.blocks.specs.StoredFields.{packedBytes}
 use Rattle.blocks.specs.declared.Thing.the-variants.{Pattern}
-use Rattle.patterns.specs.Shown.{rowsIf, rowsAnswer, cellIf, cellAnswer, unpackIf, unpackAnswer, unpackOutputIf, unpackOutput}
 use Rattle.acceptance.proofs.BlockStreams.{holds}
+use Rattle.patterns.specs.Shown.{rowsIf, rowsAnswer, cellIf, cellAnswer, unpackIf, unpackAnswer, unpackOutputIf, unpackOutput}
 use Rattle.showing.proofs.Alike.{SamePattern, Alike}
 use Rattle.showing.proofs.AlikeAnswers.{by-finding}
 

@@ -4,21 +4,21 @@ use mathlib.Core.Path.{_≡_, refl, sym, ap, _∙_}
 use mathlib.Core.List.{List, []}
 use lib.ListN.{length}
 use Rattle.vocabulary.specs.Lists.{joined}
-use Rattle.numbers.specs.Numbers.{eachFrom, bytes16}
 use Rattle.refusal.specs.Lengths.{lengthIf, outputIf}
+use Rattle.numbers.specs.Numbers.{eachFrom, bytes16}
 use Rattle.blocks.specs.Things.{countOf}
 use Rattle.blocks.specs.declared.Thing.{Thing}
 use Rattle.blocks.specs.declared.Thing.the-variants.{Song, Instrument, Pattern, Sample, VolumeEnvelope, PanningEnvelope}
+use Rattle.module.specs.Outputs.{answerOpened, outputOpened}
 use Rattle.queries.specs.Finding.{firstOf, found}
 use Rattle.queries.specs.declared.Found.{Found}
 use Rattle.queries.specs.declared.Found.the-variants.{At, Refused}
+use Rattle.envelopes.specs.declared.EnvelopeKind.the-variants.{Volume, Panning}
 use Rattle.songs.specs.Shown.{shownSong, playlistBytes}
 use Rattle.songs.specs.declared.SongAnswer.{SongAnswer}
-use Rattle.envelopes.specs.declared.EnvelopeKind.the-variants.{Volume, Panning}
 use Rattle.records.specs.Records.{songRecord, sampleRecord, instrumentRecord, envelopeRecord, summaryRecord, recordAt, recordsOf, allRecords, allAnswer, allOutput}
 use Rattle.records.proofs.ByNumber.{records-numbered}
 use Rattle.records.proofs.Telling.{same-joint}
-use Rattle.module.specs.Outputs.{answerOpened, outputOpened}
 use Rattle.showing.proofs.Alike.{SameThing, Alike}
 use Rattle.showing.proofs.SameBytes.{each-same}
 use Rattle.showing.proofs.SameSongs.{song-same, playlist-same}

@@ -9,14 +9,14 @@ use native.Mathlib.Nat.{add-assoc, mul-le-mul-right}
 use lib.Dec.{ltb}
 use lib.IntN.{ℤ}
 use borrow.Author.Tests.{ltb-true}
-use Rattle.queries.specs.Finding.{answerFound, outputFound}
-use Rattle.refusal.specs.Lengths.{outputOf}
 use Rattle.vocabulary.specs.Lists.{joined}
+use Rattle.refusal.specs.Lengths.{outputOf}
 use Rattle.numbers.specs.Numbers.{number32, partOf, bytes16, unsigned16}
 use Rattle.blocks.specs.StoredFields.{sampleFrames}
 use Rattle.blocks.specs.Sizes.{sizeOf}
 use Rattle.blocks.specs.declared.Kind.the-variants.{Sample as SampleKind}
 use Rattle.blocks.specs.declared.Thing.the-variants.{Sample}
+use Rattle.queries.specs.Finding.{answerFound, outputFound}
 use Rattle.samples.specs.Shown.{frameBytes, shownSample, sampleIf, sampleAnswer, framesIf, frame16, frameOf, frameIn, frameIf, frameAnswer, allFrames, allFramesSize, allFramesAnswer, allFramesOutput}
 use Rattle.query_theorems.proofs.SampleFrames.{frames-in}
 use Rattle.showing.specs.Showing.{SameFrames}

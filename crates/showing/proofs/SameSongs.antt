@@ -6,12 +6,12 @@ use native.Mathlib.Omega.{arith}
 use native.Mathlib.Nat.{add-assoc}
 use lib.Dec.{ltb}
 use borrow.Author.Tests.{ltb-true}
-use Rattle.queries.specs.Finding.{answerFound, outputFound}
 use Rattle.refusal.specs.Lengths.{outputOf}
 use Rattle.blocks.specs.StoredFields.{songLength, songEntry}
 use Rattle.blocks.specs.Sizes.{sizeOf}
 use Rattle.blocks.specs.declared.Kind.the-variants.{Song as SongKind}
 use Rattle.blocks.specs.declared.Thing.the-variants.{Song}
+use Rattle.queries.specs.Finding.{answerFound, outputFound}
 use Rattle.songs.specs.Shown.{shownSong, songIf, songAnswer, entryIn, entryIf, entryAnswer, playlistBytes, playlistSize, playlistAnswer, playlistOutput}
 use Rattle.showing.proofs.Alike.{SameBlock, Alike}
 use Rattle.showing.proofs.SameBytes.{same-if, same-16, same-front, same-bytes}

@@ -3,13 +3,13 @@
 use Prim.Native.Nat.{ℕ}
 use mathlib.Core.Path.{_≡_}
 use mathlib.Core.List.{List}
-use Rattle.summary.specs.Shown.{versionAnswer, nameAnswer, infoAnswer}
-use Rattle.songs.specs.Shown.{songAnswer, entryAnswer, playlistAnswer, playlistOutput}
-use Rattle.instruments.specs.Shown.{instrumentAnswer}
+use Rattle.samples.specs.Shown.{sampleAnswer, framesAnswer, framesPart, frameAnswer, allFramesAnswer, allFramesOutput}
 use Rattle.envelopes.specs.Shown.{countAnswer, envelopeAnswer}
 use Rattle.envelopes.specs.declared.EnvelopeKind.{EnvelopeKind}
 use Rattle.patterns.specs.Shown.{rowsAnswer, cellAnswer, unpackAnswer, unpackOutput}
-use Rattle.samples.specs.Shown.{sampleAnswer, framesAnswer, framesPart, frameAnswer, allFramesAnswer, allFramesOutput}
+use Rattle.songs.specs.Shown.{songAnswer, entryAnswer, playlistAnswer, playlistOutput}
+use Rattle.summary.specs.Shown.{versionAnswer, nameAnswer, infoAnswer}
+use Rattle.instruments.specs.Shown.{instrumentAnswer}
 use Rattle.records.specs.Records.{allAnswer, allOutput}
 
 -- Q12: the frames of a sample, handed out as a part of each module: the same refusal, the same length and the same bytes. The

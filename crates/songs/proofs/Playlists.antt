@@ -7,11 +7,11 @@ use lib.ListN.{length, take, drop}
 use lib.Seq.{length-take-le}
 use Rattle.refusal.specs.Numbers.{refusal}
 use Rattle.refusal.specs.declared.Cause.the-variants.{Room}
-use Rattle.numbers.specs.Numbers.{byteAt, bytesFrom}
-use Rattle.blocks.specs.StoredFields.{songLength}
-use Rattle.numbers.proofs.Each.{each-length}
 use Rattle.refusal.specs.Lengths.{refusedLength, writtenLength, lengthIf, outputOf}
 use Rattle.refusal.proofs.FilledOutputs.{lacking, enough}
+use Rattle.numbers.specs.Numbers.{byteAt, bytesFrom}
+use Rattle.numbers.proofs.Each.{each-length}
+use Rattle.blocks.specs.StoredFields.{songLength}
 use Rattle.songs.specs.Shown.{playlistSize, playlistBytes}
 
 module _ (m : List ℕ) (at n : ℕ) (out : List ℕ) (e : n ≡ songLength m at) where

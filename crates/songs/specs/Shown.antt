@@ -8,13 +8,13 @@ use lib.Dec.{ltb}
 use Rattle.refusal.specs.Numbers.{refusal, noRefusal, refusedOutcome}
 use Rattle.refusal.specs.declared.Cause.the-variants.{NotThere}
 use Rattle.refusal.specs.declared.Refusal.{Refusal}
+use Rattle.refusal.specs.declared.LengthAnswer.{LengthAnswer}
 use Rattle.numbers.specs.Numbers.{bytesFrom}
 use Rattle.blocks.specs.StoredFields.{songName, songLength, songEntry}
 use Rattle.blocks.specs.declared.Thing.the-variants.{Song}
 use Rattle.queries.specs.Finding.{found, answerFound, outputFound}
 use Rattle.queries.specs.declared.Found.{Found}
 use Rattle.queries.specs.declared.Found.the-variants.{At, Refused}
-use Rattle.refusal.specs.declared.LengthAnswer.{LengthAnswer}
 use Rattle.songs.specs.declared.SongAnswer.{SongAnswer}
 use Rattle.songs.specs.declared.EntryAnswer.{EntryAnswer}
 

@@ -7,7 +7,7 @@ use refusal::Refusal;
 use refusal::Verdict;
 use refusal::outcome_of;
 ghost use mathlib.Core.Path.{_≡_};
-ghost use Rattle.summary.specs.Shown.{noVersion, shownVersion, versionAnswer, noName, nameOf, nameAnswer, noInfo, shownInfo, infoAnswer};
+ghost use Rattle.summary.specs.Shown.{noVersion, versionAnswer, noName, nameOf, nameAnswer, noInfo, infoAnswer};
 
 // Version and revision, as stored.
 #[repr(C)]

@@ -1,8 +1,8 @@
 use borrow.Author.Needs.{needs}
 use mathlib.Core.Path.{_∙_, sym}
+use Rattle.refusal.proofs.Outcomes.{is-answer}
 use Rattle.layout.proofs.Outlining.{header-length, outline-header, outline-walk, outline-whole}
 use Rattle.layout.specs.Outlines.{outlineNumbers}
-use Rattle.refusal.proofs.Outcomes.{is-answer}
 use Rattle.layout.proofs.find.Statement.{statement}
 use Rattle.layout.proofs.find.Tie as tie
 

@@ -3,9 +3,9 @@ use lib.ListN.{take}
 use lib.Seq.{length-take-le}
 use native.Mathlib.Omega.{arith}
 use borrow.Author.Needs.{needs}
+use Rattle.refusal.proofs.Outcomes.{is-answer}
 use Rattle.listing_text.specs.Lines.{listing}
 use Rattle.listing_text.specs.Lines.{listingNumbers}
-use Rattle.refusal.proofs.Outcomes.{is-answer}
 use Rattle.listing_text.proofs.lines.Statement.{statement}
 use Rattle.listing_text.proofs.lines.Tie as tie
 

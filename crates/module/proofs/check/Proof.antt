@@ -1,8 +1,8 @@
 use borrow.Author.Needs.{needs}
 use mathlib.Core.Path.{_∙_, ap, sym}
-use Rattle.module.specs.Verdicts.{verdictOf}
 use Rattle.refusal.specs.Numbers.{verdictNumbers}
 use Rattle.refusal.proofs.Outcomes.{is-answer}
+use Rattle.module.specs.Verdicts.{verdictOf}
 use Rattle.module.proofs.check.Statement.{statement}
 use Rattle.module.proofs.check.Tie as tie
 

@@ -1,9 +1,9 @@
 use borrow.Author.Needs.{needs}
+use Rattle.refusal.proofs.InOrder.{first-stopped, second-stopped, third-stopped, last-told}
 use Rattle.blocks.specs.Filling.{blockRules}
 use Rattle.fields.specs.Fields.{fieldRules}
 use Rattle.module.specs.Loops.{loopRules}
 use Rattle.module.specs.Streams.{streamRules}
-use Rattle.refusal.proofs.InOrder.{first-stopped, second-stopped, third-stopped, last-told}
 use Rattle.module.proofs.check_content.Statement.{statement}
 use Rattle.module.proofs.check_content.Tie as tie
 

@@ -1,6 +1,6 @@
 use borrow.Author.Needs.{needs}
-use Rattle.layout.specs.Outlines.{outlineNumbers}
 use Rattle.refusal.proofs.Outcomes.{is-answer}
+use Rattle.layout.specs.Outlines.{outlineNumbers}
 use Rattle.module.proofs.open.Statement.{statement}
 use Rattle.module.proofs.open.Tie as tie
 

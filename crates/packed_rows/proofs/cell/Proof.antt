@@ -1,16 +1,16 @@
 use borrow.Author.Needs.{needs}
 use Prim.Native.Nat.{ℕ, _*_, _≤_}
-use mathlib.Core.Path.{_≡_, _∙_, ap, sym}
+use mathlib.Core.Path.{_∙_, ap, sym}
 use lib.Seq.{length-take-le}
 use lib.ListN.{replicate}
 use borrow.Author.Tests.{not-false}
 use native.Mathlib.Omega.{arith}
+use Rattle.refusal.proofs.Outcomes.{is-answer}
 use Rattle.packed_rows.specs.declared.CellAnswer.the-variants.{Found}
 use Rattle.packed_rows.proofs.Sizes.{sizes}
 use Rattle.packed_rows.specs.Stream.{readStream}
 use Rattle.packed_rows.proofs.SkippingRows.{cell-refused, cell-found}
 use Rattle.packed_rows.specs.Answers.{cellNumbers}
-use Rattle.refusal.proofs.Outcomes.{is-answer}
 use Rattle.packed_rows.proofs.cell.Statement.{statement}
 use Rattle.packed_rows.proofs.cell.Tie as tie
 

@@ -1,6 +1,4 @@
 use borrow.Author.Needs.{needs}
-use mathlib.Core.Path.{_∙_, ap, sym}
-use Rattle.refusal.specs.declared.Verdict.the-variants.{Refused}
 use Rattle.refusal.specs.Numbers.{verdictNumbers}
 use Rattle.refusal.proofs.Outcomes.{is-answer}
 use Rattle.packed_rows.proofs.check.Statement.{statement}

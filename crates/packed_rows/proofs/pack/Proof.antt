@@ -1,17 +1,16 @@
 use borrow.Author.Needs.{needs}
 use mathlib.Core.Path.{_≡_, _∙_, ap, sym}
 use mathlib.Core.Bool.{true, false}
-use mathlib.Core.List.{List, _++_}
-use Prim.Native.Nat.{ℕ, _*_}
+use mathlib.Core.List.{_++_}
 use lib.ListN.{drop}
 use lib.Seq.{length-take-le}
 use borrow.Author.Tests.{lt-ltb, le-ltb, eq-eqb, ne-eqb, not-false, not-true}
 use native.Mathlib.Omega.{arith}
+use Rattle.refusal.proofs.Outcomes.{is-answer-with}
 use Rattle.cells.specs.Cells.{sizesFit, rowsOf}
 use Rattle.packed_rows.proofs.Sizes.{sizes}
 use Rattle.packed_rows.proofs.StreamLength.{packed-length}
 use Rattle.packed_rows.specs.Answers.{packingNumbers}
-use Rattle.refusal.proofs.Outcomes.{is-answer-with}
 use Rattle.packed_rows.proofs.pack.Statement.{statement}
 use Rattle.packed_rows.proofs.pack.Tie as tie
 

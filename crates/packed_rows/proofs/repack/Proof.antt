@@ -1,11 +1,12 @@
 use borrow.Author.Needs.{needs}
 use Prim.Native.Nat.{ℕ, _*_, _≤_}
-use mathlib.Core.Path.{_≡_, _∙_, ap, sym, refl}
+use mathlib.Core.Path.{_≡_, _∙_, ap, sym}
 use mathlib.Core.Bool.{true, false}
 use lib.ListN.{length, replicate}
 use lib.Seq.{length-take-le}
 use borrow.Author.Tests.{not-true, not-false}
 use native.Mathlib.Omega.{arith}
+use Rattle.refusal.proofs.Outcomes.{is-answer-with}
 use Rattle.cells.specs.Cells.{sizesFit}
 use Rattle.packed_rows.specs.Stream.{readStream}
 use Rattle.packed_rows.specs.Packer.{packedStream}
@@ -15,7 +16,6 @@ use Rattle.packed_rows.specs.declared.Packing.{Packing}
 use Rattle.packed_rows.proofs.Sizes.{sizes}
 use Rattle.packed_rows.proofs.Repacking.{repack-refused, repack-found}
 use Rattle.packed_rows.specs.Answers.{packingNumbers}
-use Rattle.refusal.proofs.Outcomes.{is-answer-with}
 use Rattle.packed_rows.proofs.repack.Statement.{statement}
 use Rattle.packed_rows.proofs.repack.Tie as tie
 

@@ -1,15 +1,14 @@
 use borrow.Author.Needs.{needs}
-use mathlib.Core.Path.{_≡_, _∙_, ap, sym}
-use mathlib.Core.Bool.{true}
+use mathlib.Core.Path.{_∙_, ap, sym}
 use borrow.Author.Tests.{lt-ltb, le-ltb, not-false}
 use native.Mathlib.Omega.{arith}
 use lib.Seq.{length-take-le}
-use mathlib.Core.List.{List, _++_}
-use Prim.Native.Nat.{ℕ, _*_}
+use mathlib.Core.List.{_++_}
+use Prim.Native.Nat.{_*_}
 use lib.ListN.{drop}
+use Rattle.refusal.proofs.Outcomes.{is-answer-with}
 use Rattle.packed_rows.proofs.Sizes.{sizes}
 use Rattle.packed_rows.specs.Answers.{unpackingNumbers}
-use Rattle.refusal.proofs.Outcomes.{is-answer-with}
 use Rattle.packed_rows.proofs.unpack.Statement.{statement}
 use Rattle.packed_rows.proofs.unpack.Tie as tie
 

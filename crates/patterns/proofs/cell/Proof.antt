@@ -1,6 +1,6 @@
 use borrow.Author.Needs.{needs}
-use Rattle.packed_rows.specs.Answers.{cellNumbers}
 use Rattle.refusal.proofs.Outcomes.{is-answer}
+use Rattle.packed_rows.specs.Answers.{cellNumbers}
 use Rattle.patterns.proofs.cell.Statement.{statement}
 use Rattle.patterns.proofs.cell.Tie as tie
 

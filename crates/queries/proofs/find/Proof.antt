@@ -1,6 +1,6 @@
 use borrow.Author.Needs.{needs}
-use Rattle.queries.specs.Finding.{foundNumbers}
 use Rattle.refusal.proofs.Outcomes.{is-answer-with}
+use Rattle.queries.specs.Finding.{foundNumbers}
 use Rattle.queries.proofs.find.Statement.{statement}
 use Rattle.queries.proofs.find.Tie as tie
 

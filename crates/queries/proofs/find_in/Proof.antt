@@ -1,7 +1,7 @@
 use borrow.Author.Needs.{needs}
 use borrow.Author.Tests.{lt-ltb, le-ltb, le-leb, lt-leb}
-use Rattle.queries.specs.Finding.{foundNumbers}
 use Rattle.refusal.proofs.Outcomes.{is-answer-with}
+use Rattle.queries.specs.Finding.{foundNumbers}
 use Rattle.queries.proofs.find_in.Statement.{statement}
 use Rattle.queries.proofs.find_in.Tie as tie
 

@@ -1,10 +1,10 @@
 use borrow.Author.Needs.{needs}
 use mathlib.Core.Path.{refl}
 use native.Mathlib.Omega.{arith}
-use Rattle.repack.proofs.PassingPatterns.{data-shorter}
-use Rattle.repack.proofs.WritingModule.{room-enough, room-counted}
 use Rattle.blocks.specs.Sizes.{firstBlock}
 use Rattle.blocks.specs.declared.Kind.the-variants.{Pattern}
+use Rattle.repack.proofs.PassingPatterns.{data-shorter}
+use Rattle.repack.proofs.WritingModule.{room-enough, room-counted}
 use Rattle.repack.specs.Steps.{blocksAnew}
 use Rattle.repack.proofs.room_needed.Statement.{statement}
 use Rattle.repack.proofs.room_needed.Tie as tie

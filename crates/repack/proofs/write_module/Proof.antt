@@ -1,11 +1,10 @@
 use borrow.Author.Needs.{needs}
-use Rattle.repack.proofs.WritingModule.{front-room, rest-length, rest-room, module-written}
 use Rattle.blocks.specs.Sizes.{firstBlock}
 use Rattle.blocks.specs.declared.Kind.the-variants.{Pattern}
+use Rattle.repack.proofs.WritingModule.{front-room, rest-length, rest-room, module-written}
 use Rattle.repack.specs.Steps.{blocksAnew}
 use native.Mathlib.Omega.{arith}
-use mathlib.Core.Path.{refl, sym, _∙_}
-use Rattle.repack.proofs.WritingModule.{front-room, kept-length, rest-length, all-length, module-written}
+use Rattle.repack.proofs.WritingModule.{front-room, rest-length, module-written}
 use Rattle.repack.proofs.write_module.Statement.{statement}
 use Rattle.repack.proofs.write_module.Tie as tie
 

@@ -3,8 +3,8 @@ use borrow.Author.Needs.{needs}
 use lib.ListN.{length, length-set}
 use mathlib.Core.Path.{_∙_, sym}
 use Prim.Native.Nat.{ℕ, _+_, _-_, _*_, _<_}
-use Rattle.samples.specs.Shown.{frame16}
 use Rattle.blocks.proofs.BlockSizes.{frames-below}
+use Rattle.samples.specs.Shown.{frame16}
 use Rattle.samples.proofs.WritingFrames.{Writing, writing-first, writing-length, writing-turn, writing-last}
 use Rattle.samples.proofs.write_frames.Statement.{statement}
 use Rattle.samples.proofs.write_frames.Tie as tie

@@ -1,5 +1,5 @@
 use borrow.Author.Needs.{needs}
-use borrow.Author.Tests.{lt-ltb, le-ltb, le-leb, lt-leb}
+use borrow.Author.Tests.{lt-ltb, le-ltb}
 use Rattle.songs.proofs.entry_in.Statement.{statement}
 use Rattle.songs.proofs.entry_in.Tie as tie
 

@@ -1,6 +1,6 @@
-use Prim.Native.Nat.{ℕ, suc, _+_, _*_, _≤_, _-_}
-use mathlib.Core.Path.{_≡_, _∙_, sym, refl, ap}
-use lib.ListN.{length, drop}
+use Prim.Native.Nat.{suc, _+_, _*_, _-_}
+use mathlib.Core.Path.{_≡_, _∙_, refl, ap}
+use lib.ListN.{length}
 use borrow.Author.Needs.{needs}
 use borrow.Rule.Slice.PartMut.{same-len-mid}
 use native.Mathlib.Nat.{suc-mul}

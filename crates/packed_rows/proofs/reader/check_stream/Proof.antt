@@ -1,4 +1,4 @@
-use Prim.Native.Nat.{ℕ, suc, _≤_, _-_}
+use Prim.Native.Nat.{suc, _≤_, _-_}
 use mathlib.Core.Path.{_≡_, _∙_, sym, refl, ap}
 use lib.ListN.{length, drop}
 use borrow.Author.Needs.{needs}

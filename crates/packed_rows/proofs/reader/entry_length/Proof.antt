@@ -1,7 +1,6 @@
 use borrow.Author.Needs.{needs}
 use Prim.Native.Nat.{ℕ}
-use mathlib.Core.Path.{_≡_, _∙_, ap, sym}
-use mathlib.Core.List.{List}
+use mathlib.Core.Path.{_∙_, ap}
 use lib.ListN.{length, getD}
 use native.Mathlib.Omega.{arith}
 use Rattle.packed_rows.proofs.Lengths.{length-read, length-unsound, entry-length-most}

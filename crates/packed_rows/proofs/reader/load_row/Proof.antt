@@ -1,5 +1,4 @@
 use borrow.Author.Needs.{needs}
-use mathlib.Core.Path.{_∙_, ap}
 use Rattle.packed_rows.proofs.CarryingRows.{ahead-of, loaded}
 use Rattle.packed_rows.proofs.reader.load_row.Statement.{statement}
 use Rattle.packed_rows.proofs.reader.load_row.Tie as tie
