@@ -2,3 +2,4 @@ pub mod Loops
 pub mod Streams
 pub mod Verdicts
 pub mod Outputs
+pub mod Steps

@@ -1,10 +1,11 @@
 // The check of a whole module. What a module's numbers, chunks and blocks are and which fields are checked, the crates below say; here
 // its loops and packed streams are checked, refusals 14 and 15, and all is put in order.
 mod loops;
+mod passes;
 mod streams;
 
-use crate::loops::check_loops;
-use crate::streams::check_streams;
+use crate::passes::check_loops;
+use crate::passes::check_streams;
 use layout::Layout;
 use layout::Outline;
 use refusal::Verdict;

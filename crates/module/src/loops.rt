@@ -1,13 +1,11 @@
-// Loops: refusal 14.
+// The loop of an instrument: refusal 14.
 use blocks::Kind;
 use blocks::block_at;
-use blocks::size;
 use blocks::stored::instrument_flags;
 use blocks::stored::instrument_loop_length;
 use blocks::stored::instrument_loop_start;
 use blocks::stored::instrument_sample;
 use blocks::stored::sample_frames;
-use layout::Layout;
 use layout::Place;
 use refusal::Cause;
 use refusal::Verdict;
@@ -15,7 +13,7 @@ use refusal::refuse;
 ghost use mathlib.Core.Path.{_≡_};
 ghost use Prim.Native.Nat.{_<_};
 ghost use Rattle.refusal.specs.Rules.{firstBroken};
-ghost use Rattle.module.specs.Loops.{loopKind, isLoop, framesOf, loopFits, loopRules};
+ghost use Rattle.module.specs.Loops.{loopKind, isLoop, framesOf, loopFits, instrumentLoopRules};
 
 // Whether an instrument with these flags and this loop length is looped.
 fn is_looped(flags: u16, length: u32) -> bool
@@ -48,20 +46,12 @@ fn loop_fits(m: &[u8], chunk: Place, at: usize) -> bool
         <= (frames(m, chunk, sample) as usize)
 }
 
-// Checks the loops of the instruments.
-pub fn check_loops(m: &[u8], l: Layout) -> Verdict
-    ensures { λ r. ⌜ r ≡ firstBroken (loopRules (now (m .entry)) l) ⌝ }
+// Checks the loop of the instrument at a place.
+pub fn check_loop(m: &[u8], chunk: Place, at: usize) -> Verdict
+    ensures { λ r. ⌜ r ≡ firstBroken (instrumentLoopRules (now (m .entry)) chunk at) ⌝ }
 {
-    let p = l.places;
-    let smpl = p.smpl;
-    let mut at = block_at(m, Kind::Instrument, p.inst, 0);
-    let mut left = l.instruments;
-    while 0 < left {
-        if !loop_fits(m, smpl, at) {
-            return Verdict::Refused(refuse(Cause::Loop, at));
-        }
-        at = at + size(m, Kind::Instrument, at);
-        left = left - 1;
+    if loop_fits(m, chunk, at) {
+        return Verdict::Accepted;
     }
-    Verdict::Accepted
+    Verdict::Refused(refuse(Cause::Loop, at))
 }

@@ -1,16 +1,12 @@
-// The packed streams of the patterns: refusal 15.
-use blocks::Kind;
-use blocks::block_at;
-use blocks::size;
+// The packed stream of a pattern: refusal 15.
 use blocks::stored::packed_bytes;
 use blocks::stored::pattern_rows;
-use layout::Layout;
 use refusal::Cause;
 use refusal::Verdict;
 use refusal::refuse;
 ghost use mathlib.Core.Path.{_≡_};
 ghost use Rattle.refusal.specs.Rules.{firstBroken, accepted};
-ghost use Rattle.module.specs.Streams.{streamVerdict, streamRules};
+ghost use Rattle.module.specs.Streams.{streamVerdict, patternStreamRules};
 
 // Whether the stream of the pattern at a place is sound.
 fn stream_fits(m: &[u8], tracks: u16, at: usize) -> bool
@@ -23,20 +19,12 @@ fn stream_fits(m: &[u8], tracks: u16, at: usize) -> bool
     }
 }
 
-// Checks the streams of the patterns.
-pub fn check_streams(m: &[u8], l: Layout) -> Verdict
-    ensures { λ r. ⌜ r ≡ firstBroken (streamRules (now (m .entry)) l) ⌝ }
+// Checks the stream of the pattern at a place.
+pub fn check_stream(m: &[u8], tracks: u16, at: usize) -> Verdict
+    ensures { λ r. ⌜ r ≡ firstBroken (patternStreamRules (now (m .entry)) tracks at) ⌝ }
 {
-    let p = l.places;
-    let tracks = l.tracks;
-    let mut at = block_at(m, Kind::Pattern, p.patt, 0);
-    let mut left = l.patterns;
-    while 0 < left {
-        if !stream_fits(m, tracks, at) {
-            return Verdict::Refused(refuse(Cause::Stream, at));
-        }
-        at = at + size(m, Kind::Pattern, at);
-        left = left - 1;
+    if stream_fits(m, tracks, at) {
+        return Verdict::Accepted;
     }
-    Verdict::Accepted
+    Verdict::Refused(refuse(Cause::Stream, at))
 }

@@ -8,16 +8,24 @@ use Rattle.module.proofs.check_content.Statement.{statement}
 use Rattle.module.proofs.check_content.Tie as tie
 
 returns : tie.Need-returns
-returns c = first-stopped (blockRules (c .before .before .before .before .before .args .m .now) (c .before .before .before .before .before .args .l)) (fieldRules (c .before .before .before .before .before .args .m .now) (c .before .before .before .before .before .args .l)) (loopRules (c .before .before .before .before .before .args .m .now) (c .before .before .before .before .before .args .l)) (streamRules (c .before .before .before .before .before .args .m .now) (c .before .before .before .before .before .args .l)) (c .before .before .before .check .ensures .0) (c .before .r .given .1)
+returns c =
+    let m = c .before .before .before .before .before .args .m .now in let l = c .before .before .before .before .before .args .l in
+    first-stopped (blockRules m l) (fieldRules m l) (loopRules m l) (streamRules m l) (c .before .before .before .check .ensures .0) (c .before .r .given .1)
 
 returns-2 : tie.Need-returns-2
-returns-2 c = second-stopped (blockRules (c .before .before .before .before .before .before .before .before .args .m .now) (c .before .before .before .before .before .before .before .before .args .l)) (fieldRules (c .before .before .before .before .before .before .before .before .args .m .now) (c .before .before .before .before .before .before .before .before .args .l)) (loopRules (c .before .before .before .before .before .before .before .before .args .m .now) (c .before .before .before .before .before .before .before .before .args .l)) (streamRules (c .before .before .before .before .before .before .before .before .args .m .now) (c .before .before .before .before .before .before .before .before .args .l)) (c .before .before .before .before .before .before .check .ensures .0) (c .before .before .before .before .enum-told .given .1) (c .before .before .before .check2 .ensures .0) (c .before .r2 .given .1)
+returns-2 c =
+    let m = c .before .before .before .before .before .before .before .before .args .m .now in let l = c .before .before .before .before .before .before .before .before .args .l in
+    second-stopped (blockRules m l) (fieldRules m l) (loopRules m l) (streamRules m l) (c .before .before .before .before .before .before .check .ensures .0) (c .before .before .before .before .enum-told .given .1) (c .before .before .before .check2 .ensures .0) (c .before .r2 .given .1)
 
 returns-3 : tie.Need-returns-3
-returns-3 c = third-stopped (blockRules (c .before .before .before .before .before .before .before .before .before .before .before .args .m .now) (c .before .before .before .before .before .before .before .before .before .before .before .args .l)) (fieldRules (c .before .before .before .before .before .before .before .before .before .before .before .args .m .now) (c .before .before .before .before .before .before .before .before .before .before .before .args .l)) (loopRules (c .before .before .before .before .before .before .before .before .before .before .before .args .m .now) (c .before .before .before .before .before .before .before .before .before .before .before .args .l)) (streamRules (c .before .before .before .before .before .before .before .before .before .before .before .args .m .now) (c .before .before .before .before .before .before .before .before .before .before .before .args .l)) (c .before .before .before .before .before .before .before .before .before .check .ensures .0) (c .before .before .before .before .before .before .before .enum-told .given .1) (c .before .before .before .before .before .before .check2 .ensures .0) (c .before .before .before .before .enum-told2 .given .1) (c .before .before .before .check-loops .ensures) (c .before .r3 .given .1)
+returns-3 c =
+    let m = c .before .before .before .before .before .before .before .before .before .before .before .args .m .now in let l = c .before .before .before .before .before .before .before .before .before .before .before .args .l in
+    third-stopped (blockRules m l) (fieldRules m l) (loopRules m l) (streamRules m l) (c .before .before .before .before .before .before .before .before .before .check .ensures .0) (c .before .before .before .before .before .before .before .enum-told .given .1) (c .before .before .before .before .before .before .check2 .ensures .0) (c .before .before .before .before .enum-told2 .given .1) (c .before .before .before .check-loops .ensures) (c .before .r3 .given .1)
 
 returns-4 : tie.Need-returns-4
-returns-4 c = last-told (blockRules (c .before .before .before .before .before .before .before .before .before .before .before .args .m .now) (c .before .before .before .before .before .before .before .before .before .before .before .args .l)) (fieldRules (c .before .before .before .before .before .before .before .before .before .before .before .args .m .now) (c .before .before .before .before .before .before .before .before .before .before .before .args .l)) (loopRules (c .before .before .before .before .before .before .before .before .before .before .before .args .m .now) (c .before .before .before .before .before .before .before .before .before .before .before .args .l)) (streamRules (c .before .before .before .before .before .before .before .before .before .before .before .args .m .now) (c .before .before .before .before .before .before .before .before .before .before .before .args .l)) (c .before .before .before .before .before .before .before .before .before .check .ensures .0) (c .before .before .before .before .before .before .before .enum-told .given .1) (c .before .before .before .before .before .before .check2 .ensures .0) (c .before .before .before .before .enum-told2 .given .1) (c .before .before .before .check-loops .ensures) (c .before .enum-told3 .given .1) (c .check-streams .ensures)
+returns-4 c =
+    let m = c .before .before .before .before .before .before .before .before .before .before .before .args .m .now in let l = c .before .before .before .before .before .before .before .before .before .before .before .args .l in
+    last-told (blockRules m l) (fieldRules m l) (loopRules m l) (streamRules m l) (c .before .before .before .before .before .before .before .before .before .check .ensures .0) (c .before .before .before .before .before .before .before .enum-told .given .1) (c .before .before .before .before .before .before .check2 .ensures .0) (c .before .before .before .before .enum-told2 .given .1) (c .before .before .before .check-loops .ensures) (c .before .enum-told3 .given .1) (c .check-streams .ensures)
 
 pub check-content-spec : {M : Type 1} → statement M
 check-content-spec =

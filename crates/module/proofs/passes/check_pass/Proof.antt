@@ -1,0 +1,33 @@
+use borrow.Author.Needs.{needs}
+use mathlib.Core.Path.{_∙_, refl, sym}
+use Rattle.blocks.specs.Sizes.{sizeOf}
+use Rattle.blocks.proofs.Passing.{Passing, passing-first, passing-turn, passing-stopped, passing-last}
+use Rattle.module.specs.Steps.{kindIn, passRules}
+use Rattle.module.proofs.passes.check_pass.Statement.{statement}
+use Rattle.module.proofs.passes.check_pass.Tie as tie
+
+abbrev Inv-loop : tie.InvT-loop
+Inv-loop m pass count smpl tracks kind at₀ left₀ at left = Passing (passRules m smpl tracks pass) (sizeOf (kindIn pass) m) left₀ at₀ left at
+
+abbrev μ-loop : tie.MeasureT-loop
+μ-loop m pass count smpl tracks kind at₀ left₀ at left = left
+
+loop-holds : tie.Need-loop-holds Inv-loop μ-loop
+loop-holds c = passing-first
+
+returns : tie.Need-returns Inv-loop μ-loop
+returns c = passing-stopped (c .before .before .before .before .before .loop .inv) refl (rw (c .before .before .before .before .before .before .before .kind-in .ensures) at (c .before .before .before .before .before .before .block-at .ensures .0)) (c .before .before .before .before .loop-test .taken) (sym (c .before .before .before .check-at .ensures) ∙ c .before .r .given .1) refl
+
+enum-told : tie.Need-enum-told Inv-loop μ-loop
+enum-told c = search needs
+
+loop-again : tie.Need-loop-again Inv-loop μ-loop
+loop-again c = passing-turn (c .before .before .before .before .before .loop .inv) (c .before .before .before .before .loop-test .taken) (sym (c .before .before .before .check-at .ensures) ∙ c .before .enum-told .given .1) (rw (c .before .before .before .before .before .before .before .kind-in .ensures) at (c .size .ensures .0), c .size .ensures .1)
+
+returns-2 : tie.Need-returns-2 Inv-loop μ-loop
+returns-2 c = passing-last (c .before .loop .inv) refl (rw (c .before .before .before .kind-in .ensures) at (c .before .before .block-at .ensures .0)) (c .loop-test .left)
+
+pub check-pass-spec : {M : Type 1} → statement M
+check-pass-spec =
+    tie.close
+    (tie.spec Inv-loop μ-loop (λ c κs. search needs) (λ c κs. search needs) loop-holds (λ c κs. search needs) (λ c. search needs) returns enum-told (λ c κs. search needs) (λ c. search needs) (λ c. search needs) (λ c. search needs) loop-again returns-2)
