@@ -1,4 +1,4 @@
--- FORMAT.md, B2 to B6 (document 01, "Layout"): the fields of the block at a place, as they are stored, in their order. Each stands after
+-- FORMAT.md, B2 to B6 (document 01, "Layout"): the fields of the block at a place, as they are stored, in their order. Each follows
 -- those before it; a number past the module's end is 0.
 use Prim.Native.Nat.{ℕ, _+_, _*_}
 use mathlib.Core.List.{List}
@@ -46,7 +46,7 @@ patternRows m at = number16 m at
 abbrev pub patternPackedLength : List ℕ → ℕ → ℕ
 patternPackedLength m at = number32 m (at + 2)
 
--- A filler behind them is no part of them.
+-- A filler after them is no part of them.
 abbrev pub packedBytes : List ℕ → ℕ → List ℕ
 packedBytes m at = partOf m (at + 6) (patternPackedLength m at)
 

@@ -1,4 +1,4 @@
--- Signed numbers in more bytes, and one of 4 bytes above the least one: not negative, and below 2 ^ 32. Assumes nothing.
+-- Signed numbers in more bytes, and one of 4 bytes above the least one: not negative, and below 2 ^ 32.
 use Prim.{tt}
 use Prim.Native.Nat.{ℕ, suc, _+_, _-_, _<_}
 use native.Mathlib.Omega.{arith}

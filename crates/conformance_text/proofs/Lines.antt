@@ -1,4 +1,4 @@
--- Text that is put into a line part by part. Assumes nothing.
+-- Text that is put into a line part by part.
 use Prim.Native.Nat.{ℕ, suc, _+_, _-_, _<_, _≤_, min}
 use native.Mathlib.Nat.{add-zero}
 use native.Mathlib.Numerals.{add-one}

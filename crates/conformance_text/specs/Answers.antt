@@ -1,10 +1,10 @@
--- The line of the answer for a cell. Assumes nothing.
+-- The line of the answer for a cell.
 use Prim.Native.Nat.{ℕ}
 use mathlib.Core.List.{List, [], _∷_}
 use Rattle.packed_rows.specs.declared.CellAnswer.{CellAnswer}
 use Rattle.packed_rows.specs.Answers.{cellNumbers}
 use Rattle.conformance_text.specs.Text.{numbersLine}
 
--- the word `cell`, and the answer's numbers
+-- The word `cell`, and the answer's numbers.
 abbrev pub cellLine : CellAnswer → List ℕ
 cellLine answer = numbersLine (99 ∷ 101 ∷ 108 ∷ 108 ∷ []) (cellNumbers answer)

@@ -1,8 +1,8 @@
--- The numbers of a case's head: those of 4 bytes are read as a module's are. Assumes nothing.
+-- The numbers of a case's head: those of 4 bytes are read as a module's are.
 use Prim.Native.Nat.{ℕ, _+_, _*_}
 use mathlib.Core.List.{List}
 use Rattle.numbers.specs.Numbers.{number32}
 
--- the number of the eight bytes at a place
+-- The number of the eight bytes at a place.
 unfoldable pub number64 : List ℕ → ℕ → ℕ
 number64 s at = number32 s at * 4294967296 + number32 s (at + 4)

@@ -1,4 +1,4 @@
--- The text of a line. It is put there byte by byte by `sets` of lib.Seq, which leaves out what is past the line's end. Assumes nothing.
+-- The text of a line. It is put there byte by byte by `sets` of lib.Seq, which leaves out what is past the line's end.
 use Prim.Native.Nat.{ℕ, zero, suc, _+_, _/_, min}
 use mathlib.Core.Path.{_≡_}
 use mathlib.Core.Bool.{cond}
@@ -9,45 +9,45 @@ use lib.Seq.{sets}
 use Rattle.vocabulary.specs.Lists.{joined}
 use Rattle.io.specs.Digits.{digits}
 
--- where a line goes on after a text was put at a place
+-- Where a line goes on after a text was put at a place.
 abbrev pub lineEnd : List ℕ → ℕ → List ℕ → ℕ
 lineEnd line at text = min (at + length text) (length line)
 
--- a text was put into a line at a place: what the line then holds, and where it goes on
+-- A text was put into a line at a place: what the line then holds, and where it goes on.
 abbrev pub HasPut : List ℕ → ℕ → List ℕ → List ℕ → ℕ → Type 0
 HasPut before at text line next = (next ≡ lineEnd before at text) × (line ≡ sets before at text)
 
--- how many decimal digits a number has, where they are at most so many and one more
+-- How many decimal digits a number has, where they are at most so many and one more.
 abbrev pub figures : ℕ → ℕ → ℕ
 figures zero n = 1
 figures (suc more) n = cond (ltb n 10) 1 (suc (figures more (n / 10)))
 
--- a number of 8 bytes in decimal, without leading zeros: at most 20 digits
+-- A number of 8 bytes in decimal, without leading zeros: at most 20 digits.
 unfoldable pub decimal : ℕ → List ℕ
 decimal n = digits 10 (figures 19 n) n
 
--- a number with a space before it
+-- A number with a space before it.
 abbrev pub spaced : ℕ → List ℕ
 spaced n = 32 ∷ decimal n
 
 unfoldable pub numbersText : List ℕ → List ℕ
 numbersText numbers = joined (map spaced numbers)
 
--- bytes in hexadecimal, two digits each
+-- Bytes in hexadecimal, two digits each.
 unfoldable pub hexText : List ℕ → List ℕ
 hexText bytes = joined (map (digits 16 2) bytes)
 
 abbrev pub newline : List ℕ
 newline = 10 ∷ []
 
--- the end of a line that ends with bytes
+-- The end of a line that ends with bytes.
 abbrev pub bytesEnd : List ℕ → List ℕ
 bytesEnd bytes = 32 ∷ hexText bytes ++ newline
 
--- a word and numbers
+-- A word and numbers.
 abbrev pub numbersLine : List ℕ → List ℕ → List ℕ
 numbersLine word numbers = word ++ numbersText numbers ++ newline
 
--- a word, numbers, and bytes in hexadecimal
+-- A word, numbers, and bytes in hexadecimal.
 abbrev pub bytesLine : List ℕ → List ℕ → List ℕ → List ℕ
 bytesLine word numbers bytes = word ++ numbersText numbers ++ bytesEnd bytes
