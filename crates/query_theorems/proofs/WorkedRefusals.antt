@@ -20,8 +20,11 @@ use Rattle.packed_rows.specs.Stream.{readFrom, reading, cellsRead}
 use Rattle.packed_rows.specs.Answers.{unpackAnswer, packAnswer, repackAnswer, cellOf, unpackingNumbers, packingNumbers, cellNumbers}
 use Rattle.packed_rows.specs.declared.CellAnswer.{CellAnswer}
 use Rattle.layout.specs.Chunks.{chunksFrom, chunks}
+use Rattle.layout.specs.Outlines.{outlineNumbers}
 use Rattle.blocks.specs.Sizes.{sizeOf}
-use Rattle.module.specs.Verdicts.{moduleVerdict}
+use Rattle.blocks.specs.declared.Thing.the-variants.{Instrument}
+use Rattle.module.specs.Verdicts.{opened, moduleVerdict}
+use Rattle.queries.specs.Finding.{foundNumbers, found as foundBlock}
 use Rattle.samples.specs.Shown.{sampleAnswer, framesAnswer, frameAnswer, allFramesAnswer}
 use Rattle.envelopes.specs.Shown.{countAnswer, envelopeAnswer}
 use Rattle.envelopes.specs.declared.EnvelopeKind.the-variants.{Volume, Panning}
@@ -473,6 +476,30 @@ queries =
     ∷ answerGives (allFramesAnswer oneOfEach 1 4 .outcome) 0 0
     ∷ []
 
+-- An accepted module with 1 song, 2 instruments, 3 patterns and 4 samples. INFO is at 8, SONG with 46 bytes of data at 26, INST with 100 at 80,
+-- PATT with 36 at 188 and SMPL with 40 at 232.
+manyOfEach : List ℕ
+unfolding content song plain pattern entryStream sample
+manyOfEach =
+    let i = plain 1 0 0 0 in
+    let p = pattern 2 entryStream in
+    let s = sample 1 2 (0 ∷ 0 ∷ []) in
+    content (song [] ∷ []) (i ∷ i ∷ []) (p ∷ p ∷ p ∷ []) (s ∷ s ∷ s ∷ s ∷ []) []
+
+-- An outline and a block that is found, in numbers: all of an answer's values.
+values : List Worked
+unfolding manyOfEach
+values =
+    record {
+      found = outlineNumbers (opened manyOfEach);
+      said =
+        0 ∷ 0 ∷ 3 ∷ 0 ∷ 2 ∷ 4 ∷ 1 ∷ 3 ∷ 4
+        ∷ 0 ∷ 0 ∷ 0 ∷ 1 ∷ 8 ∷ 10 ∷ 1 ∷ 26 ∷ 46 ∷ 1 ∷ 80 ∷ 100 ∷ 1 ∷ 188 ∷ 36 ∷ 1 ∷ 232 ∷ 40 ∷ 0 ∷ 0 ∷ 0 ∷ 0 ∷ 0 ∷ 0 ∷ [];
+    }
+    ∷ record { found = foundNumbers (foundBlock manyOfEach Instrument 2); said = 0 ∷ 0 ∷ 138 ∷ 3 ∷ 4 ∷ [] }
+    ∷ record { found = foundNumbers (foundBlock manyOfEach Instrument 3); said = 18 ∷ 0 ∷ 0 ∷ 0 ∷ 0 ∷ [] }
+    ∷ []
+
 -- Number and place of what unpacking, packing and repacking answer.
 unpacked : List ℕ → ℕ → ℕ → ℕ → List ℕ
 unpacked stream rows tracks room = take 2 (unpackingNumbers (unpackAnswer stream rows tracks room))
@@ -538,7 +565,7 @@ streams =
 
 -- The table.
 pub worked : List Worked
-unfolding headers chunkFaults infoFaults missing blockFaults fieldFaults fieldOrder envelopeFaults loopAndStreamFaults ownRefusals queries streams
+unfolding headers chunkFaults infoFaults missing blockFaults fieldFaults fieldOrder envelopeFaults loopAndStreamFaults ownRefusals queries values streams
 worked =
     joined
     (headers
@@ -552,6 +579,7 @@ worked =
     ∷ loopAndStreamFaults
     ∷ ownRefusals
     ∷ queries
+    ∷ values
     ∷ streams
     ∷ [])
 
