@@ -493,8 +493,8 @@ values =
     record {
       found = outlineNumbers (opened manyOfEach);
       said =
-        0 ∷ 0 ∷ 3 ∷ 0 ∷ 2 ∷ 4 ∷ 1 ∷ 3 ∷ 4
-        ∷ 0 ∷ 0 ∷ 0 ∷ 1 ∷ 8 ∷ 10 ∷ 1 ∷ 26 ∷ 46 ∷ 1 ∷ 80 ∷ 100 ∷ 1 ∷ 188 ∷ 36 ∷ 1 ∷ 232 ∷ 40 ∷ 0 ∷ 0 ∷ 0 ∷ 0 ∷ 0 ∷ 0 ∷ [];
+          0 ∷ 0 ∷ 3 ∷ 0 ∷ 2 ∷ 4 ∷ 1 ∷ 3 ∷ 4
+          ∷ 0 ∷ 0 ∷ 0 ∷ 1 ∷ 8 ∷ 10 ∷ 1 ∷ 26 ∷ 46 ∷ 1 ∷ 80 ∷ 100 ∷ 1 ∷ 188 ∷ 36 ∷ 1 ∷ 232 ∷ 40 ∷ 0 ∷ 0 ∷ 0 ∷ 0 ∷ 0 ∷ 0 ∷ [];
     }
     ∷ record { found = foundNumbers (foundBlock manyOfEach Instrument 2); said = 0 ∷ 0 ∷ 138 ∷ 3 ∷ 4 ∷ [] }
     ∷ record { found = foundNumbers (foundBlock manyOfEach Instrument 3); said = 18 ∷ 0 ∷ 0 ∷ 0 ∷ 0 ∷ [] }
