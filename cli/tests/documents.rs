@@ -48,14 +48,11 @@ fn printed(command: &str) -> String {
     String::from_utf8(output.stdout).expect("text")
 }
 
-fn holds_for(document: &str, least: usize) {
+/// The document has this many examples, and each prints what the document shows.
+fn holds_for(document: &str, expected_examples: usize) {
     let text = fs::read_to_string(root().join(document)).expect("the document is there");
     let examples = examples(&text);
-    assert!(
-        examples.len() >= least,
-        "{} examples in {document}",
-        examples.len()
-    );
+    assert_eq!(examples.len(), expected_examples, "examples in {document}");
     for (command, expected) in examples {
         assert_eq!(printed(&command), expected, "{document}: {command}");
     }
@@ -68,7 +65,7 @@ fn readme() {
 
 #[test]
 fn cli() {
-    holds_for("docs/CLI.md", 4);
+    holds_for("docs/CLI.md", 6);
 }
 
 /// Every name of a field in JSON stands in the document of the schema.
