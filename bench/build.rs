@@ -1,4 +1,4 @@
-//! Compiles the two Cs for baseline x86-64 and links them. The package `interface` links libpattern.a and libdbm0.a.
+//! Compiles the two C implementations for baseline x86-64 and links them. The package `interface` links libpattern.a and libdbm0.a.
 
 use std::env;
 use std::path::{Path, PathBuf};

@@ -1,27 +1,27 @@
-//! Before anything is timed: all implementations must agree, byte for byte, on the answers and on the outputs.
+//! Compares all implementations before the measurement: their answers and their outputs must be the same, byte for byte.
 
 use std::collections::BTreeSet;
 
 use reference::chunks::MOST_BYTES;
 use reference::draft::{Chunk, Draft, Tune};
-use reference::generate::{self, Most};
+use reference::generate::{self, Limits};
 
 use crate::corpus::{self, Corpus, Pattern, Random};
 use crate::implementations::{Answer, Implementation, Verdict, IMPLEMENTATIONS};
 use crate::modules::Module;
 
-/// Bytes behind the needed length, which must stay.
+/// The bytes after the needed length, which must not change.
 const SPARE: usize = 16;
 const UNTOUCHED: u8 = 0xA5;
-/// For each pattern.
+/// The number for each pattern.
 const DAMAGED_STREAMS: usize = 20;
 const OTHER_SIZES: usize = 400;
-/// For each module, by its draft and by its bytes.
+/// The number for each module, made from its draft and from its bytes.
 const DAMAGED_MODULES: usize = 30;
-/// Of some hundred bytes, and as many of some thousand.
+/// The number of modules of some hundred bytes, and of some thousand.
 const SMALL_MODULES: usize = 3_000;
 
-/// How many calls were compared, or the first difference.
+/// Returns the number of compared calls, or the first difference.
 pub fn compare(corpora: &[Corpus]) -> Result<usize, String> {
     let mut random = Random(5);
     let mut calls = 0;
@@ -92,7 +92,7 @@ fn compare_pattern(pattern: &Pattern, random: &mut Random) -> Result<usize, Stri
     Ok(calls)
 }
 
-/// A few bytes of the stream changed, and sometimes its end cut off.
+/// The stream with a few bytes changed, and sometimes with its end cut off.
 fn damage(stream: &[u8], random: &mut Random) -> Vec<u8> {
     let mut damaged = stream.to_vec();
     if damaged.is_empty() {
@@ -109,7 +109,7 @@ fn damage(stream: &[u8], random: &mut Random) -> Vec<u8> {
     damaged
 }
 
-/// An answer, and what the output of this length holds then, with the bytes behind it.
+/// The answer of a call, and the output of this length after it, including the bytes after it.
 fn into(length: usize, fill: impl FnOnce(&mut [u8]) -> Answer) -> (Answer, Vec<u8>) {
     let mut out = vec![UNTOUCHED; length + SPARE];
     let answer = fill(&mut out[..length]);
@@ -136,7 +136,8 @@ fn same(what: &str, call: impl Fn(&Implementation) -> (Answer, Vec<u8>)) -> Resu
     Ok(IMPLEMENTATIONS.len())
 }
 
-/// Success with just this output, and the bytes behind it untouched, in an output that is exactly long enough and in a longer one.
+/// The call succeeds with exactly this output and does not change the bytes after it, both for an output of the needed length and for a
+/// longer one.
 fn same_as(
     what: &str,
     expected: &[u8],
@@ -149,8 +150,8 @@ fn same_as(
             if answer != success {
                 return Err(format!("{what}: {} answers {answer:?}", one.name));
             }
-            let (written, behind) = out.split_at(expected.len());
-            if written != expected || behind.iter().any(|&byte| byte != UNTOUCHED) {
+            let (written, after) = out.split_at(expected.len());
+            if written != expected || after.iter().any(|&byte| byte != UNTOUCHED) {
                 return Err(format!("{what}: {} leaves a wrong output", one.name));
             }
         }
@@ -158,7 +159,7 @@ fn same_as(
     Ok(2 * IMPLEMENTATIONS.len())
 }
 
-/// How many calls were compared on modules, or the first difference. Every refusal must be among the answers.
+/// Returns the number of compared calls on modules, or the first difference. Every refusal must occur in the answers.
 pub fn compare_modules(modules: &[Module]) -> Result<usize, String> {
     let mut compared = Compared::default();
     let mut random = Random(7);
@@ -172,7 +173,7 @@ pub fn compare_modules(modules: &[Module]) -> Result<usize, String> {
             compared.same(&what, &damaged_bytes(&module.bytes, &mut random))?;
         }
     }
-    for most in [Most::SMALL, Most::USUAL] {
+    for most in [Limits::SMALL, Limits::USUAL] {
         for turn in 0..SMALL_MODULES {
             let what = format!("small module, turn {turn}");
             let draft = generate::module(&mut faults, &most);
@@ -182,7 +183,7 @@ pub fn compare_modules(modules: &[Module]) -> Result<usize, String> {
             compared.same(&what, &damaged_bytes(&bytes, &mut random))?;
         }
     }
-    let whole = generate::module(&mut faults, &Most::USUAL).bytes();
+    let whole = generate::module(&mut faults, &Limits::USUAL).bytes();
     for length in 0..whole.len() {
         compared.same("beginning of a module", &whole[..length])?;
     }
@@ -197,7 +198,7 @@ pub fn compare_modules(modules: &[Module]) -> Result<usize, String> {
     }
 }
 
-/// How many calls that repack were compared, or the first difference. The outputs have no bytes, too few, just enough and more.
+/// Returns the number of compared repack calls, or the first difference. The outputs are empty, too short, exactly long enough and longer.
 pub fn compare_repacked(modules: &[Module]) -> Result<usize, String> {
     let mut random = Random(9);
     let mut faults = generate::Random::new(10);
@@ -210,7 +211,7 @@ pub fn compare_repacked(modules: &[Module]) -> Result<usize, String> {
             calls += same_repacked(&what, &damaged, &mut random)?;
         }
     }
-    for most in [Most::SMALL, Most::USUAL] {
+    for most in [Limits::SMALL, Limits::USUAL] {
         for turn in 0..SMALL_MODULES {
             let what = format!("small module, turn {turn}");
             let draft = generate::module(&mut faults, &most);
@@ -239,7 +240,7 @@ fn same_repacked(what: &str, module: &[u8], random: &mut Random) -> Result<usize
     Ok(calls)
 }
 
-/// The calls so far, and the numbers that they answered.
+/// The number of calls so far, and the numbers in their answers.
 #[derive(Default)]
 struct Compared {
     calls: usize,
@@ -267,7 +268,7 @@ impl Compared {
     }
 }
 
-/// One or two faults of those that a module can have.
+/// A module with one or two typical faults.
 fn damaged_draft(draft: &Draft, random: &mut generate::Random) -> Vec<u8> {
     let mut damaged = draft.clone();
     for _ in 0..1 + random.below(2) {
@@ -276,7 +277,7 @@ fn damaged_draft(draft: &Draft, random: &mut generate::Random) -> Vec<u8> {
     damaged.bytes()
 }
 
-/// A few bytes changed, and sometimes the end cut off.
+/// The module with a few bytes changed, and sometimes with its end cut off.
 fn damaged_bytes(module: &[u8], random: &mut Random) -> Vec<u8> {
     let mut damaged = module.to_vec();
     for _ in 0..1 + random.below(3) {
@@ -289,7 +290,7 @@ fn damaged_bytes(module: &[u8], random: &mut Random) -> Vec<u8> {
     damaged
 }
 
-/// An accepted module of as many bytes as a module may have.
+/// An accepted module of the maximum length.
 fn longest_module() -> Vec<u8> {
     let mut draft = Tune::default().draft();
     let left = MOST_BYTES as usize - draft.bytes().len() - 8;

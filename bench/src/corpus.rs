@@ -1,4 +1,4 @@
-//! The three corpora: patterns as cells and as packed streams, the same on every run.
+//! The three corpora: patterns as cells and as packed streams. They are the same on every run.
 
 /// One pattern.
 pub struct Pattern {
@@ -29,7 +29,7 @@ pub const ROWS: usize = 64;
 pub const TRACKS: usize = 32;
 const FIELDS: usize = 6;
 
-/// Of the commands, those that leave the order of rows and the tempo alone.
+/// The commands that change neither the order of rows nor the tempo.
 const COMMANDS: [u8; 6] = [0x01, 0x02, 0x03, 0x04, 0x0A, 0x0C];
 const INSTRUMENTS: u64 = 64;
 
@@ -62,7 +62,7 @@ pub fn corpora() -> [Corpus; 3] {
     ]
 }
 
-/// The first `motif` rows of each pattern are made at random and repeated to its end.
+/// The first `motif` rows of each pattern are random and are repeated to its end.
 fn corpus(name: &'static str, seed: u64, percent_full: u64, motif: usize) -> Corpus {
     let mut random = Random(seed);
     let patterns = (0..PATTERNS)
@@ -75,7 +75,7 @@ fn corpus(name: &'static str, seed: u64, percent_full: u64, motif: usize) -> Cor
     Corpus { name, patterns }
 }
 
-/// Patterns of many sizes, from empty ones to 254 tracks: not measured, but compared.
+/// Patterns of many sizes, from empty ones to 254 tracks. They are compared but not measured.
 pub fn other_sizes(count: usize) -> Vec<Pattern> {
     let mut random = Random(4);
     (0..count)
@@ -95,8 +95,8 @@ fn random_cells(random: &mut Random, count: usize, percent_full: u64) -> Vec<u8>
         .collect()
 }
 
-/// 10 % a note alone, 45 % note and instrument, 25 % these with a command and its parameter, 10 % command and parameter, 5 % a
-/// command alone, 5 % all six fields.
+/// 10 % a note alone, 45 % note and instrument, 25 % these with a command and its parameter, 10 % command and parameter, 5 % a command
+/// alone, 5 % all six fields.
 fn random_cell(random: &mut Random, percent_full: u64) -> [u8; FIELDS] {
     let mut cell = [0; FIELDS];
     if random.below(100) >= percent_full {
@@ -122,7 +122,7 @@ fn random_cell(random: &mut Random, percent_full: u64) -> [u8; FIELDS] {
     cell
 }
 
-/// The packer's stream, written once more here so that no measured implementation makes the input of the others.
+/// The packer's stream, implemented again here so that no measured implementation makes the input of the others.
 fn packed(cells: &[u8], tracks: usize) -> Vec<u8> {
     let mut stream = Vec::new();
     for row in cells.chunks(tracks * FIELDS) {

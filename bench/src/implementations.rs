@@ -2,7 +2,8 @@
 
 use reference::{module, pattern, repack};
 
-/// Of a pattern's call, and of repacking a module; and of the check of a module. The Cs have the same two.
+/// The answer of a call on a pattern and of repacking a module, and the answer of the check of a module. The C implementations use the same
+/// two.
 pub use interface::{Answer, ModuleAnswer as Verdict};
 
 pub type Check = fn(&[u8], u64, u64) -> Answer;
@@ -59,7 +60,7 @@ pub const IMPLEMENTATIONS: [Implementation; COUNT] = [
     },
 ];
 
-/// Safe functions over five C functions. A slice passes as a pointer and a length; the C functions read and write only there.
+/// Safe wrappers of five C functions. A slice is passed as a pointer and a length, and the C functions read and write only there.
 macro_rules! over_c {
     ($name:ident, $check:ident, $unpack:ident, $pack:ident, $check_module:ident, $repack_module:ident) => {
         mod $name {

@@ -1,5 +1,5 @@
-//! Measures check, unpack and pack of packed rows, and the check and the repacking of whole modules: the proved libraries through
-//! their C interface, two Cs and plain Rust.
+//! Measures check, unpack and pack of packed rows, and the check and the repacking of whole modules: the proved libraries through their C
+//! interface, two C implementations and plain Rust.
 
 mod agreement;
 mod corpus;
@@ -118,7 +118,7 @@ fn print_table(unit: &str, lines: &[Line]) {
     }
 }
 
-/// With at least three digits where there are that many.
+/// At least three digits, if there are that many.
 fn figure(time: f64) -> String {
     if time < 100.0 {
         format!("{time:.2}")

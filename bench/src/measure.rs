@@ -25,7 +25,7 @@ impl Function {
     }
 }
 
-/// The times of one implementation, one value a round.
+/// The times of one implementation, one value for each round.
 pub struct Times(Vec<f64>);
 
 impl Times {
@@ -67,7 +67,7 @@ pub struct Measured {
     pub repacked: Vec<Line>,
 }
 
-/// The outputs of a corpus: one buffer of just the needed length for each pattern, used by every implementation.
+/// The outputs of a corpus: one buffer of exactly the needed length for each pattern, used by every implementation.
 struct Outputs {
     cells: Vec<Vec<u8>>,
     streams: Vec<Vec<u8>>,
@@ -105,7 +105,7 @@ pub fn measure(corpora: &[Corpus], modules: &[Module], rounds: usize) -> Measure
             for (function, line) in FUNCTIONS.into_iter().zip(&mut line) {
                 for which in shuffled(&mut random) {
                     let time = pass(corpus, outputs, function, &IMPLEMENTATIONS[which]);
-                    // The first round only warms.
+                    // The first round only warms the caches.
                     if round > 0 {
                         line.times[which].0.push(time / corpus.cells() as f64);
                     }
@@ -146,7 +146,7 @@ pub fn measure(corpora: &[Corpus], modules: &[Module], rounds: usize) -> Measure
     }
 }
 
-/// The implementations in a random order, so that none always follows the same one.
+/// The implementations in random order, so that none always follows the same one.
 fn shuffled(random: &mut Random) -> [usize; COUNT] {
     let mut order = std::array::from_fn(|which| which);
     for last in (1..COUNT).rev() {
@@ -163,7 +163,7 @@ fn buffers(corpus: &Corpus, length: impl Fn(&Pattern) -> usize) -> Vec<Vec<u8>> 
         .collect()
 }
 
-/// The nanoseconds that one implementation takes for the whole corpus.
+/// The nanoseconds of one implementation for the whole corpus.
 fn pass(
     corpus: &Corpus,
     outputs: &mut Outputs,
@@ -206,7 +206,7 @@ fn pass(
     cpu_time() - start
 }
 
-/// The nanoseconds that one implementation takes for a module, as often as it is checked.
+/// The nanoseconds of one implementation for a module, checked `repeats` times.
 fn module_pass(module: &Module, implementation: &Implementation) -> f64 {
     let start = cpu_time();
     for _ in 0..module.repeats {
@@ -216,14 +216,14 @@ fn module_pass(module: &Module, implementation: &Implementation) -> f64 {
     cpu_time() - start
 }
 
-/// An output of just the length that the module needs.
+/// An output of exactly the needed length for the module.
 fn room(module: &Module) -> Vec<u8> {
     let answer = (IMPLEMENTATIONS[OURS].repack_module)(&module.bytes, &mut []);
     assert_eq!(answer.number, 17, "no room is too short");
     vec![0; answer.place as usize]
 }
 
-/// The nanoseconds that one implementation takes to repack a module.
+/// The nanoseconds of one implementation for repacking a module.
 fn repack_pass(module: &Module, out: &mut [u8], implementation: &Implementation) -> f64 {
     let start = cpu_time();
     let answer = (implementation.repack_module)(black_box(&module.bytes), black_box(out));
@@ -248,7 +248,7 @@ unsafe extern "C" {
     fn clock_gettime(clock: i32, time: *mut Timespec) -> i32;
 }
 
-/// Nanoseconds of CPU time that the process has used.
+/// The CPU time of the process in nanoseconds.
 fn cpu_time() -> f64 {
     let mut time = Timespec {
         seconds: 0,

@@ -1,19 +1,19 @@
-//! The modules whose check and repacking are measured, the same on every run.
+//! The modules whose check and repacking are measured. They are the same on every run.
 
 use reference::chunks::{Name, COVERED};
 use reference::draft::{Chunk, Draft, Envelope, Instrument, Pattern, Sample, Song, Tune};
 
 use crate::corpus::{Corpus, Random, ROWS, TRACKS};
 
-/// A module, and the draft it was written from.
+/// A module, and the draft from which it is written.
 pub struct Module {
     pub name: &'static str,
     pub holds: String,
     pub draft: Draft,
     pub bytes: Vec<u8>,
-    /// How often a pass checks it, so that the clock's own time does not show.
+    /// How often a pass checks it, so that the time of the clock itself is negligible.
     pub repeats: usize,
-    /// Whether its patterns are those of a corpus, so that repacking it is measured too.
+    /// Whether its patterns are those of a corpus. Then repacking it is measured too.
     pub of_corpus: bool,
 }
 
@@ -56,7 +56,7 @@ pub fn modules(corpora: &[Corpus]) -> Vec<Module> {
     modules
 }
 
-/// The patterns of a corpus, with two songs over all of them, and instruments of which every second one is looped.
+/// The patterns of a corpus, with two songs over all of them, and instruments of which every second one has a loop.
 fn of_corpus(corpus: &Corpus) -> Module {
     let samples = many_samples(SMALL_SAMPLES, SMALL_SAMPLE_BYTES);
     let mut instruments = looped(&samples);
@@ -128,7 +128,7 @@ fn envelopes() -> Module {
     Module::new("envelopes", holds, tune.draft())
 }
 
-/// With any flags, and all points in use.
+/// An envelope with any flags and with all points in use.
 fn envelope(random: &mut Random, instruments: usize, least: i16, most: i16) -> Envelope {
     let values = (most - least) as u64 + 1;
     let loop_last = random.below(POINTS as u64) as u8;
@@ -146,7 +146,7 @@ fn envelope(random: &mut Random, instruments: usize, least: i16, most: i16) -> E
     }
 }
 
-/// Half of them before the chunks that are looked into, half of them behind.
+/// Half of them are before the covered chunks, half of them after.
 fn other_chunks() -> Module {
     let mut random = Random(13);
     let mut others = |count: usize| -> Vec<Chunk> {
@@ -177,7 +177,7 @@ fn other_name(random: &mut Random) -> Name {
     }
 }
 
-/// Each instrument is looped, and has a sample of its own.
+/// Each instrument has a loop and its own sample.
 fn samples() -> Module {
     let samples = many_samples(MOST_SAMPLES, LARGE_SAMPLE_BYTES);
     let tune = Tune {
@@ -210,7 +210,7 @@ fn many_samples(count: usize, bytes: usize) -> Vec<Sample> {
         .collect()
 }
 
-/// For each sample an instrument, looped over its second half.
+/// An instrument for each sample, with a loop over its second half.
 fn looped(samples: &[Sample]) -> Vec<Instrument> {
     let kinds = LOOPS.into_iter().cycle();
     (1..)

@@ -1,24 +1,35 @@
-//! The arguments: what is to be done.
+//! Parses the arguments into a command.
 
 use std::ffi::{OsStr, OsString};
 
-use crate::cells::Asked;
+use crate::cells::Selection;
 use crate::fault::Fault;
 use crate::help::{self, Topic};
-use crate::input::STANDARD;
+use crate::input::STANDARD_STREAM;
 use crate::names;
 
-/// What is to be done.
+/// A parsed command.
 pub enum Command {
     Help(Topic),
     Version,
-    Check { files: Vec<OsString> },
-    Report { file: OsString, json: bool },
-    Cells { file: OsString, asked: Asked },
-    Repack { from: OsString, to: OsString },
+    Check {
+        files: Vec<OsString>,
+    },
+    Report {
+        file: OsString,
+        json: bool,
+    },
+    Cells {
+        file: OsString,
+        selection: Selection,
+    },
+    Repack {
+        from: OsString,
+        to: OsString,
+    },
 }
 
-/// Numbers from the first to the last; with no last one, to the end.
+/// A range of numbers, both ends included. Without a last number it goes to the end.
 #[derive(Clone, Copy)]
 pub struct Range {
     pub first: usize,
@@ -57,37 +68,41 @@ fn help(rest: &[OsString]) -> Result<Command, Fault> {
     }
 }
 
-/// The arguments of a command, sorted: names and numbers, and options with the value that they have.
-struct Sorted {
-    plain: Vec<OsString>,
+/// The arguments of a command, parsed: positional arguments, and options with their values.
+struct ParsedArguments {
+    positional: Vec<OsString>,
     options: Vec<(&'static str, OsString)>,
     help: bool,
 }
 
-/// The options that a command takes, and whether each has a value behind it.
+/// The options that a command accepts, and whether each takes a value.
 type Options = &'static [(&'static str, bool)];
 
-impl Sorted {
-    fn new(topic: Topic, arguments: Vec<OsString>, known: Options) -> Result<Sorted, Fault> {
-        let mut sorted = Sorted {
-            plain: Vec::new(),
+impl ParsedArguments {
+    fn new(
+        topic: Topic,
+        arguments: Vec<OsString>,
+        known: Options,
+    ) -> Result<ParsedArguments, Fault> {
+        let mut parsed = ParsedArguments {
+            positional: Vec::new(),
             options: Vec::new(),
             help: false,
         };
         let mut arguments = arguments.into_iter();
         while let Some(argument) = arguments.next() {
             if argument == "--" {
-                sorted.plain.extend(arguments);
+                parsed.positional.extend(arguments);
                 break;
             } else if argument == "--help" || argument == "-h" {
-                sorted.help = true;
-            } else if argument != STANDARD && argument.as_encoded_bytes().starts_with(b"-") {
-                sorted.option(topic, &argument, &mut arguments, known)?;
+                parsed.help = true;
+            } else if argument != STANDARD_STREAM && argument.as_encoded_bytes().starts_with(b"-") {
+                parsed.option(topic, &argument, &mut arguments, known)?;
             } else {
-                sorted.plain.push(argument);
+                parsed.positional.push(argument);
             }
         }
-        Ok(sorted)
+        Ok(parsed)
     }
 
     /// `--rows 0-15`, `--rows=0-15`, `--json`.
@@ -131,27 +146,27 @@ impl Sorted {
 }
 
 fn check(arguments: Vec<OsString>) -> Result<Command, Fault> {
-    let sorted = Sorted::new(Topic::Check, arguments, &[])?;
-    if sorted.help {
+    let parsed = ParsedArguments::new(Topic::Check, arguments, &[])?;
+    if parsed.help {
         return Ok(Command::Help(Topic::Check));
     }
-    let files = sorted.plain;
+    let files = parsed.positional;
     if files.is_empty() {
         return Err(Topic::Check.fault("no file is named"));
     }
-    if files.iter().filter(|file| *file == STANDARD).count() > 1 {
+    if files.iter().filter(|file| *file == STANDARD_STREAM).count() > 1 {
         return Err(Topic::Check.fault("standard input can be read only once"));
     }
     Ok(Command::Check { files })
 }
 
 fn report(arguments: Vec<OsString>) -> Result<Command, Fault> {
-    let sorted = Sorted::new(Topic::Report, arguments, &[("--json", false)])?;
-    if sorted.help {
+    let parsed = ParsedArguments::new(Topic::Report, arguments, &[("--json", false)])?;
+    if parsed.help {
         return Ok(Command::Help(Topic::Report));
     }
-    let json = sorted.value("--json").is_some();
-    match <[OsString; 1]>::try_from(sorted.plain) {
+    let json = parsed.value("--json").is_some();
+    match <[OsString; 1]>::try_from(parsed.positional) {
         Ok([file]) => Ok(Command::Report { file, json }),
         Err(_) => Err(Topic::Report.fault("report takes one file")),
     }
@@ -159,13 +174,13 @@ fn report(arguments: Vec<OsString>) -> Result<Command, Fault> {
 
 fn cells(arguments: Vec<OsString>) -> Result<Command, Fault> {
     let known = &[("--rows", true), ("--tracks", true)];
-    let sorted = Sorted::new(Topic::Cells, arguments, known)?;
-    if sorted.help {
+    let parsed = ParsedArguments::new(Topic::Cells, arguments, known)?;
+    if parsed.help {
         return Ok(Command::Help(Topic::Cells));
     }
-    let rows = range(&sorted, "--rows")?;
-    let tracks = range(&sorted, "--tracks")?;
-    let Ok([file, pattern]) = <[OsString; 2]>::try_from(sorted.plain) else {
+    let rows = range(&parsed, "--rows")?;
+    let tracks = range(&parsed, "--tracks")?;
+    let Ok([file, pattern]) = <[OsString; 2]>::try_from(parsed.positional) else {
         return Err(Topic::Cells.fault("cells takes one file and the number of a pattern"));
     };
     let Some(pattern) = pattern.to_str().and_then(number) else {
@@ -174,28 +189,28 @@ fn cells(arguments: Vec<OsString>) -> Result<Command, Fault> {
             names::file(&pattern)
         )));
     };
-    let asked = Asked {
+    let selection = Selection {
         pattern,
         rows,
         tracks,
     };
-    Ok(Command::Cells { file, asked })
+    Ok(Command::Cells { file, selection })
 }
 
 fn repack(arguments: Vec<OsString>) -> Result<Command, Fault> {
-    let sorted = Sorted::new(Topic::Repack, arguments, &[])?;
-    if sorted.help {
+    let parsed = ParsedArguments::new(Topic::Repack, arguments, &[])?;
+    if parsed.help {
         return Ok(Command::Help(Topic::Repack));
     }
-    match <[OsString; 2]>::try_from(sorted.plain) {
+    match <[OsString; 2]>::try_from(parsed.positional) {
         Ok([from, to]) => Ok(Command::Repack { from, to }),
         Err(_) => Err(Topic::Repack.fault("repack takes two files, IN and OUT")),
     }
 }
 
 /// The value of an option that is a range: `4`, `4-7` or `4-`.
-fn range(sorted: &Sorted, option: &str) -> Result<Option<Range>, Fault> {
-    let Some(value) = sorted.value(option) else {
+fn range(parsed: &ParsedArguments, option: &str) -> Result<Option<Range>, Fault> {
+    let Some(value) = parsed.value(option) else {
         return Ok(None);
     };
     match value.to_str().and_then(read_range) {
@@ -222,7 +237,7 @@ fn read_range(text: &str) -> Option<Range> {
     }
 }
 
-/// Decimal digits and nothing else.
+/// A number in decimal digits. Nothing else is accepted.
 fn number(text: &str) -> Option<usize> {
     match text.bytes().all(|byte| byte.is_ascii_digit()) {
         true => text.parse().ok(),

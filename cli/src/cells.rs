@@ -1,90 +1,92 @@
-//! `dbm0 cells`: a pattern as trackers show it.
+//! `dbm0 cells`: prints a pattern as trackers show it.
 
 use std::ffi::OsStr;
 use std::fmt::Write;
 
 use crate::args::Range;
-use crate::fault::{Fault, FINE};
+use crate::fault::{Fault, EXIT_OK};
 use crate::input;
 use crate::library::{self, Cell, Info, Refusal, NOTE_KEY_OFF, NOTE_NONE, NOTE_PITCH};
 use crate::names;
 use crate::output::Output;
 
-/// What is to be shown: a pattern, and of it all rows and tracks, or some.
-pub struct Asked {
+/// The part of the module to print: one pattern, and all or some of its rows and tracks.
+pub struct Selection {
     pub pattern: usize,
     pub rows: Option<Range>,
     pub tracks: Option<Range>,
 }
 
-/// The bytes of a cell.
+/// The number of bytes in a cell.
 const FIELDS: usize = 6;
 
-/// The refusal for what is not there.
+/// The refusal number for an item that does not exist.
 const NOT_THERE: u64 = 18;
 
-pub fn run(file: &OsStr, asked: &Asked, out: &mut Output) -> Result<u8, Fault> {
+pub fn run(file: &OsStr, selection: &Selection, out: &mut Output) -> Result<u8, Fault> {
     let module = input::read(file)?;
     let refused = |refusal| Fault::refused(file, &module, refusal);
     let info = library::info(&module).map_err(refused)?;
-    let rows = library::rows(&module, asked.pattern).map_err(|refusal| match refusal.number {
-        NOT_THERE => not_there(file, refusal, no_pattern(asked.pattern, info)),
-        _ => refused(refusal),
-    })?;
-    let shown = Shown::new(asked, usize::from(rows), usize::from(info.tracks));
-    see_that_it_is_there(file, &module, asked.pattern, &shown, rows, info)?;
+    let rows =
+        library::rows(&module, selection.pattern).map_err(|refusal| match refusal.number {
+            NOT_THERE => not_there(file, refusal, no_pattern(selection.pattern, info)),
+            _ => refused(refusal),
+        })?;
+    let bounds = Bounds::new(selection, usize::from(rows), usize::from(info.tracks));
+    check_cells_exist(file, &module, selection.pattern, &bounds, rows, info)?;
     let expected = usize::from(rows) * usize::from(info.tracks);
-    let cells = library::cells(&module, asked.pattern, expected).map_err(refused)?;
+    let cells = library::cells(&module, selection.pattern, expected).map_err(refused)?;
     let notes = notes().map_err(refused)?;
     out.line(&format!(
         "pattern {}: {rows} rows, {} tracks",
-        asked.pattern, info.tracks
+        selection.pattern, info.tracks
     ))?;
-    print(&cells, &shown, usize::from(info.tracks), &notes, out)?;
+    print(&cells, &bounds, usize::from(info.tracks), &notes, out)?;
     out.flush()?;
-    Ok(FINE)
+    Ok(EXIT_OK)
 }
 
-/// The rows and tracks to be shown: the first and the last of each.
-struct Shown {
+/// The rows and tracks to print: the first and the last of each.
+struct Bounds {
     rows: (usize, usize),
     tracks: (usize, usize),
-    /// The whole of a pattern without rows is asked for: there is no cell in it, and none need be there.
-    nothing: bool,
+    /// The whole pattern is selected and it has no rows. Then there are no cells to check.
+    is_empty: bool,
 }
 
-impl Shown {
-    fn new(asked: &Asked, rows: usize, tracks: usize) -> Shown {
-        Shown {
-            rows: ends(asked.rows, 0, rows.saturating_sub(1)),
-            tracks: ends(asked.tracks, 1, tracks),
-            nothing: rows == 0 && asked.rows.is_none() && asked.tracks.is_none(),
+impl Bounds {
+    fn new(selection: &Selection, rows: usize, tracks: usize) -> Bounds {
+        Bounds {
+            rows: ends(selection.rows, 0, rows.saturating_sub(1)),
+            tracks: ends(selection.tracks, 1, tracks),
+            is_empty: rows == 0 && selection.rows.is_none() && selection.tracks.is_none(),
         }
     }
 }
 
-/// The ends of a range, where all goes from `first` to `last`. One that begins behind the last is left to the library to refuse.
-fn ends(asked: Option<Range>, first: usize, last: usize) -> (usize, usize) {
-    match asked {
+/// The ends of a range. Without a range they are `first` and `last`. A range that begins after the last number is passed on, and the
+/// library refuses it.
+fn ends(selected: Option<Range>, first: usize, last: usize) -> (usize, usize) {
+    match selected {
         None => (first, last),
         Some(range) => (range.first, range.last.unwrap_or(last.max(range.first))),
     }
 }
 
-/// The library says whether the cells at the corners are there. Then all between them are.
-fn see_that_it_is_there(
+/// Asks the library whether the cells at the corners exist. If they do, so do all cells between them.
+fn check_cells_exist(
     file: &OsStr,
     module: &[u8],
     pattern: usize,
-    shown: &Shown,
+    bounds: &Bounds,
     rows: u16,
     info: Info,
 ) -> Result<(), Fault> {
-    if shown.nothing {
+    if bounds.is_empty {
         return Ok(());
     }
-    let (first_row, last_row) = shown.rows;
-    let (first_track, last_track) = shown.tracks;
+    let (first_row, last_row) = bounds.rows;
+    let (first_track, last_track) = bounds.tracks;
     let corners = [
         (first_row, first_track),
         (last_row, first_track),
@@ -102,7 +104,7 @@ fn see_that_it_is_there(
     Ok(())
 }
 
-/// A number that is not there is a wrong argument: the module is accepted.
+/// An item that does not exist is an error in the arguments, since the module itself is accepted.
 fn not_there(file: &OsStr, refusal: Refusal, words: String) -> Fault {
     let Refusal { number, place } = refusal;
     let file = names::file(file);
@@ -131,13 +133,13 @@ fn no_cell(pattern: usize, row: usize, track: usize, rows: u16, info: Info) -> S
 
 fn print(
     cells: &[u8],
-    shown: &Shown,
+    bounds: &Bounds,
     tracks: usize,
     notes: &[String],
     out: &mut Output,
 ) -> Result<(), Fault> {
-    let (first_row, last_row) = shown.rows;
-    let (first_track, last_track) = shown.tracks;
+    let (first_row, last_row) = bounds.rows;
+    let (first_track, last_track) = bounds.tracks;
     let mut line = String::from("row   ");
     for track in first_track..=last_track {
         let _ = write!(line, "  {:<14}", format!("track {track}"));
@@ -184,7 +186,7 @@ fn push_hex(line: &mut String, byte: u8) {
     }
 }
 
-/// A command is one digit, 0 to 9 and A to Z. One that no letter is left for is shown by its byte, in brackets.
+/// A command is one digit, 0 to 9 and A to Z. A larger command is printed as its byte in brackets.
 fn push_command(line: &mut String, command: u8) {
     match DIGITS.get(usize::from(command)) {
         Some(&digit) => line.push(char::from(digit)),
@@ -196,16 +198,16 @@ fn push_command(line: &mut String, command: u8) {
     }
 }
 
-/// A module with one pattern, of one row of 4 packed bytes: track 1, a mask that names the note, the note, the row end.
+/// A module with one pattern of one row. The row has 4 packed bytes: track 1, a mask with the note bit, the note, the row end.
 const ONE_NOTE: &[u8; 68] = b"DBM0\x03\x00\x00\x00\
     INFO\x00\x00\x00\x0A\x00\x00\x00\x00\x00\x00\x00\x01\x00\x04\
     SONG\x00\x00\x00\x00INST\x00\x00\x00\x00SMPL\x00\x00\x00\x00\
     PATT\x00\x00\x00\x0A\x00\x01\x00\x00\x00\x04\x01\x01\x00\x00";
 
-/// The place of the note in it.
+/// The place of the note in `ONE_NOTE`.
 const NOTE: usize = 66;
 
-/// How each of the 256 notes is shown. Which are pitches, and which is the key off, the library says: it is asked for each.
+/// The text of each of the 256 note bytes. The library classifies each byte as a pitch, a key off, none or unknown.
 fn notes() -> Result<Vec<String>, Refusal> {
     let mut module = *ONE_NOTE;
     (0..=255)

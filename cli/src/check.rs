@@ -1,23 +1,23 @@
-//! `dbm0 check`: one line a file.
+//! `dbm0 check`: prints one line for each file.
 
 use std::ffi::OsString;
 
-use crate::fault::{refused_line, Fault, FINE, REFUSED};
+use crate::fault::{refused_line, Fault, EXIT_OK, EXIT_REFUSED};
 use crate::input;
 use crate::library;
 use crate::names;
 use crate::output::Output;
 
-/// The highest of the statuses of all files: 2 for one that cannot be read, 1 for a refused one, else 0.
+/// Returns the highest status of all files: 2 if a file cannot be read, 1 if a module is refused, else 0.
 pub fn run(files: &[OsString], out: &mut Output) -> Result<u8, Fault> {
-    let mut status = FINE;
+    let mut status = EXIT_OK;
     for file in files {
         let of_file = match input::read(file) {
             Ok(module) => one(file, &module, out)?,
             Err(fault) => {
-                // What stands before it in the list is printed before it.
+                // The lines of earlier files are printed before this error.
                 out.flush()?;
-                fault.tell();
+                fault.print();
                 fault.status
             }
         };
@@ -30,11 +30,11 @@ fn one(file: &OsString, module: &[u8], out: &mut Output) -> Result<u8, Fault> {
     match library::check(module) {
         Ok(()) => {
             out.line(&format!("{}: accepted", names::file(file)))?;
-            Ok(FINE)
+            Ok(EXIT_OK)
         }
         Err(refusal) => {
             out.line(&refused_line(file, module, refusal))?;
-            Ok(REFUSED)
+            Ok(EXIT_REFUSED)
         }
     }
 }

@@ -1,8 +1,8 @@
-//! The words of a refusal: which song, instrument, envelope, pattern or sample the fault lies in, and what is wrong with it.
+//! Describes a refusal in words: which song, instrument, envelope, pattern or sample is at fault, and what is wrong with it.
 //!
-//! Number and place are the library's and proved; the words are not. They come from looking at the bytes around the place, since a
-//! refused module cannot be queried. Whatever the bytes are, this decides nothing and changes neither number nor place; where it does
-//! not find what it looks for, it says less: then the words are those of the number alone.
+//! The number and the place come from the library and are proved. The words are not proved. They are derived from the bytes around the
+//! place, because a refused module cannot be queried. This code makes no decision and changes neither number nor place. If it does not
+//! recognize the bytes, it describes the number alone.
 
 use crate::library::{self, Refusal};
 use crate::names::quoted;
@@ -14,13 +14,13 @@ pub fn line(module: &[u8], refusal: Refusal) -> String {
     format!("refused {number} at {place}: {}", words(module, refusal))
 }
 
-/// What is known of a refusal, or at least what its number means.
+/// A specific description, or else the meaning of the number.
 fn words(module: &[u8], refusal: Refusal) -> String {
-    particular(module, refusal).unwrap_or_else(|| general(refusal.number).to_string())
+    specific(module, refusal).unwrap_or_else(|| meaning(refusal.number).to_string())
 }
 
-/// What each number means.
-fn general(number: u64) -> &'static str {
+/// The meaning of each number.
+fn meaning(number: u64) -> &'static str {
     match number {
         1 => "the module has more than 16777216 bytes",
         2 => "this is no DBM0 module",
@@ -44,7 +44,7 @@ fn general(number: u64) -> &'static str {
     }
 }
 
-fn particular(module: &[u8], refusal: Refusal) -> Option<String> {
+fn specific(module: &[u8], refusal: Refusal) -> Option<String> {
     let place = usize::try_from(refusal.place).ok()?;
     match refusal.number {
         2 => beginning(module),
@@ -64,7 +64,7 @@ fn particular(module: &[u8], refusal: Refusal) -> Option<String> {
     }
 }
 
-/// 2.
+/// Refusal 2.
 fn beginning(module: &[u8]) -> Option<String> {
     Some(match module.get(..8) {
         None => format!(
@@ -73,12 +73,12 @@ fn beginning(module: &[u8]) -> Option<String> {
         ),
         Some(header) => format!(
             "this is no DBM0 module: it begins with {}, not with \"DBM0\"",
-            all_bytes(header.get(..4)?)
+            quoted_bytes(header.get(..4)?)
         ),
     })
 }
 
-/// 3.
+/// Refusal 3.
 fn version(module: &[u8]) -> Option<String> {
     let (version, revision) = (*module.get(4)?, *module.get(5)?);
     Some(if version != 2 && version != 3 {
@@ -88,56 +88,59 @@ fn version(module: &[u8]) -> Option<String> {
     })
 }
 
-/// 4.
+/// Refusal 4.
 fn cut(module: &[u8], place: usize) -> Option<String> {
     let left = module.get(place..)?.len();
     if left < reader::HEADER {
         return Some(format!(
             "the header of a chunk is cut: {} left, it has 8",
-            are(left as u64, "byte")
+            many_are(left as u64, "byte")
         ));
     }
     let name = reader::identifier(module, place)?;
     let length = reader::number(module, place + 4, 4)?;
     Some(format!(
         "chunk {} is cut: it should have {}, and {} left",
-        shown(&name),
+        identifier_text(&name),
         many(length, "byte"),
-        are((left - reader::HEADER) as u64, "byte")
+        many_are((left - reader::HEADER) as u64, "byte")
     ))
 }
 
-/// 5.
+/// Refusal 5.
 fn letters(module: &[u8], place: usize) -> Option<String> {
     let name = module.get(place..place.checked_add(4)?)?;
     Some(format!(
         "the chunk's identifier {} is not four letters A to Z",
-        all_bytes(name)
+        quoted_bytes(name)
     ))
 }
 
-/// 6.
+/// Refusal 6.
 fn repeated(module: &[u8], place: usize) -> Option<String> {
     let name = reader::identifier(module, place)?;
     let first = reader::find(module, &name)?.place;
     Some(format!(
         "chunk {} stands a second time, the first is at {first}",
-        shown(&name)
+        identifier_text(&name)
     ))
 }
 
-/// 7.
+/// Refusal 7.
 fn before_info(module: &[u8], place: usize) -> Option<String> {
     let name = reader::identifier(module, place)?;
-    Some(format!("chunk {} stands before INFO", shown(&name)))
+    Some(format!(
+        "chunk {} stands before INFO",
+        identifier_text(&name)
+    ))
 }
 
-/// 8.
+/// Refusal 8.
 fn missing(module: &[u8]) -> Option<String> {
     let missing: Vec<String> = [b"INFO", b"SONG", b"INST", b"PATT", b"SMPL"]
         .into_iter()
         .filter(|name| reader::find(module, name).is_none())
-        .map(shown)
+        .map(identifier_text)
         .collect();
     match missing.as_slice() {
         [] => None,
@@ -149,23 +152,23 @@ fn missing(module: &[u8]) -> Option<String> {
     }
 }
 
-/// 9.
+/// Refusal 9.
 fn wrong_length(module: &[u8], place: usize) -> Option<String> {
     let name = reader::identifier(module, place)?;
     let length = reader::number(module, place.checked_add(4)?, 4)?;
-    let due = match &name {
+    let expected = match &name {
         b"NAME" => 44,
         b"INFO" => 10,
         _ => return None,
     };
     Some(format!(
-        "chunk {} has {}, it must have {due}",
-        shown(&name),
+        "chunk {} has {}, it must have {expected}",
+        identifier_text(&name),
         many(length, "byte")
     ))
 }
 
-/// 10.
+/// Refusal 10.
 fn info(module: &[u8], place: usize) -> Option<String> {
     let chunk = reader::find(module, b"INFO")?;
     let value = reader::number(module, place, 2)?;
@@ -180,12 +183,12 @@ fn info(module: &[u8], place: usize) -> Option<String> {
     Some(format!("INFO says {value} {what}, it must be {range}"))
 }
 
-/// 11: the first block that does not fit, the first sample with other flags, or how much is left over.
+/// Refusal 11: the first block that does not fit, the first sample with invalid flags, or the number of bytes left over.
 fn unfilled(module: &[u8], place: usize) -> Option<String> {
     let chunk = reader::chunks(module).find(|chunk| chunk.place == place)?;
     let kind = Blocks::of(&chunk.name)?;
     let counts = reader::counts(module)?;
-    let name = shown(&chunk.name);
+    let name = identifier_text(&chunk.name);
     let Some(count) = kind.count(&counts, chunk.data) else {
         let length = many(chunk.data.len() as u64, "byte");
         return Some(format!(
@@ -224,7 +227,7 @@ fn unfilled(module: &[u8], place: usize) -> Option<String> {
         ));
     }
     let of_count = format!("chunk {name} should hold {}", many(count, noun(kind)));
-    let bytes = are(left.len() as u64, "byte");
+    let bytes = many_are(left.len() as u64, "byte");
     Some(match kind.length(left) {
         Some(length) => format!(
             "{of_count}: {} needs {length} bytes, and {bytes} left",
@@ -237,13 +240,13 @@ fn unfilled(module: &[u8], place: usize) -> Option<String> {
     })
 }
 
-/// The flags of a sample, where they are none that a sample has.
+/// The flags of a sample, if they are invalid.
 fn other_flags(kind: Blocks, bytes: &[u8]) -> Option<u64> {
     let flags = reader::number(bytes, 0, 4)?;
     (kind == Blocks::Samples && ![1, 2, 4].contains(&flags)).then_some(flags)
 }
 
-/// 12 and 13: the field at this place.
+/// Refusals 12 and 13: the field at this place.
 fn field(module: &[u8], place: usize) -> Option<String> {
     let (kind, block) = block_at(module, place)?;
     let counts = reader::counts(module)?;
@@ -258,7 +261,7 @@ fn field(module: &[u8], place: usize) -> Option<String> {
     Some(format!("{}: {what}", block_name(module, kind, &block)))
 }
 
-/// The block in which this place lies. Here a block's place is that in the module.
+/// The block that contains this place. The `place` of the returned block is relative to the module, not to the chunk.
 fn block_at(module: &[u8], place: usize) -> Option<(Blocks, Block<'_>)> {
     let chunk = reader::chunks(module).find(|chunk| within(chunk, place))?;
     let kind = Blocks::of(&chunk.name)?;
@@ -275,7 +278,7 @@ fn within(chunk: &Chunk, place: usize) -> bool {
     (start..start + chunk.data.len()).contains(&place)
 }
 
-/// 12 in a song.
+/// Refusal 12 in a song.
 fn entry(counts: &reader::Counts, song: &Block, place: usize) -> Option<String> {
     let offset = (place - song.place).checked_sub(46)?;
     let pattern = reader::number(song.bytes, 46 + offset, 2)?;
@@ -286,7 +289,7 @@ fn entry(counts: &reader::Counts, song: &Block, place: usize) -> Option<String> 
     ))
 }
 
-/// 12 and 13 in an instrument.
+/// Refusals 12 and 13 in an instrument.
 fn instrument_field(counts: &reader::Counts, block: &Block, place: usize) -> Option<String> {
     let offset = place - block.place;
     let value = reader::number(block.bytes, offset, 2)?;
@@ -305,7 +308,7 @@ fn instrument_field(counts: &reader::Counts, block: &Block, place: usize) -> Opt
     })
 }
 
-/// 12 and 13 in an envelope.
+/// Refusals 12 and 13 in an envelope.
 fn envelope_field(
     module: &[u8],
     kind: Blocks,
@@ -341,7 +344,7 @@ fn point(which: &str, point: u64, sections: u64) -> String {
     format!("its {which} point is {point}, it has points 0 to {sections}")
 }
 
-/// 13 at a value of an envelope: points have four bytes, two of them the value.
+/// Refusal 13 at a value of an envelope. A point has four bytes, and the last two are the value.
 fn value(module: &[u8], kind: Blocks, block: &Block, offset: usize) -> Option<String> {
     let index = (offset - 8) / 4;
     let stored = reader::number(block.bytes, offset, 2)?;
@@ -354,7 +357,7 @@ fn value(module: &[u8], kind: Blocks, block: &Block, offset: usize) -> Option<St
     })
 }
 
-/// 14: the instrument's loop, and how long its sample is.
+/// Refusal 14: the instrument's loop, and the length of its sample.
 fn outside(module: &[u8], place: usize) -> Option<String> {
     let (kind, block) = block_at(module, place)?;
     if kind != Blocks::Instruments || block.place != place {
@@ -378,7 +381,7 @@ fn outside(module: &[u8], place: usize) -> Option<String> {
     ))
 }
 
-/// 15: the pattern, and what the check of its stream alone says: the row, the place in the stream, and the fault there.
+/// Refusal 15: the pattern, and the result of checking its stream alone: the row, the place in the stream and the fault.
 fn broken(module: &[u8], place: usize) -> Option<String> {
     let (kind, block) = block_at(module, place)?;
     if kind != Blocks::Patterns || block.place != place {
@@ -401,7 +404,7 @@ fn broken(module: &[u8], place: usize) -> Option<String> {
     ))
 }
 
-/// What is wrong at this place of a stream, where the library says that it breaks. All before the place is sound.
+/// Describes the fault at this place of a stream, which the library reports as the first. Everything before the place is valid.
 fn stream_fault(stream: &[u8], rows: u64, tracks: u64, at: usize) -> Option<String> {
     let row = row_ends_before(stream, at)?;
     let left = (stream.len() as u64).checked_sub(at as u64)?;
@@ -411,7 +414,7 @@ fn stream_fault(stream: &[u8], rows: u64, tracks: u64, at: usize) -> Option<Stri
     if row == rows {
         return Some(format!(
             "{} left over after its last row",
-            are(left, "byte")
+            many_are(left, "byte")
         ));
     }
     let track = u64::from(*stream.get(at)?);
@@ -428,7 +431,7 @@ fn stream_fault(stream: &[u8], rows: u64, tracks: u64, at: usize) -> Option<Stri
     Some(format!("an entry of row {row} {fault}"))
 }
 
-/// How many rows end before this place. None: no entry or row end begins just there.
+/// The number of rows that end before this place. None if no entry and no row end begins exactly there.
 fn row_ends_before(stream: &[u8], at: usize) -> Option<u64> {
     let mut place = 0;
     let mut rows = 0;
@@ -444,8 +447,8 @@ fn row_ends_before(stream: &[u8], at: usize) -> Option<u64> {
     (place == at).then_some(rows)
 }
 
-/// A block by its number and its name: instruments and samples are counted from 1, all else from 0. An envelope has no name, but its
-/// instrument has.
+/// A block by number and name. Instruments and samples are counted from 1, everything else from 0. An envelope has no name, so the name of
+/// its instrument is used.
 fn block_name(module: &[u8], kind: Blocks, block: &Block) -> String {
     let title = numbered_noun(kind, block.index);
     match kind {
@@ -506,15 +509,15 @@ fn many(count: u64, noun: &str) -> String {
     }
 }
 
-/// `1 byte is`, `2 bytes are`.
-fn are(count: u64, noun: &str) -> String {
+/// `1 byte is`, `2 bytes many_are`.
+fn many_are(count: u64, noun: &str) -> String {
     match count {
         1 => format!("1 {noun} is"),
         _ => format!("{} are", many(count, noun)),
     }
 }
 
-/// What there is, counted from 0 or 1.
+/// The valid numbers, counted from 0 or 1.
 fn there_are(count: u64, noun: &str, first: u64) -> String {
     match count {
         0 => format!("there are no {noun}s"),
@@ -523,16 +526,16 @@ fn there_are(count: u64, noun: &str, first: u64) -> String {
     }
 }
 
-/// An identifier as it stands, where it is letters.
-fn shown(name: &Name) -> String {
+/// An identifier: as it is if it consists of letters, else as quoted bytes.
+fn identifier_text(name: &Name) -> String {
     match name.iter().all(u8::is_ascii_uppercase) {
         true => String::from_utf8_lossy(name).into_owned(),
-        false => all_bytes(name),
+        false => quoted_bytes(name),
     }
 }
 
-/// Bytes between quotes, with the zeros at the end.
-fn all_bytes(bytes: &[u8]) -> String {
+/// Bytes between quotes, including the zeros at the end.
+fn quoted_bytes(bytes: &[u8]) -> String {
     let zeros = bytes.iter().rev().take_while(|&&byte| byte == 0).count();
     let text = crate::names::escaped(bytes);
     format!("\"{text}{}\"", "\\x00".repeat(zeros))
@@ -542,9 +545,9 @@ fn all_bytes(bytes: &[u8]) -> String {
 mod tests {
     use super::line;
     use crate::library::Refusal;
-    use reference::generate::{damage, module, Most, Random};
+    use reference::generate::{damage, module, Limits, Random};
 
-    /// Whatever number and place it is asked about, it finds words, and they stand in one line.
+    /// There are words for every number and place, and they fit on one line.
     fn has_words(module: &[u8], number: u64, place: u64) {
         let line = line(module, Refusal { number, place });
         let begins = format!("refused {number} at {place}: ");
@@ -552,12 +555,12 @@ mod tests {
         assert!(line.bytes().all(|byte| (b' '..=b'~').contains(&byte)));
     }
 
-    /// Also where number and place have nothing to do with the module, which the library never gives.
+    /// Includes numbers and places that the library never returns for the module.
     #[test]
     fn any_number_and_any_place() {
         for seed in 1..=300 {
             let mut random = Random::new(seed);
-            let mut draft = module(&mut random, &Most::SMALL);
+            let mut draft = module(&mut random, &Limits::SMALL);
             damage(&mut random, &mut draft);
             let mut module = draft.bytes();
             if seed % 3 == 0 {

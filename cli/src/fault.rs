@@ -1,4 +1,4 @@
-//! Why a command ends early: one line for standard error, and the exit status.
+//! The reason that a command ends early: one line for standard error, and the exit status.
 
 use std::ffi::OsStr;
 use std::io::{self, ErrorKind, Write};
@@ -8,9 +8,9 @@ use crate::library::Refusal;
 use crate::names;
 
 /// The exit statuses.
-pub const FINE: u8 = 0;
-pub const REFUSED: u8 = 1;
-pub const FAILED: u8 = 2;
+pub const EXIT_OK: u8 = 0;
+pub const EXIT_REFUSED: u8 = 1;
+pub const EXIT_FAILED: u8 = 2;
 
 pub struct Fault {
     pub status: u8,
@@ -18,32 +18,32 @@ pub struct Fault {
 }
 
 impl Fault {
-    /// The arguments are wrong.
+    /// The arguments are invalid.
     pub fn usage(what: impl AsRef<str>, help: &str) -> Fault {
         Fault {
-            status: FAILED,
+            status: EXIT_FAILED,
             line: format!("dbm0: {}: see '{help}'", what.as_ref()),
         }
     }
 
-    /// Something could not be done; the line ends with what to do about it.
+    /// An operation failed. The line ends with advice.
     pub fn failed(what: String) -> Fault {
         Fault {
-            status: FAILED,
+            status: EXIT_FAILED,
             line: format!("dbm0: {what}"),
         }
     }
 
-    /// The library refuses the module: the line is the one that `check` prints.
+    /// The library refuses the module. The line is the one that `check` prints.
     pub fn refused(file: &OsStr, module: &[u8], refusal: Refusal) -> Fault {
         Fault {
-            status: REFUSED,
+            status: EXIT_REFUSED,
             line: refused_line(file, module, refusal),
         }
     }
 
-    /// Prints the line. Where that fails, nobody is there to be told.
-    pub fn tell(&self) {
+    /// Prints the line. An error while printing is ignored, since there is no other place to report it.
+    pub fn print(&self) {
         let _ = writeln!(io::stderr(), "{}", self.line);
     }
 }
@@ -54,7 +54,7 @@ pub fn refused_line(file: &OsStr, module: &[u8], refusal: Refusal) -> String {
     format!("{}: {words}", names::file(file))
 }
 
-/// What an error of the system says, without its number.
+/// The message of a system error, without its number.
 pub fn reason(error: &io::Error) -> String {
     let text = error.to_string();
     match text.split_once(" (os error") {
@@ -63,7 +63,7 @@ pub fn reason(error: &io::Error) -> String {
     }
 }
 
-/// What to do about a file that cannot be read.
+/// Advice for a file that cannot be read.
 pub fn advice(error: &io::Error) -> &'static str {
     match error.kind() {
         ErrorKind::NotFound => "check its name",

@@ -1,8 +1,8 @@
-//! What `--help` prints.
+//! The texts that `--help` prints.
 
 use crate::fault::Fault;
 
-/// What help is about.
+/// The subject of a help text.
 #[derive(Clone, Copy)]
 pub enum Topic {
     Program,
@@ -12,7 +12,7 @@ pub enum Topic {
     Repack,
 }
 
-/// The command of this name.
+/// The topic of a command.
 pub fn topic(command: &str) -> Option<Topic> {
     match command {
         "check" => Some(Topic::Check),
@@ -24,7 +24,7 @@ pub fn topic(command: &str) -> Option<Topic> {
 }
 
 impl Topic {
-    /// Wrong arguments, with where to read on.
+    /// An error in the arguments, with a reference to the help text.
     pub fn fault(self, what: impl AsRef<str>) -> Fault {
         let help = match self {
             Topic::Program => "dbm0 --help",

@@ -1,4 +1,4 @@
-//! Reading a whole module from a file or from standard input.
+//! Reads a whole module from a file or from standard input.
 
 use std::ffi::OsStr;
 use std::fs::File;
@@ -9,13 +9,13 @@ use crate::fault::{advice, reason, Fault};
 use crate::library::MOST_BYTES;
 use crate::names;
 
-/// The name that stands for standard input and output.
-pub const STANDARD: &str = "-";
+/// The name that denotes standard input or standard output.
+pub const STANDARD_STREAM: &str = "-";
 
-/// The bytes of a file; of a longer one than a module may be only as many as the library needs to refuse it.
+/// The bytes of a file. Of a file longer than a module can be, only as many bytes as the library needs to refuse it.
 pub fn read(file: &OsStr) -> Result<Vec<u8>, Fault> {
-    let read = if file == STANDARD {
-        // As a file: that of the standard library would take one that cannot be read for an empty one.
+    let read = if file == STANDARD_STREAM {
+        // Read as a file: the standard library's stdin treats a closed standard input as an empty one.
         let opened = io::stdin().as_fd().try_clone_to_owned();
         opened.and_then(|opened| up_to_limit(File::from(opened), 0))
     } else {
@@ -25,7 +25,7 @@ pub fn read(file: &OsStr) -> Result<Vec<u8>, Fault> {
         })
     };
     read.map_err(|error| {
-        let name = match file == STANDARD {
+        let name = match file == STANDARD_STREAM {
             true => "standard input".to_string(),
             false => names::file(file),
         };

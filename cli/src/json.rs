@@ -1,4 +1,4 @@
-//! A report as JSON. docs/CLI.md has the schema.
+//! Prints a report as JSON. docs/CLI.md has the schema.
 
 use std::ffi::OsStr;
 
@@ -9,10 +9,10 @@ use crate::records::{self, Envelope, Instrument, Loop, Report, Sample, Song};
 use crate::report;
 use crate::text::{put, Hex, Piece};
 
-/// The version of the schema. It changes where a field is taken away or comes to mean something else; new fields may be added.
+/// The version of the schema. It changes if a field is removed or changes its meaning. New fields may be added without a change.
 const SCHEMA: u32 = 1;
 
-/// One object, each record of it on a line of its own.
+/// Prints one object, with each record on its own line.
 pub fn write(file: &OsStr, bytes: usize, report: &Report, out: &mut Output) -> Result<(), Fault> {
     out.put(|text| summary(text, file, bytes, report))?;
     list("songs", &report.songs, song, out)?;
@@ -34,7 +34,7 @@ pub fn write(file: &OsStr, bytes: usize, report: &Report, out: &mut Output) -> R
     out.text("\n}\n")
 }
 
-/// A list of records; each is told how many stand before it.
+/// Prints a list of records. `record` gets the index of each.
 fn list<Record>(
     name: &str,
     records: &[Record],
@@ -118,7 +118,7 @@ fn envelope(text: &mut String, number: usize, envelope: &Envelope) {
     put!(text; "}");
 }
 
-/// A name: as the text report prints it, without the quotes, and all of its bytes.
+/// A name: the text as in the text report but without the quotes, and all bytes in hexadecimal.
 fn name(text: &mut String, bytes: &[u8]) {
     put!(text; "{\"text\": \"", JsonName(bytes), "\", \"hex\": \"");
     for &byte in bytes {
@@ -147,7 +147,7 @@ fn array(text: &mut String, items: impl Iterator<Item = impl Piece>) {
     put!(text; if between == "[" { "[]" } else { "]" });
 }
 
-/// A string. The texts that come here have no control characters; should one come, it is escaped.
+/// A string. The texts passed here have no control characters; one would be escaped.
 fn string(text: &mut String, unquoted: &str) {
     text.push('"');
     for character in unquoted.chars() {

@@ -1,79 +1,78 @@
-//! The proved library, libdbm0.a and libpattern.a, as the program uses it: a record or a refusal, and outputs as long as needed. The
-//! calls themselves are in the package `interface`.
+//! The proved library, libdbm0.a and libpattern.a, in the form that the program uses: a call returns a record or a refusal, and outputs are
+//! allocated as long as needed. The calls themselves are in the package `interface`.
 
-use interface::{Answer, Told, OUTPUT_TOO_SHORT};
+use interface::{Answer, RecordAnswer, OUTPUT_TOO_SHORT};
 
 pub use interface::{Cell, Info, MOST_BYTES, NOTE_KEY_OFF, NOTE_NONE, NOTE_PITCH};
 
-/// What the library refused, and where.
+/// The number of a refusal, and its place.
 #[derive(Clone, Copy, Debug, PartialEq, Eq)]
 pub struct Refusal {
     pub number: u64,
     pub place: u64,
 }
 
-/// The answer, where the number says that there is no refusal.
-fn answered<Record>(number: u64, place: u64, record: Record) -> Result<Record, Refusal> {
+/// The record if the number is 0, else the refusal.
+fn to_result<Record>(number: u64, place: u64, record: Record) -> Result<Record, Refusal> {
     match number {
         0 => Ok(record),
         number => Err(Refusal { number, place }),
     }
 }
 
-fn result<Record>(answer: Told<Record>) -> Result<Record, Refusal> {
-    answered(answer.number, answer.place, answer.record)
+fn to_record<Record>(answer: RecordAnswer<Record>) -> Result<Record, Refusal> {
+    to_result(answer.number, answer.place, answer.record)
 }
 
 pub fn check(module: &[u8]) -> Result<(), Refusal> {
     let answer = interface::check_module(module);
-    answered(answer.number, answer.place, ())
+    to_result(answer.number, answer.place, ())
 }
 
 pub fn info(module: &[u8]) -> Result<Info, Refusal> {
-    result(interface::info(module))
+    to_record(interface::info(module))
 }
 
-/// The rows of a pattern, counted from 0.
+/// The number of rows of a pattern. Patterns are counted from 0.
 pub fn rows(module: &[u8], pattern: usize) -> Result<u16, Refusal> {
-    result(interface::rows(module, pattern))
+    to_record(interface::rows(module, pattern))
 }
 
-/// A cell: pattern and row counted from 0, track from 1.
+/// A cell. Patterns and rows are counted from 0, tracks from 1.
 pub fn cell(module: &[u8], pattern: usize, row: usize, track: usize) -> Result<Cell, Refusal> {
-    result(interface::cell(module, pattern, row, track))
+    to_record(interface::cell(module, pattern, row, track))
 }
 
-/// All cells of a pattern, which are expected to be so many, six bytes each.
+/// All cells of a pattern, six bytes each. `expected` is the number of cells.
 pub fn cells(module: &[u8], pattern: usize, expected: usize) -> Result<Vec<u8>, Refusal> {
-    filled(6 * expected, |out| interface::cells(module, pattern, out))
+    fill_output(6 * expected, |out| interface::cells(module, pattern, out))
 }
 
-/// All records of the module, one after the other. The 60 bytes of the summary are before them, and no record is longer than its
-/// block, so that is the room to begin with.
+/// All records of the module. The summary has 60 bytes and no record is longer than its block, so the first output is long enough.
 pub fn records(module: &[u8]) -> Result<Vec<u8>, Refusal> {
-    filled(module.len() + 60, |out| interface::records(module, out))
+    fill_output(module.len() + 60, |out| interface::records(module, out))
 }
 
-/// The module repacked. It is never longer than the module, so that is the room to begin with.
+/// The repacked module. It is never longer than the module, so the first output is long enough.
 pub fn repack(module: &[u8]) -> Result<Vec<u8>, Refusal> {
-    filled(module.len(), |out| interface::repack(module, out))
+    fill_output(module.len(), |out| interface::repack(module, out))
 }
 
-/// The check of a packed stream.
+/// Checks a packed stream.
 pub fn check_pattern(stream: &[u8], rows: u64, tracks: u64) -> Result<(), Refusal> {
     let answer = interface::check_pattern(stream, rows, tracks);
-    answered(answer.number, answer.place, ())
+    to_result(answer.number, answer.place, ())
 }
 
-/// What a call writes into an output of so much room, or, where it says that this is too short, of the length that it asks for.
-fn filled(room: usize, call: impl Fn(&mut [u8]) -> Answer) -> Result<Vec<u8>, Refusal> {
+/// The bytes that a call writes. If the first output is too short, the call is repeated with the length that it reports.
+fn fill_output(room: usize, call: impl Fn(&mut [u8]) -> Answer) -> Result<Vec<u8>, Refusal> {
     let mut out = vec![0; room];
     let mut answer = call(&mut out);
     if answer.number == OUTPUT_TOO_SHORT {
         out = vec![0; answer.place as usize];
         answer = call(&mut out);
     }
-    let written = answered(answer.number, answer.place, answer.length)?;
+    let written = to_result(answer.number, answer.place, answer.length)?;
     out.truncate(written as usize);
     Ok(out)
 }

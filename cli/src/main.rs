@@ -1,6 +1,6 @@
 //! The inspector's command line: checks, reports, shows and repacks DBM0 modules.
 //!
-//! All that decides is the proved library (library.rs). The rest reads files, calls it, finds words and prints.
+//! Every decision is made by the proved library (library.rs). The rest reads files, calls the library, and prints.
 
 #![deny(unsafe_code)]
 
@@ -25,13 +25,13 @@ mod text;
 use std::process::ExitCode;
 
 use args::Command;
-use fault::{Fault, FINE};
+use fault::{Fault, EXIT_OK};
 use output::Output;
 
 fn main() -> ExitCode {
     signal::ignore_file_size_signal();
     let status = run().unwrap_or_else(|fault| {
-        fault.tell();
+        fault.print();
         fault.status
     });
     ExitCode::from(status)
@@ -42,15 +42,15 @@ fn run() -> Result<u8, Fault> {
     let status = match args::parse(std::env::args_os().skip(1).collect())? {
         Command::Help(topic) => {
             out.text(topic.text())?;
-            FINE
+            EXIT_OK
         }
         Command::Version => {
             out.line(concat!("dbm0 ", env!("CARGO_PKG_VERSION")))?;
-            FINE
+            EXIT_OK
         }
         Command::Check { files } => check::run(&files, out)?,
         Command::Report { file, json } => report::run(&file, json, out)?,
-        Command::Cells { file, asked } => cells::run(&file, &asked, out)?,
+        Command::Cells { file, selection } => cells::run(&file, &selection, out)?,
         Command::Repack { from, to } => repack::run(&from, &to, out)?,
     };
     out.flush()?;

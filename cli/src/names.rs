@@ -1,12 +1,12 @@
-//! Bytes and file names as they are printed.
+//! Formats names and file names for printing.
 
 use std::ffi::OsStr;
 use std::os::unix::ffi::OsStrExt;
 
 use crate::text::{put, Hex, Piece};
 
-/// A name of a module, which is bytes, between quotes. The zeros at its end are padding and not printed. Printable ASCII is printed as
-/// it is, but for the quote and the backslash; these and all other bytes are printed as \xHH.
+/// A name of a module, which is bytes, between quotes. The zeros at its end are padding and are not printed. Printable ASCII except the
+/// quote and the backslash is printed as it is. All other bytes are printed as \xHH.
 pub struct Quoted<'n>(pub &'n [u8]);
 
 impl Piece for Quoted<'_> {
@@ -17,7 +17,7 @@ impl Piece for Quoted<'_> {
     }
 }
 
-/// The same without the quotes, and with each backslash as a JSON string has it.
+/// The same without the quotes, and with each backslash escaped for a JSON string.
 pub struct JsonName<'n>(pub &'n [u8]);
 
 impl Piece for JsonName<'_> {
@@ -53,8 +53,8 @@ fn put_escaped(text: &mut String, name: &[u8], backslash: &str) {
     }
 }
 
-/// The name of a file: as it was given, but for what could not stand in one line of text. Control characters, backslashes and bytes
-/// that are not UTF-8 are printed as \xHH.
+/// A file name as it was given, except for bytes that do not fit in one line of text. Control characters, backslashes and bytes that are
+/// not UTF-8 are printed as \xHH.
 pub fn file(name: &OsStr) -> String {
     let mut text = String::new();
     for part in name.as_bytes().utf8_chunks() {

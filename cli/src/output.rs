@@ -1,7 +1,6 @@
 //! Standard output.
 //!
-//! Where its reader has gone (a closed pipe), nothing more is printed and nothing is said about it. Any other error, a full disk for
-//! one, is a fault.
+//! If the reader has closed the pipe, nothing more is printed and no error is reported. Any other error, such as a full disk, is a fault.
 
 use std::fs::File;
 use std::io::{self, ErrorKind, Write};
@@ -10,49 +9,49 @@ use std::os::fd::AsFd;
 use crate::fault::{reason, Fault};
 use crate::text::put;
 
-/// Text is held back until it has this many bytes.
-const MOST_HELD: usize = 1 << 16;
+/// Text is buffered up to this many bytes.
+const BUFFER_BYTES: usize = 1 << 16;
 
 pub struct Output {
     to: File,
-    held: String,
+    buffer: String,
     closed: bool,
 }
 
 impl Output {
-    /// Standard output as a file: that of the standard library would not tell of one that cannot be written to.
+    /// Standard output as a file: the standard library's stdout does not report a closed standard output.
     pub fn new() -> Result<Output, Fault> {
         let opened = io::stdout().as_fd().try_clone_to_owned();
         Ok(Output {
             to: File::from(opened.map_err(|error| not_written(&error))?),
-            held: String::new(),
+            buffer: String::new(),
             closed: false,
         })
     }
 
-    /// Whether nobody reads on.
+    /// Whether the reader has closed the pipe.
     pub fn is_closed(&self) -> bool {
         self.closed
     }
 
-    /// Prints what is put behind the text that is held back.
+    /// Appends to the buffered text.
     pub fn put(&mut self, put: impl FnOnce(&mut String)) -> Result<(), Fault> {
         if self.closed {
             return Ok(());
         }
-        put(&mut self.held);
-        match self.held.len() < MOST_HELD {
+        put(&mut self.buffer);
+        match self.buffer.len() < BUFFER_BYTES {
             true => Ok(()),
             false => self.flush(),
         }
     }
 
     pub fn text(&mut self, text: &str) -> Result<(), Fault> {
-        self.put(|held| held.push_str(text))
+        self.put(|buffer| buffer.push_str(text))
     }
 
     pub fn line(&mut self, text: &str) -> Result<(), Fault> {
-        self.put(|held| put!(held; text, "\n"))
+        self.put(|buffer| put!(buffer; text, "\n"))
     }
 
     pub fn bytes(&mut self, bytes: &[u8]) -> Result<(), Fault> {
@@ -61,20 +60,20 @@ impl Output {
             return Ok(());
         }
         let written = self.to.write_all(bytes);
-        self.noted(written)
+        self.handle_write_result(written)
     }
 
-    /// Sees that everything is out.
+    /// Writes all buffered text.
     pub fn flush(&mut self) -> Result<(), Fault> {
         if self.closed {
             return Ok(());
         }
-        let written = self.to.write_all(self.held.as_bytes());
-        self.held.clear();
-        self.noted(written)
+        let written = self.to.write_all(self.buffer.as_bytes());
+        self.buffer.clear();
+        self.handle_write_result(written)
     }
 
-    fn noted(&mut self, result: io::Result<()>) -> Result<(), Fault> {
+    fn handle_write_result(&mut self, result: io::Result<()>) -> Result<(), Fault> {
         match result {
             Ok(()) => Ok(()),
             Err(error) if error.kind() == ErrorKind::BrokenPipe => {
@@ -82,7 +81,7 @@ impl Output {
                 Ok(())
             }
             Err(error) => {
-                // Nothing more shall be tried.
+                // No further write is tried.
                 self.closed = true;
                 Err(not_written(&error))
             }

@@ -1,16 +1,15 @@
-//! Plain reading of a module's bytes: chunks, blocks and numbers.
+//! Reads chunks, blocks and numbers from a module's bytes.
 //!
-//! It decides nothing. The library says whether a module is accepted and what is wrong with it; this only finds the bytes that the
-//! words of a refusal speak of (explain.rs). It is tested, not proved. Every reading is checked against the end, and gives nothing
-//! where there is nothing.
+//! This code makes no decision. The library decides whether a module is accepted and what is wrong with it. This code only finds the bytes
+//! that explain.rs describes. It is tested, not proved. Every read is bounds-checked and returns None outside the module.
 
 /// The identifier of a chunk.
 pub type Name = [u8; 4];
 
-/// The bytes of the header of a module, and of a chunk.
+/// The length of a module's header, and of a chunk's header.
 pub const HEADER: usize = 8;
 
-/// A big-endian number of so many bytes, 8 at most.
+/// A big-endian number of `length` bytes, at most 8.
 pub fn number(bytes: &[u8], place: usize, length: usize) -> Option<u64> {
     let end = place.checked_add(length)?;
     let stored = bytes.get(place..end)?;
@@ -21,7 +20,7 @@ pub fn number(bytes: &[u8], place: usize, length: usize) -> Option<u64> {
     )
 }
 
-/// The same for a number of two bytes that is signed.
+/// A signed big-endian number of two bytes.
 pub fn signed(bytes: &[u8], place: usize) -> Option<i64> {
     let number = number(bytes, place, 2)?;
     Some(i64::from(number as u16 as i16))
@@ -42,7 +41,7 @@ impl Chunk<'_> {
     }
 }
 
-/// The chunks from the front, as far as they are whole.
+/// The chunks from the beginning, up to the first that is cut.
 pub struct Chunks<'m> {
     module: &'m [u8],
     place: usize,
@@ -74,7 +73,7 @@ pub fn identifier(module: &[u8], place: usize) -> Option<Name> {
     module.get(place..place.checked_add(4)?)?.try_into().ok()
 }
 
-/// The first chunk of a name.
+/// The first chunk with this name.
 pub fn find<'m>(module: &'m [u8], name: &Name) -> Option<Chunk<'m>> {
     chunks(module).find(|chunk| chunk.name == *name)
 }
@@ -100,7 +99,7 @@ pub fn counts(module: &[u8]) -> Option<Counts> {
     })
 }
 
-/// What the blocks of a chunk are.
+/// The kind of the blocks of a chunk.
 #[derive(Clone, Copy, PartialEq, Eq)]
 pub enum Blocks {
     Songs,
@@ -112,7 +111,7 @@ pub enum Blocks {
 }
 
 impl Blocks {
-    /// The blocks of the chunk of this name.
+    /// The kind of the blocks in the chunk with this name.
     pub fn of(name: &Name) -> Option<Blocks> {
         match name {
             b"SONG" => Some(Blocks::Songs),
@@ -125,7 +124,7 @@ impl Blocks {
         }
     }
 
-    /// Where the first block stands in the data: envelopes have their count before them.
+    /// The place of the first block in the data. Envelopes are preceded by their count.
     pub fn first(self) -> usize {
         match self {
             Blocks::VolumeEnvelopes | Blocks::PanningEnvelopes => 2,
@@ -133,7 +132,7 @@ impl Blocks {
         }
     }
 
-    /// How many there are: what INFO says, or the count of the envelopes.
+    /// The number of blocks: from INFO, or the count before the envelopes.
     pub fn count(self, counts: &Counts, data: &[u8]) -> Option<u64> {
         match self {
             Blocks::Songs => Some(counts.songs),
@@ -144,7 +143,7 @@ impl Blocks {
         }
     }
 
-    /// How long the block at the front of these bytes is, whether or not they are as long. None: too few to tell.
+    /// The length of the block at the beginning of these bytes, even if fewer are left. None if there are too few bytes to know.
     pub fn length(self, bytes: &[u8]) -> Option<u64> {
         match self {
             Blocks::Songs => Some(46 + 2 * number(bytes, 44, 2)?),
@@ -159,7 +158,7 @@ impl Blocks {
     }
 }
 
-/// The bytes of a frame of the sample at the front of these bytes, and 0 where its flags are none that a sample has.
+/// The bytes of one frame of the sample at the beginning of these bytes. 0 if its flags are invalid.
 fn frame_bytes(bytes: &[u8]) -> Option<u64> {
     match number(bytes, 0, 4)? {
         flags @ (1 | 2 | 4) => Some(flags),
@@ -167,7 +166,7 @@ fn frame_bytes(bytes: &[u8]) -> Option<u64> {
     }
 }
 
-/// A block: how many stand before it, its place in the data of its chunk, and its bytes.
+/// A block: its index, its place in the data of its chunk, and its bytes.
 #[derive(Clone, Copy)]
 pub struct Block<'m> {
     pub index: u64,
@@ -175,7 +174,7 @@ pub struct Block<'m> {
     pub bytes: &'m [u8],
 }
 
-/// The blocks of a chunk's data from the front, as far as they are whole and there should be any.
+/// The first `count` blocks of a chunk's data, up to the first that is cut.
 pub fn blocks<'m>(
     kind: Blocks,
     data: &'m [u8],

@@ -1,8 +1,8 @@
-//! All that a report tells of a module: the records as the library has written them (FORMAT's Q16), taken apart.
+//! The contents of a report, parsed from the records that the library writes (Q16 of docs/FORMAT.md).
 
 use crate::library::Info;
 
-/// The points of an envelope, used or not.
+/// The number of points of an envelope, used or not.
 const POINTS: usize = 32;
 
 #[derive(Debug, PartialEq, Eq)]
@@ -55,7 +55,7 @@ pub struct Envelope<'r> {
     pub loop_first: u8,
     pub loop_last: u8,
     pub second_sustain: u8,
-    /// Position and value of each, two bytes each.
+    /// The position and the value of each point, two bytes each.
     points: &'r [[u8; 4]],
 }
 
@@ -74,42 +74,42 @@ pub const LOOP: u8 = 2;
 pub const SECOND_SUSTAIN: u8 = 3;
 
 impl<'r> Report<'r> {
-    /// None: these bytes are not what the library writes, they end too early or too late.
+    /// Parses the records. None if they end too early or too late, which the library never does.
     pub fn of(records: &'r [u8]) -> Option<Report<'r>> {
-        let left = &mut Left(records);
-        let [version, revision] = *left.array()?;
-        let name = left.array()?;
+        let reader = &mut RecordReader(records);
+        let [version, revision] = *reader.array()?;
+        let name = reader.array()?;
         let info = Info {
-            instruments: left.number()?,
-            samples: left.number()?,
-            songs: left.number()?,
-            patterns: left.number()?,
-            tracks: left.number()?,
+            instruments: reader.u16()?,
+            samples: reader.u16()?,
+            songs: reader.u16()?,
+            patterns: reader.u16()?,
+            tracks: reader.u16()?,
         };
-        let (volume, panning) = (left.number()?, left.number()?);
+        let (volume, panning) = (reader.u16()?, reader.u16()?);
         let report = Report {
             version,
             revision,
             name,
             info,
-            songs: left.each(info.songs, Song::take)?,
-            instruments: left.each(info.instruments, Instrument::take)?,
-            patterns: left.each(info.patterns, Left::number)?,
-            samples: left.each(info.samples, Sample::take)?,
-            volume_envelopes: left.each(volume, Envelope::take)?,
-            panning_envelopes: left.each(panning, Envelope::take)?,
+            songs: reader.list(info.songs, Song::read)?,
+            instruments: reader.list(info.instruments, Instrument::read)?,
+            patterns: reader.list(info.patterns, RecordReader::u16)?,
+            samples: reader.list(info.samples, Sample::read)?,
+            volume_envelopes: reader.list(volume, Envelope::read)?,
+            panning_envelopes: reader.list(panning, Envelope::read)?,
         };
-        left.0.is_empty().then_some(report)
+        reader.0.is_empty().then_some(report)
     }
 }
 
 impl<'r> Song<'r> {
-    fn take(left: &mut Left<'r>) -> Option<Song<'r>> {
-        let name = left.array()?;
-        let entries = left.number()?;
+    fn read(reader: &mut RecordReader<'r>) -> Option<Song<'r>> {
+        let name = reader.array()?;
+        let entries = reader.u16()?;
         Some(Song {
             name,
-            playlist: left.arrays(usize::from(entries))?,
+            playlist: reader.arrays(usize::from(entries))?,
         })
     }
 
@@ -124,20 +124,20 @@ impl<'r> Song<'r> {
 }
 
 impl<'r> Instrument<'r> {
-    fn take(left: &mut Left<'r>) -> Option<Instrument<'r>> {
+    fn read(reader: &mut RecordReader<'r>) -> Option<Instrument<'r>> {
         Some(Instrument {
-            name: left.array()?,
-            sample: left.number()?,
-            volume: left.number()?,
-            rate: left.wide()?,
-            loop_start: left.wide()?,
-            loop_length: left.wide()?,
-            panning: left.array().copied().map(i16::from_be_bytes)?,
-            flags: left.number()?,
+            name: reader.array()?,
+            sample: reader.u16()?,
+            volume: reader.u16()?,
+            rate: reader.u32()?,
+            loop_start: reader.u32()?,
+            loop_length: reader.u32()?,
+            panning: reader.array().copied().map(i16::from_be_bytes)?,
+            flags: reader.u16()?,
         })
     }
 
-    /// Without a length there is no loop; where both kinds are chosen, it is forward.
+    /// A loop without a length is none. If both kinds are set, it is forward.
     pub fn loop_kind(&self) -> Loop {
         match (self.loop_length, self.flags & 3) {
             (0, _) | (_, 0) => Loop::None,
@@ -148,24 +148,24 @@ impl<'r> Instrument<'r> {
 }
 
 impl Sample {
-    fn take(left: &mut Left) -> Option<Sample> {
+    fn read(reader: &mut RecordReader) -> Option<Sample> {
         Some(Sample {
-            width: left.number()?,
-            frames: left.wide()?,
+            width: reader.u16()?,
+            frames: reader.u32()?,
         })
     }
 
-    /// How many bytes all frames have.
+    /// The length of all frames in bytes.
     pub fn length(&self) -> u64 {
         u64::from(self.frames) * u64::from(self.width / 8)
     }
 }
 
 impl<'r> Envelope<'r> {
-    fn take(left: &mut Left<'r>) -> Option<Envelope<'r>> {
-        let instrument = left.number()?;
+    fn read(reader: &mut RecordReader<'r>) -> Option<Envelope<'r>> {
+        let instrument = reader.u16()?;
         let [flags, sections, first_sustain, loop_first, loop_last, second_sustain] =
-            *left.array()?;
+            *reader.array()?;
         Some(Envelope {
             instrument,
             flags,
@@ -174,7 +174,7 @@ impl<'r> Envelope<'r> {
             loop_first,
             loop_last,
             second_sustain,
-            points: left.arrays(POINTS)?,
+            points: reader.arrays(POINTS)?,
         })
     }
 
@@ -183,47 +183,47 @@ impl<'r> Envelope<'r> {
         self.flags >> bit & 1 == 1
     }
 
-    /// The points in use, sections + 1 of them: position and value.
+    /// The points in use, `sections + 1` of them: position and value.
     pub fn points(&self) -> impl Iterator<Item = (u16, i16)> + 'r {
         let in_use = self.points.iter().take(usize::from(self.sections) + 1);
         in_use.map(|&[a, b, c, d]| (u16::from_be_bytes([a, b]), i16::from_be_bytes([c, d])))
     }
 }
 
-/// What is left of the records. Each of its functions takes something off the front, and none where there is too little.
-struct Left<'r>(&'r [u8]);
+/// The part of the records that is not read yet. Each function takes a value from the beginning. It returns None if too few bytes are left.
+struct RecordReader<'r>(&'r [u8]);
 
-impl<'r> Left<'r> {
+impl<'r> RecordReader<'r> {
     fn array<const LENGTH: usize>(&mut self) -> Option<&'r [u8; LENGTH]> {
-        let (taken, left) = self.0.split_first_chunk()?;
-        self.0 = left;
+        let (taken, rest) = self.0.split_first_chunk()?;
+        self.0 = rest;
         Some(taken)
     }
 
-    /// So many arrays.
+    /// An array of `count` arrays.
     fn arrays<const LENGTH: usize>(&mut self, count: usize) -> Option<&'r [[u8; LENGTH]]> {
-        let (taken, left) = self.0.split_at_checked(count * LENGTH)?;
-        self.0 = left;
+        let (taken, rest) = self.0.split_at_checked(count * LENGTH)?;
+        self.0 = rest;
         Some(taken.as_chunks().0)
     }
 
     /// A number of two bytes.
-    fn number(&mut self) -> Option<u16> {
+    fn u16(&mut self) -> Option<u16> {
         self.array().copied().map(u16::from_be_bytes)
     }
 
     /// A number of four bytes.
-    fn wide(&mut self) -> Option<u32> {
+    fn u32(&mut self) -> Option<u32> {
         self.array().copied().map(u32::from_be_bytes)
     }
 
-    /// So many records of a kind.
-    fn each<Record>(
+    /// A list of `count` records.
+    fn list<Record>(
         &mut self,
         count: u16,
-        take: impl Fn(&mut Left<'r>) -> Option<Record>,
+        read: impl Fn(&mut RecordReader<'r>) -> Option<Record>,
     ) -> Option<Vec<Record>> {
-        (0..count).map(|_| take(self)).collect()
+        (0..count).map(|_| read(self)).collect()
     }
 }
 
@@ -231,13 +231,13 @@ impl<'r> Left<'r> {
 mod tests {
     use super::Report;
     use reference::all_records::write;
-    use reference::generate::{module, Most, Random};
+    use reference::generate::{module, Limits, Random};
 
-    /// Cut anywhere, or with a byte more, they are not taken apart.
+    /// Records that are cut, or have an extra byte, are not parsed.
     #[test]
     fn only_whole_records() {
         for seed in 1..=100 {
-            let module = module(&mut Random::new(seed), &Most::SMALL).bytes();
+            let module = module(&mut Random::new(seed), &Limits::SMALL).bytes();
             let mut records = vec![0; module.len() + 60];
             let length = write(&module, &mut records).expect("an accepted module") as usize;
             assert!(Report::of(&records[..length]).is_some());

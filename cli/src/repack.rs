@@ -1,4 +1,4 @@
-//! `dbm0 repack`: writes the module repacked, as a whole file or not at all.
+//! `dbm0 repack`: writes the repacked module as a whole file or not at all.
 
 use std::ffi::OsStr;
 use std::fs::{self, File, Metadata, OpenOptions};
@@ -6,8 +6,8 @@ use std::io::{self, ErrorKind, Write};
 use std::os::unix::fs::{fchown, MetadataExt, OpenOptionsExt};
 use std::path::{Path, PathBuf};
 
-use crate::fault::{reason, Fault, FINE};
-use crate::input::{self, STANDARD};
+use crate::fault::{reason, Fault, EXIT_OK};
+use crate::input::{self, STANDARD_STREAM};
 use crate::library;
 use crate::names;
 use crate::output::Output;
@@ -22,17 +22,17 @@ pub fn run(from: &OsStr, to: &OsStr, out: &mut Output) -> Result<u8, Fault> {
         module.len(),
         repacked.len()
     );
-    if to == STANDARD {
+    if to == STANDARD_STREAM {
         out.bytes(&repacked)?;
         out.flush()?;
-        // Standard output has the module, so this goes elsewhere.
+        // Standard output has the module, so the summary goes to standard error.
         let _ = writeln!(io::stderr(), "standard output: {words}");
     } else {
         write_file(to, &repacked)?;
         out.line(&format!("{}: {words}", names::file(to)))?;
         out.flush()?;
     }
-    Ok(FINE)
+    Ok(EXIT_OK)
 }
 
 fn write_file(to: &OsStr, bytes: &[u8]) -> Result<(), Fault> {
@@ -62,52 +62,52 @@ fn advice(error: &io::Error) -> &'static str {
     }
 }
 
-/// Where the file is to stand, and what stands there now.
+/// The file to write, and the metadata of the file that exists there now.
 struct Target {
     path: PathBuf,
     folder: PathBuf,
-    there: Option<Metadata>,
+    existing: Option<Metadata>,
 }
 
 impl Target {
-    /// A link is followed, so that it stays one. Only a regular file is ever replaced.
+    /// Follows a link, so that it remains a link. Only a regular file is ever replaced.
     fn find(to: &Path) -> Result<Target, String> {
         if to.as_os_str().is_empty() {
             return Err("it has no name: name a file".to_string());
         }
-        let there = match fs::metadata(to) {
-            Ok(there) => Some(there),
+        let existing = match fs::metadata(to) {
+            Ok(existing) => Some(existing),
             Err(error) if error.kind() == ErrorKind::NotFound => None,
             Err(error) => return Err(format!("{}: {}", reason(&error), advice(&error))),
         };
-        let Some(there) = there else {
+        let Some(existing) = existing else {
             if fs::symlink_metadata(to).is_ok() {
                 return Err("it is a link to nothing: name the file itself".to_string());
             }
             return Ok(Target {
                 path: to.to_path_buf(),
                 folder: folder_of(to),
-                there: None,
+                existing: None,
             });
         };
-        if there.is_dir() {
+        if existing.is_dir() {
             return Err("it is a folder: name a file in it".to_string());
         }
-        if !there.is_file() {
+        if !existing.is_file() {
             return Err("it is no regular file: use - and redirect standard output".to_string());
         }
-        // A file that may not be written to shall not be replaced either.
+        // A file without write permission is not replaced.
         let path = fs::canonicalize(to)
             .and_then(|path| OpenOptions::new().write(true).open(&path).map(|_| path))
             .map_err(|error| format!("{}: choose another file", reason(&error)))?;
         Ok(Target {
             folder: folder_of(&path),
             path,
-            there: Some(there),
+            existing: Some(existing),
         })
     }
 
-    /// Writes another file beside it and moves that to its place. Where anything fails, the other file is removed.
+    /// Writes a temporary file beside the target and renames it. If anything fails, the temporary file is removed.
     fn write(&self, bytes: &[u8]) -> io::Result<()> {
         let (file, temporary) = self.temporary()?;
         let written = self
@@ -117,17 +117,17 @@ impl Target {
             let _ = fs::remove_file(&temporary);
             return written;
         }
-        // The file is whole in any case. That its new name is on the disk too is asked for, but not waited on to succeed.
+        // The file is complete in any case. Flushing the folder is tried, but a failure is ignored.
         let _ = File::open(&self.folder).and_then(|folder| folder.sync_all());
         Ok(())
     }
 
-    /// A new file in the same folder, under a name that no file has. One that is to take the place of another can be read by its owner
-    /// alone until it has the other's permissions.
+    /// Creates a temporary file in the same folder, with a name that no file has. If it replaces a file, only its owner can read it until
+    /// it has that file's permissions.
     fn temporary(&self) -> io::Result<(File, PathBuf)> {
         let mut options = OpenOptions::new();
         options.write(true).create_new(true);
-        if self.there.is_some() {
+        if self.existing.is_some() {
             options.mode(0o600);
         }
         let process = std::process::id();
@@ -146,10 +146,10 @@ impl Target {
 
     fn fill(&self, mut file: File, bytes: &[u8]) -> io::Result<()> {
         file.write_all(bytes)?;
-        if let Some(there) = &self.there {
-            // Only root can give a file away; for all others it stays theirs.
-            let _ = fchown(&file, Some(there.uid()), Some(there.gid()));
-            file.set_permissions(there.permissions())?;
+        if let Some(existing) = &self.existing {
+            // Only root can change the owner. For everyone else the file keeps the current user.
+            let _ = fchown(&file, Some(existing.uid()), Some(existing.gid()));
+            file.set_permissions(existing.permissions())?;
         }
         file.sync_all()
     }

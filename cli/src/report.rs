@@ -1,8 +1,8 @@
-//! `dbm0 report`: the page of a module for the register.
+//! `dbm0 report`: prints the page of a module for the register.
 
 use std::ffi::OsStr;
 
-use crate::fault::{Fault, FINE};
+use crate::fault::{Fault, EXIT_OK};
 use crate::input;
 use crate::json;
 use crate::library;
@@ -22,10 +22,10 @@ pub fn run(file: &OsStr, as_json: bool, out: &mut Output) -> Result<u8, Fault> {
         page(module.len(), &report, out)?;
     }
     out.flush()?;
-    Ok(FINE)
+    Ok(EXIT_OK)
 }
 
-/// What the library writes is proved, so this is never told. Should it be, nothing is printed that is not there.
+/// What the library writes is proved, so this error does not occur with the program's own archives. If it does, no report is printed.
 fn not_understood(file: &OsStr) -> Fault {
     Fault::failed(format!(
         "{}: the records of the library are not as expected: build the program again with its own archives",
@@ -33,7 +33,7 @@ fn not_understood(file: &OsStr) -> Fault {
     ))
 }
 
-/// One line for each thing. Songs, patterns and envelopes are counted from 0, instruments and samples from 1.
+/// One line for each item. Songs, patterns and envelopes are counted from 0, instruments and samples from 1.
 fn page(bytes: usize, report: &Report, out: &mut Output) -> Result<(), Fault> {
     out.put(|text| summary(text, bytes, report))?;
     for (number, song) in report.songs.iter().enumerate() {
@@ -83,7 +83,7 @@ fn summary(text: &mut String, bytes: usize, report: &Report) {
     }
 }
 
-/// The revision is two decimal digits of four bits each, and always printed as two.
+/// The revision is two decimal digits of four bits each. Both digits are always printed.
 pub fn version(text: &mut String, report: &Report) {
     put!(text; report.version, ".", Hex(report.revision));
 }
@@ -111,7 +111,7 @@ fn instrument_line(text: &mut String, number: usize, instrument: &Instrument) {
     put!(text; "\n");
 }
 
-/// The kind, and start + length. What is stored of a loop that is none is told too, unless it is nothing.
+/// The kind, and start + length. If the loop is off but its stored numbers are not 0, they are printed too.
 fn loop_words(text: &mut String, instrument: &Instrument) {
     let (start, length) = (instrument.loop_start, instrument.loop_length);
     match instrument.loop_kind() {
@@ -127,7 +127,7 @@ fn sample_line(text: &mut String, number: usize, sample: &Sample) {
     put!(text; Many(sample.frames, "frame"), ", ", Many(sample.length(), "byte"), "\n");
 }
 
-/// Sustain points and the loop are told where they are in use.
+/// Sustain points and the loop are printed if they are in use.
 fn envelope_line(text: &mut String, kind: &str, number: usize, envelope: &Envelope) {
     put!(text; kind, " envelope ", number, ": instrument ", envelope.instrument);
     put!(text; if envelope.has(records::ON) { ", on" } else { ", off" });

@@ -1,11 +1,11 @@
-//! Text that is put together of pieces, straight into the text that is printed.
+//! Builds text from pieces, directly in the output buffer.
 
-/// What a text is made of.
+/// A piece of text.
 pub trait Piece {
     fn put(&self, text: &mut String);
 }
 
-/// Puts pieces behind a text: `put!(text; "pattern ", number, ": ", rows)`.
+/// Appends pieces to a text: `put!(text; "pattern ", number, ": ", rows)`.
 macro_rules! put {
     ($text:expr; $($piece:expr),+) => {{
         let text: &mut String = $text;
@@ -26,7 +26,7 @@ impl Piece for bool {
     }
 }
 
-/// Decimal digits, as many as it needs.
+/// Decimal digits without leading zeros.
 impl Piece for u64 {
     fn put(&self, text: &mut String) {
         let mut digits = [b'0'; 20];
@@ -57,7 +57,7 @@ macro_rules! number_pieces {
 }
 number_pieces!(u8, u16, u32, usize);
 
-/// A minus before the digits of a number below 0.
+/// A minus sign before the digits of a negative number.
 impl Piece for i16 {
     fn put(&self, text: &mut String) {
         if *self < 0 {
@@ -67,7 +67,7 @@ impl Piece for i16 {
     }
 }
 
-/// Two hexadecimal digits, small ones.
+/// Two lowercase hexadecimal digits.
 #[derive(Clone, Copy)]
 pub struct Hex(pub u8);
 
@@ -96,7 +96,7 @@ impl<Count: Into<u64> + Copy> Piece for Many<Count> {
 mod tests {
     use super::{Hex, Many};
 
-    /// As the standard library prints them.
+    /// The same text as the standard library prints.
     #[test]
     fn numbers() {
         let mut powers: Vec<u64> = (0..20).map(|power| 10u64.pow(power)).collect();

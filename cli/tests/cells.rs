@@ -1,10 +1,10 @@
-//! `dbm0 cells`: what it prints, typed by hand and compared with the second program.
+//! `dbm0 cells`: the output, compared with text typed by hand and with the second program.
 
 mod common;
 
 use common::{run, run_on, sample, sample_bytes, text};
 use reference::draft::{Pattern, Tune};
-use reference::generate::{module, Most, Random};
+use reference::generate::{module, Limits, Random};
 use reference::pattern::Note;
 use reference::records;
 
@@ -66,7 +66,7 @@ row     track 2         track 3
     run(&["cells", file, "2", "--rows=0", "--tracks=4-"]).is(0, last, "");
 }
 
-/// What is not there is refused by the library with 18; the argument is wrong, so the status is 2.
+/// The library refuses an item that does not exist with 18. The argument is invalid, so the status is 2.
 #[test]
 fn not_there() {
     let carousel = sample("carousel.dbm");
@@ -165,7 +165,7 @@ fn refused_and_unreadable() {
         "{}: refused 15 at 728: pattern 1 (12 rows): 1 byte is left over after its last row (at 71 of its 72 packed bytes)\n",
         text(&file)
     );
-    // Also where there is no such pattern.
+    // Also if there is no such pattern.
     for pattern in ["0", "99"] {
         run(&["cells", text(&file), pattern]).is(1, "", &line);
     }
@@ -185,7 +185,7 @@ fn a_pattern_without_rows() {
     for range in ["0", "0-"] {
         run_on(&["cells", "-", "0", "--rows", range], &module).is(2, "", line);
     }
-    // With no row there is no track either.
+    // Without rows no track can be selected either.
     for range in ["0", "1", "1-4", "0-", "1-18446744073709551615"] {
         run_on(&["cells", "-", "0", "--tracks", range], &module).is(2, "", line);
     }
@@ -230,13 +230,13 @@ fn every_byte_of_every_field() {
         assert_eq!(line, expected);
     }
     assert_eq!(shown.text().lines().count(), 258);
-    // Two of them typed by hand.
+    // Two cells, typed by hand.
     let text = shown.text();
     assert!(text.contains("\n95      ?5F 5F [5F]A0 [A0]5F\n"), "{text}");
     assert!(text.contains("\n71      G-4 47 [47]B8 [B8]47\n"), "{text}");
 }
 
-/// Every cell of generated modules is what the second program shows.
+/// Every cell of generated modules is printed as the second program shows it.
 #[test]
 fn modules_of_the_generator() {
     let names = [
@@ -244,7 +244,7 @@ fn modules_of_the_generator() {
     ];
     let mut patterns = 0;
     for seed in 1..=60 {
-        let module = module(&mut Random::new(seed), &Most::SMALL).bytes();
+        let module = module(&mut Random::new(seed), &Limits::SMALL).bytes();
         let info = records::info(&module).expect("accepted");
         for pattern in 0..info.patterns {
             let rows = records::pattern(&module, pattern).expect("accepted");

@@ -1,11 +1,11 @@
-//! `dbm0 check`: its lines, typed by hand, and its exit statuses.
+//! `dbm0 check`: the lines, typed by hand, and the exit statuses.
 
 mod common;
 
 use common::{run, run_on, sample, sample_bytes, text, Folder};
 use reference::draft::{Chunk, Draft, Envelope, Instrument, Pattern, Sample, Song, Tune};
 
-/// The check of a module from standard input prints this line behind the file's name.
+/// Checks a module from standard input. The program prints the file's name and this text.
 #[track_caller]
 fn says(module: &[u8], line: &str) {
     let status = if line == "accepted" { 0 } else { 1 };
@@ -19,8 +19,8 @@ fn song(name: &[u8], playlist: &[u16]) -> Song {
     }
 }
 
-/// Two songs, two instruments, two patterns of 2 rows, two samples, an envelope of each kind. The chunks stand at: NAME 8, INFO 60,
-/// VENV 78, PENV 224, SONG 370, INST 476, PATT 584, SMPL 616.
+/// Two songs, two instruments, two patterns of 2 rows, two samples, and an envelope of each kind. The chunks are at these places: NAME 8,
+/// INFO 60, VENV 78, PENV 224, SONG 370, INST 476, PATT 584, SMPL 616.
 fn tune() -> Tune {
     let stream = [2, 3, 0x47, 1, 0, 0];
     Tune {
@@ -114,9 +114,9 @@ fn refusal_1() {
     module.chunks.pop();
     module.chunks.push(Chunk::new(b"FILL", vec![7; room + 1]));
     says(&module.bytes(), words);
-    // More than is ever read.
+    // Longer than what the program reads.
     says(&vec![b'D'; 40_000_000], words);
-    // An input without end.
+    // An endless input.
     run(&["check", "/dev/zero"]).is(1, &format!("/dev/zero: {words}\n"), "");
 }
 
@@ -302,7 +302,7 @@ fn refusal_10() {
     }
 }
 
-/// The module with one change of a chunk's data.
+/// The module with one change in a chunk's data.
 fn changed(name: &[u8; 4], change: impl Fn(&mut Vec<u8>)) -> Vec<u8> {
     let mut draft = tune().draft();
     change(&mut draft.chunk(name).data);
@@ -361,7 +361,7 @@ fn refusal_11() {
     );
 }
 
-/// The module with other bytes at an offset of a chunk's data.
+/// The module with other bytes at an offset in a chunk's data.
 fn put(name: &[u8; 4], offset: usize, bytes: &[u8]) -> Vec<u8> {
     let mut draft = tune().draft();
     draft.put(name, offset, bytes);
@@ -524,7 +524,7 @@ fn refusal_15() {
     }
 }
 
-/// A file that cannot be read is told on standard error, the others are checked, and the status is 2.
+/// A file that cannot be read is reported on standard error. The others are checked, and the status is 2.
 #[test]
 fn unreadable_files() {
     let good = sample("carousel.dbm");
@@ -558,10 +558,10 @@ fn unreadable_files() {
     );
 }
 
-/// Numbers and places of the format's papers, from a module of their own.
+/// The numbers and places of the examples in the format's documents, from a module made for them.
 #[test]
 fn the_line_of_the_register() {
-    // Instrument 7 of a module, whose sample 3 has 100 frames.
+    // Instrument 7 of a module. Its sample 3 has 100 frames.
     let tune = Tune {
         samples: vec![
             Sample::new(1, &[0; 8]),

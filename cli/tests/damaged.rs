@@ -1,4 +1,4 @@
-//! Damaged files and any bytes: no panic, the number and the place that the second program gives, and words for them.
+//! Damaged files and random bytes: no panic, the same number and place as the second program, and a description.
 
 mod common;
 
@@ -6,14 +6,14 @@ use std::collections::BTreeMap;
 use std::path::PathBuf;
 
 use common::{run, run_on, sample_bytes, text, Folder};
-use reference::generate::{self, Most, Random};
+use reference::generate::{self, Limits, Random};
 use reference::module;
 use reference::tunes;
 
-/// How many files one run of the program checks.
+/// The number of files that one run of the program checks.
 const AT_ONCE: usize = 250;
 
-/// Checks modules in runs of many files, and compares each line. Gives how often each number came, 0 for accepted.
+/// Checks modules in runs of many files, and compares each line. Returns how often each number occurs; 0 is accepted.
 fn compare(modules: &[Vec<u8>]) -> BTreeMap<u64, u32> {
     let mut numbers = BTreeMap::new();
     for some in modules.chunks(AT_ONCE) {
@@ -41,15 +41,15 @@ fn compare(modules: &[Vec<u8>]) -> BTreeMap<u64, u32> {
     numbers
 }
 
-/// The line of a module is what the second program says of it. Gives the number of the refusal.
+/// The line of a module agrees with the second program. Returns the number of the refusal.
 fn compare_line(module: &[u8], file: &str, line: &str) -> u64 {
     let Err(refusal) = module::check(module) else {
         assert_eq!(line, format!("{file}: accepted"));
         return 0;
     };
-    let due = format!("{file}: refused {} at {}: ", refusal.number, refusal.place);
-    let Some(words) = line.strip_prefix(&due) else {
-        panic!("{line}\nshould begin with {due}\nmodule {module:02x?}");
+    let expected = format!("{file}: refused {} at {}: ", refusal.number, refusal.place);
+    let Some(words) = line.strip_prefix(&expected) else {
+        panic!("{line}\nshould begin with {expected}\nmodule {module:02x?}");
     };
     assert!(
         words.bytes().all(|byte| (b' '..=b'~').contains(&byte)),
@@ -62,7 +62,7 @@ fn compare_line(module: &[u8], file: &str, line: &str) -> u64 {
     refusal.number
 }
 
-/// The words say in what the fault lies.
+/// The description names the part that is at fault.
 fn names_its_place(number: u64, words: &str) -> bool {
     let begins = |with: &[&str]| with.iter().any(|with| words.starts_with(with));
     match number {
@@ -90,16 +90,16 @@ fn names_its_place(number: u64, words: &str) -> bool {
     }
 }
 
-/// Modules of the generator with one to three faults.
+/// Generated modules with one to three faults.
 #[test]
 fn damaged_modules() {
     let mut modules = Vec::new();
     for seed in 1..=4_000 {
         let mut random = Random::new(seed);
         let most = if seed % 4 == 0 {
-            Most::USUAL
+            Limits::USUAL
         } else {
-            Most::SMALL
+            Limits::SMALL
         };
         let mut draft = generate::module(&mut random, &most);
         for _ in 0..1 + random.below(3) {
@@ -116,7 +116,7 @@ fn damaged_modules() {
     }
 }
 
-/// The samples with bytes changed, cut off, taken out and put in.
+/// The samples with bytes changed, cut off, removed and inserted.
 #[test]
 fn damaged_samples() {
     let mut modules = Vec::new();
@@ -129,7 +129,7 @@ fn damaged_samples() {
     compare(&modules);
 }
 
-/// Every byte of a sample changed in turn, and every length of it.
+/// A sample with each byte changed in turn, and with each length.
 #[test]
 fn every_byte_and_every_length() {
     let carousel = sample_bytes("carousel.dbm");
@@ -145,7 +145,7 @@ fn every_byte_and_every_length() {
     compare(&modules);
 }
 
-/// Any bytes, with and without the letters in front.
+/// Random bytes, with and without the letters at the beginning.
 #[test]
 fn any_bytes() {
     let mut modules = Vec::new();
@@ -163,14 +163,14 @@ fn any_bytes() {
     compare(&modules);
 }
 
-/// The other commands on damaged modules: the refusal as the check words it, and no output; or what they should do.
+/// The other commands on damaged modules: the line of the check and no output, or the command's normal result.
 #[test]
 fn the_other_commands() {
     let folder = Folder::new();
     let out = folder.0.join("out.dbm");
     for seed in 1..=300 {
         let mut random = Random::new(9_000 + seed);
-        let mut draft = generate::module(&mut random, &Most::SMALL);
+        let mut draft = generate::module(&mut random, &Limits::SMALL);
         generate::damage(&mut random, &mut draft);
         let module = draft.bytes();
         let check = run_on(&["check", "-"], &module);
@@ -185,7 +185,7 @@ fn the_other_commands() {
         ] {
             let run = run_on(arguments, &module);
             if accepted {
-                // There may be no pattern 0.
+                // Pattern 0 may not exist.
                 let fine =
                     run.status == Some(0) || arguments[0] == "cells" && run.status == Some(2);
                 assert!(fine, "seed {seed}: {run:?}");

@@ -1,4 +1,4 @@
-//! The example runs in README.md and docs/CLI.md print what stands there.
+//! The example runs in README.md and docs/CLI.md print what the documents show.
 
 mod common;
 
@@ -12,7 +12,7 @@ fn root() -> PathBuf {
     Path::new(env!("CARGO_MANIFEST_DIR")).join("..")
 }
 
-/// The example runs of a document: lines `    $ dbm0 ..`, and the lines that follow as indented text.
+/// The example runs of a document: lines `    $ dbm0 ..`, each followed by its output as indented text.
 fn examples(document: &str) -> Vec<(String, String)> {
     let mut examples: Vec<(String, String)> = Vec::new();
     let mut inside = false;
@@ -33,7 +33,7 @@ fn examples(document: &str) -> Vec<(String, String)> {
     examples
 }
 
-/// What a command prints in the root of the repository, on standard output and standard error, with the program in the path.
+/// The output of a command on standard output and standard error. It runs in the root of the repository, with the program in the path.
 fn printed(command: &str) -> String {
     let folder = Path::new(PROGRAM).parent().expect("a folder");
     let path = std::env::var_os("PATH").unwrap_or_default();
@@ -68,7 +68,7 @@ fn cli() {
     holds_for("docs/CLI.md", 6);
 }
 
-/// Every name of a field in JSON stands in the document of the schema.
+/// The document of the schema has the name of every JSON field.
 #[test]
 fn schema() {
     let text = fs::read_to_string(root().join("docs/CLI.md")).expect("the document is there");

@@ -1,7 +1,7 @@
-//! `dbm0 repack` on a disk that is full, and on one that is read-only: nothing is lost, and nothing is left behind.
+//! `dbm0 repack` on a full disk and on a read-only disk: nothing is lost, and no temporary file remains.
 //!
-//! The disk is a small file system in memory, mounted where only the test sees it. Where that is not allowed, the tests are not run, and
-//! counted as ignored. (The tests in repack.rs have a limit on a file's length, which needs no rights, and folders without rights.)
+//! The disk is a small file system in memory, mounted in a name space of its own. If that is not allowed, the tests do not run and are
+//! counted as ignored. (The tests in repack.rs use a file size limit, which needs no privileges, and folders without permissions.)
 
 mod common;
 
@@ -10,7 +10,7 @@ use std::process::{Command, ExitCode};
 use common::{text, Folder, PROGRAM};
 use reference::draft::{Sample, Tune};
 
-/// A shell script runs with `$program`, `$module` (of 40,000 bytes) and `$disk` (64 KiB in memory, in its own name space).
+/// A shell script runs with `$program`, `$module` (40,000 bytes) and `$disk` (64 KiB in memory, in its own name space).
 const PREPARED: &str = r#"
 program=$0 module=$1 disk=$2
 mount -t tmpfs -o size=64k tmpfs "$disk" || exit 77
@@ -46,15 +46,15 @@ cmp "$module" "$disk/tune.dbm" || complain "the file was changed"
 [ "$(ls -A "$disk")" = tune.dbm ] || complain "there are other files: $(ls -A "$disk")"
 "#;
 
-/// What came of a test.
+/// The result of a test.
 enum Outcome {
     Passed,
     Failed(String),
-    /// No such disk can be had here.
+    /// Such a disk is not available here.
     NotRun(String),
 }
 
-/// Root can mount a disk; others can where they may have a name space in which they are root.
+/// Root can mount a disk. Other users can if they may create a name space in which they are root.
 fn on_a_disk(script: &str) -> Outcome {
     match unshared(&["--mount"], script) {
         Outcome::NotRun(_) => unshared(&["--mount", "--map-root-user"], script),

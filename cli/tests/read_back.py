@@ -1,6 +1,6 @@
-"""Reads reports in JSON back, with python3's json.
+"""Parses JSON reports with python3's json.
 
-    python3 read_back.py leaves FILE..    every value with its path, one a line; a line with the file's name before each
+    python3 read_back.py leaves FILE..    every value with its path, one on each line, after a line with the file's name
     python3 read_back.py page FILE..      the text report, made from the JSON alone
 """
 import json
@@ -9,7 +9,7 @@ import sys
 
 def object_of(pairs):
     names = [name for name, _ in pairs]
-    assert len(names) == len(set(names)), f"a name stands twice: {names}"
+    assert len(names) == len(set(names)), f"a name occurs twice: {names}"
     return dict(pairs)
 
 
@@ -26,7 +26,7 @@ def leaves(path, value):
 
 
 def text(name):
-    """A name as the page has it. The bytes tell the same as the text."""
+    """A name as in the text report. The bytes agree with the text."""
     stored = bytes.fromhex(name["hex"]).rstrip(b"\0")
     shown = "".join(chr(byte) if 32 <= byte < 127 and byte not in b'"\\' else f"\\x{byte:02x}" for byte in stored)
     assert shown == name["text"], name
@@ -48,19 +48,19 @@ def loop(instrument):
     return f"{stored['kind']} loop {numbers}"
 
 
-def envelope(told):
-    flags = told["flags"]
-    assert told["on"] == bool(flags & 1)
-    assert len(told["points"]) == told["sections"] + 1
-    yield f"instrument {told['instrument']}"
-    yield "on" if told["on"] else "off"
+def envelope(record):
+    flags = record["flags"]
+    assert record["on"] == bool(flags & 1)
+    assert len(record["points"]) == record["sections"] + 1
+    yield f"instrument {record['instrument']}"
+    yield "on" if record["on"] else "off"
     if flags & 2:
-        yield f"first sustain at point {told['first_sustain']}"
+        yield f"first sustain at point {record['first_sustain']}"
     if flags & 4:
-        yield f"loop from point {told['loop_first']} to {told['loop_last']}"
+        yield f"loop from point {record['loop_first']} to {record['loop_last']}"
     if flags & 8:
-        yield f"second sustain at point {told['second_sustain']}"
-    yield "points " + " ".join(f"{position}:{value}" for position, value in told["points"])
+        yield f"second sustain at point {record['second_sustain']}"
+    yield "points " + " ".join(f"{position}:{value}" for position, value in record["points"])
 
 
 def numbered(records, first):
@@ -95,8 +95,8 @@ def page(report):
             f"{many(sample['length'], 'byte')}"
         )
     for kind in ("volume", "panning"):
-        for told in numbered(report[f"{kind}_envelopes"], 0):
-            yield f"{kind} envelope {told['number']}: {', '.join(envelope(told))}"
+        for record in numbered(report[f"{kind}_envelopes"], 0):
+            yield f"{kind} envelope {record['number']}: {', '.join(envelope(record))}"
 
 
 def main():

@@ -1,4 +1,4 @@
-//! `dbm0 repack`: what it writes, and that it writes whole files or nothing.
+//! `dbm0 repack`: the bytes that it writes, and that it writes a whole file or nothing.
 
 mod common;
 
@@ -10,10 +10,10 @@ use std::process::{Command, Stdio};
 
 use common::{run, run_on, sample, sample_bytes, text, Folder, Run, PROGRAM};
 use reference::draft::{Pattern, Tune};
-use reference::generate::{module, Most, Random};
+use reference::generate::{module, Limits, Random};
 use reference::repack::repack;
 
-/// A module of about 4,000 bytes that can be repacked to half of that.
+/// A module of about 4,000 bytes that repacks to half of that.
 fn wasteful() -> Vec<u8> {
     let stream = [[1, 1, 0x40, 1, 1, 0x47].repeat(300), vec![0]].concat();
     let fresh = [[1, 0x3F, 1, 2, 3, 4, 5, 6, 0].repeat(200)].concat();
@@ -24,7 +24,7 @@ fn wasteful() -> Vec<u8> {
     tune.bytes()
 }
 
-/// What the second program makes of it.
+/// The module repacked by the second program.
 fn repacked(module: &[u8]) -> Vec<u8> {
     let mut out = vec![0; module.len()];
     let length = repack(module, &mut out).expect("an accepted module");
@@ -58,7 +58,7 @@ fn files() {
     run(&["repack", text(&from), text(&to)]).is(0, &line, "");
     holds(&to, &short);
     holds(&from, &module);
-    // Again, over the file that is there; nothing is saved then.
+    // Again, over the existing file. Nothing is saved this time.
     let again = folder.0.join("again.dbm");
     let length = short.len();
     let line = format!(
@@ -82,7 +82,7 @@ fn the_same_file() {
     assert_eq!(folder.names(), ["tune.dbm"]);
 }
 
-/// A name without a folder is one in the working folder.
+/// A name without a folder is in the working folder.
 #[test]
 fn in_the_working_folder() {
     let folder = Folder::new();
@@ -122,7 +122,7 @@ fn standard_input_and_output() {
 fn modules_of_the_generator() {
     let mut shorter = 0;
     for seed in 1..=300 {
-        let module = module(&mut Random::new(seed), &Most::USUAL).bytes();
+        let module = module(&mut Random::new(seed), &Limits::USUAL).bytes();
         let run = run_on(&["repack", "-", "-"], &module);
         let expected = repacked(&module);
         assert_eq!(run.status, Some(0), "seed {seed}");
@@ -132,7 +132,7 @@ fn modules_of_the_generator() {
     assert!(shorter > 50, "{shorter} were shorter");
 }
 
-/// A refused module writes nothing: neither a new file nor over one that is there.
+/// For a refused module nothing is written: no new file, and an existing file is unchanged.
 #[test]
 fn refused() {
     let folder = Folder::new();
@@ -149,7 +149,7 @@ fn refused() {
     assert_eq!(folder.names(), ["there.dbm"]);
 }
 
-/// Whatever OUT is that cannot be written, it stays as it is and no other file is left.
+/// If OUT cannot be written, it is unchanged and no other file remains.
 #[test]
 fn out_cannot_be_written() {
     let folder = Folder::new();
@@ -181,7 +181,7 @@ fn out_cannot_be_written() {
     assert_eq!(folder.names(), ["file", "link"]);
 }
 
-/// What is no regular file is never replaced by one: a pipe or a socket, and a device likewise.
+/// Only a regular file is replaced. Pipes, sockets and devices are not.
 #[test]
 fn special_files_stay() {
     let carousel = sample("carousel.dbm");
@@ -204,7 +204,7 @@ fn special_files_stay() {
     assert_eq!(folder.names(), ["pipe", "socket"]);
 }
 
-/// IN cannot be read: OUT stays.
+/// If IN cannot be read, OUT is unchanged.
 #[test]
 fn in_cannot_be_read() {
     let folder = Folder::new();
@@ -217,7 +217,7 @@ fn in_cannot_be_read() {
     assert_eq!(folder.names(), ["there.dbm"]);
 }
 
-/// The permissions of a file that is replaced are kept; a new one has the usual ones.
+/// A file that is replaced keeps its permissions. A new file has the default ones.
 #[test]
 fn permissions() {
     let folder = Folder::new();
@@ -239,7 +239,7 @@ fn permissions() {
     assert_eq!(fs::metadata(&new).expect("there").permissions(), usual);
 }
 
-/// A link stays a link; the file that it leads to is replaced.
+/// A link remains a link. The file that it refers to is replaced.
 #[test]
 fn links() {
     let folder = Folder::new();
@@ -257,13 +257,13 @@ fn links() {
     assert_eq!(folder.names(), ["in.dbm", "link.dbm", "other"]);
 }
 
-/// Files that have the names of the temporary ones are not touched.
+/// Existing files with the names of temporary files are not touched.
 #[test]
 fn temporary_names_that_are_taken() {
     let folder = Folder::new();
     let module = wasteful();
     let from = folder.file("in.dbm", &module);
-    // The shell becomes the program, so its number is the program's.
+    // The shell executes the program in its own process, so both have the same process number.
     let script =
         "for n in 0 1 2; do echo taken >.dbm0-$$-$n.tmp; done; exec \"$0\" repack \"$1\" out.dbm";
     let output = Command::new("sh")
@@ -290,11 +290,11 @@ fn through_shell(command: &str, from: &Path, to: &Path) -> Run {
     Run::of(output)
 }
 
-/// A file that would grow past the limit of the process: as on a full disk, nothing is lost and nothing is left.
+/// A file that would exceed the process's file size limit: as on a full disk, nothing is lost and no other file remains.
 #[test]
 fn a_file_too_large() {
     let folder = Folder::new();
-    // More than one block of 512 or 1,024 bytes also when it is repacked.
+    // Repacked it is still longer than one block of 512 or 1,024 bytes.
     let from = folder.file("in.dbm", &wasteful());
     let to = folder.file("out.dbm", b"stays");
     let limited = "ulimit -f 1; exec \"$0\" repack \"$1\" \"$2\"";
@@ -303,7 +303,7 @@ fn a_file_too_large() {
     holds(&to, b"stays");
     through_shell(limited, &from, &folder.0.join("new.dbm"))
         .fails("new.dbm: cannot be written, nothing was changed");
-    // IN is OUT.
+    // IN and OUT are the same file.
     through_shell(limited, &from, &from).fails("in.dbm: cannot be written, nothing was changed");
     holds(&from, &wasteful());
     assert_eq!(folder.names(), ["in.dbm", "out.dbm"]);
@@ -325,7 +325,7 @@ fn standard_output_is_full() {
         .output()
         .expect("the program runs");
     Run::of(output).fails("standard output: cannot be written: No space left on device: make room or send it elsewhere");
-    // The file is written whole, but nobody hears of it.
+    // The file is written, but the summary cannot be printed.
     let folder = Folder::new();
     let to = folder.0.join("out.dbm");
     let output = Command::new(PROGRAM)
@@ -338,9 +338,9 @@ fn standard_output_is_full() {
     assert_eq!(folder.names(), ["out.dbm"]);
 }
 
-/// Runs the program as a user without any rights, where the tests run as root; permissions would not stop root.
+/// Runs the program as a user without permissions if the tests run as root, since permissions do not restrict root.
 fn as_nobody(folder: &Folder, arguments: &[&str]) -> Run {
-    // The program may stand where nobody else may look.
+    // The program may be in a folder that other users cannot read.
     let program = folder.0.join("program");
     if !program.exists() {
         fs::copy(PROGRAM, &program).expect("copied");
@@ -367,7 +367,7 @@ fn set_mode(path: &Path, mode: u32) {
     fs::set_permissions(path, Permissions::from_mode(mode)).expect("set");
 }
 
-/// A folder that may not be written to, a file that may not be replaced, a file that may not be read.
+/// A folder without write permission, a file without write permission, and a file without read permission.
 #[test]
 fn without_rights() {
     let outer = Folder::new();
@@ -387,19 +387,19 @@ fn without_rights() {
     }
     holds(&there, b"stays");
     assert_eq!(common::names(&folder), ["there.dbm"]);
-    // The folder may be written to, the file in it may not.
+    // The folder has write permission, the file in it does not.
     set_mode(&folder, 0o777);
     set_mode(&there, 0o444);
     let run = as_nobody(&outer, &["repack", text(&from), text(&there)]);
     run.fails("cannot be written, nothing was changed: Permission denied: choose another file");
     holds(&there, b"stays");
     assert_eq!(common::names(&folder), ["there.dbm"]);
-    // And both may: this is no test of something else that fails.
+    // With both permissions it works, so the failures above are caused by the permissions.
     set_mode(&there, 0o666);
     let run = as_nobody(&outer, &["repack", text(&from), text(&there)]);
     assert_eq!(run.status, Some(0), "{run:?}");
     holds(&there, &repacked(&module));
-    // A file that may not be read.
+    // A file without read permission.
     set_mode(&from, 0o000);
     for command in [
         &["check", text(&from)][..],
@@ -412,7 +412,7 @@ fn without_rights() {
     holds(&there, &repacked(&module));
 }
 
-/// The largest module there may be, from file to file.
+/// The largest possible module, from file to file.
 #[test]
 fn a_large_module() {
     let row = [[1u8, 0x3F, 1, 2, 3, 4, 5, 6].repeat(31), vec![0]].concat();

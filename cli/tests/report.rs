@@ -1,4 +1,4 @@
-//! `dbm0 report`: its text typed by hand, its JSON read back by python3 and compared with the second program.
+//! `dbm0 report`: the text, typed by hand; and the JSON, parsed by python3 and compared with the second program.
 
 mod common;
 
@@ -8,7 +8,7 @@ use std::process::Command;
 
 use common::{escaped, run, run_on, sample, sample_bytes, text, Folder, PROGRAM};
 use reference::draft::{Chunk, Envelope, Instrument, Pattern, Sample, Song, Tune};
-use reference::generate::{module, Most, Random};
+use reference::generate::{module, Limits, Random};
 use reference::module::read;
 use reference::records::{self, Kind};
 
@@ -99,7 +99,7 @@ fn the_samples() {
     run_on(&["report", "-", "--json"], &sample_bytes("smallest.dbm")).is(0, SMALLEST_JSON, "");
 }
 
-/// A refused module: the line of the check on standard error, and nothing else.
+/// For a refused module the line of the check is on standard error, and nothing else is printed.
 #[test]
 fn refused() {
     let file = sample("short-organ.dbm");
@@ -122,7 +122,7 @@ fn unreadable() {
     run(&["report", "/"]).fails("/: cannot be read: Is a directory: name the files in it");
 }
 
-/// Runs read_back.py over reports, and gives what it prints for each.
+/// Runs read_back.py on reports, and returns its output for each.
 fn read_back(how: &str, reports: &[PathBuf]) -> Vec<String> {
     let script = Path::new(env!("CARGO_MANIFEST_DIR")).join("tests/read_back.py");
     let output = Command::new("python3")
@@ -150,7 +150,7 @@ fn read_back(how: &str, reports: &[PathBuf]) -> Vec<String> {
     pages
 }
 
-/// Writes a module, its report in JSON, and gives the report in text.
+/// Writes a module and its JSON report, and returns its text report.
 fn reported(folder: &Folder, name: &str, module: &[u8]) -> (PathBuf, String) {
     let file = folder.file(&format!("{name}.dbm"), module);
     let as_json = run(&["report", "--json", text(&file)]);
@@ -161,7 +161,7 @@ fn reported(folder: &Folder, name: &str, module: &[u8]) -> (PathBuf, String) {
     (report, as_text.text())
 }
 
-/// The reports of modules are what the second program says, in JSON, and what the JSON says, in text.
+/// The JSON reports of modules agree with the second program, and the text reports agree with the JSON.
 fn compare(modules: &[Vec<u8>]) {
     let folder = Folder::new();
     let (reports, pages): (Vec<PathBuf>, Vec<String>) = modules
@@ -182,7 +182,7 @@ fn compare(modules: &[Vec<u8>]) {
     }
 }
 
-/// Every value of a report in JSON with its path, as the second program has it.
+/// Every value of a JSON report with its path, as the second program has it.
 fn expected_leaves(file: &str, module: &[u8]) -> String {
     let mut leaves = Leaves::default();
     let info = records::info(module).expect("an accepted module");
@@ -330,19 +330,19 @@ fn the_samples_in_json() {
 #[test]
 fn modules_of_the_generator() {
     let usual: Vec<Vec<u8>> = (1..=250)
-        .map(|seed| module(&mut Random::new(seed), &Most::USUAL).bytes())
+        .map(|seed| module(&mut Random::new(seed), &Limits::USUAL).bytes())
         .collect();
     compare(&usual);
     let small: Vec<Vec<u8>> = (1..=150)
-        .map(|seed| module(&mut Random::new(1_000 + seed), &Most::SMALL).bytes())
+        .map(|seed| module(&mut Random::new(1_000 + seed), &Limits::SMALL).bytes())
         .collect();
     compare(&small);
 }
 
-/// As many of each thing as there may be, but for the songs, of which there are many.
+/// The maximum number of every item except songs, and many songs.
 #[test]
 fn many_records() {
-    let most = Most {
+    let most = Limits {
         songs: 400,
         entries: 90,
         instruments: 255,
@@ -365,13 +365,13 @@ fn many_records() {
     compare(&modules);
 }
 
-/// Names with every byte, at every kind of name; and 255 of everything.
+/// Names with every byte, in every kind of name, and 255 of each item.
 #[test]
 fn names_of_all_bytes() {
     let all: Vec<u8> = (0..=255).collect();
     let mut long: Vec<Vec<u8>> = all.chunks(44).map(<[u8]>::to_vec).collect();
     let mut short: Vec<Vec<u8>> = all.chunks(30).map(<[u8]>::to_vec).collect();
-    // Each byte also as the first and the last but one; zeros in the middle and at both ends.
+    // Each byte also as the first byte and as the last but one, and zeros in the middle and at both ends.
     for &byte in &all {
         let mut name = vec![b'a'; 44];
         name[0] = byte;
@@ -436,7 +436,7 @@ fn names_by_hand() {
     assert_eq!(with(&[b' '; 44]), format!("name \"{}\"", " ".repeat(44)));
 }
 
-/// The kinds of loops, and what is stored of one that is none.
+/// The kinds of loops, and the stored numbers of a loop that is off.
 #[test]
 fn loops() {
     let looped = |start, length, flags| {
@@ -474,7 +474,7 @@ fn loops() {
     assert_eq!(looped(0, 0, 1), "no loop");
 }
 
-/// A module of 16 MiB: packed rows, samples and other chunks, with the most instruments, patterns and samples.
+/// A module of 16 MiB: packed rows, samples and other chunks, with the maximum number of instruments, patterns and samples.
 #[test]
 fn large_modules() {
     let stream = [[1u8, 0x3F, 1, 2, 3, 4, 5, 6].repeat(100), vec![0]]
@@ -519,7 +519,7 @@ fn large_modules() {
     );
 }
 
-/// The page of a module, as the second program has taken it apart.
+/// The text report of a module, made from the second program's records.
 fn expected_page(bytes: &[u8]) -> String {
     let module = read(bytes).expect("an accepted module");
     let (header, info) = (module.header, module.info);
@@ -587,7 +587,7 @@ fn expected_page(bytes: &[u8]) -> String {
     page
 }
 
-/// As many songs as there may be, and very many envelopes: both reports are what the second program says.
+/// The maximum number of songs, and very many envelopes: both reports agree with the second program.
 #[test]
 fn very_many_records() {
     let envelopes = |count: u32, least: i16| {
@@ -633,7 +633,7 @@ fn very_many_records() {
     }
 }
 
-/// A file whose name cannot stand in a line or in JSON as it is.
+/// A file whose name contains bytes that are escaped in text and in JSON.
 #[test]
 fn file_names() {
     use std::os::unix::ffi::OsStrExt;

@@ -1,4 +1,4 @@
-//! Arguments, help, and standard input and output that are not as one would like them.
+//! Arguments, help, the version, and unusual standard input and output.
 
 mod common;
 
@@ -31,18 +31,18 @@ fn help() {
         run(arguments).is(0, &program.text(), "");
     }
     for command in ["check", "report", "cells", "repack"] {
-        let told = run(&[command, "--help"]);
-        assert_eq!((told.status, told.err.as_str()), (Some(0), ""));
+        let shown = run(&[command, "--help"]);
+        assert_eq!((shown.status, shown.err.as_str()), (Some(0), ""));
         assert!(
-            told.text().starts_with(&format!("usage: dbm0 {command} ")),
+            shown.text().starts_with(&format!("usage: dbm0 {command} ")),
             "{command}"
         );
-        assert!(told.text().contains("exit status:\n  0  "), "{command}");
-        run(&[command, "-h"]).is(0, &told.text(), "");
-        run(&["help", command]).is(0, &told.text(), "");
-        // Wherever it stands.
-        run(&[command, "a", "b", "c", "--help"]).is(0, &told.text(), "");
-        for line in told.text().lines().chain(program.text().lines()) {
+        assert!(shown.text().contains("exit status:\n  0  "), "{command}");
+        run(&[command, "-h"]).is(0, &shown.text(), "");
+        run(&["help", command]).is(0, &shown.text(), "");
+        // At any position.
+        run(&[command, "a", "b", "c", "--help"]).is(0, &shown.text(), "");
+        for line in shown.text().lines().chain(program.text().lines()) {
             assert!(line.len() <= 120 && line.is_ascii(), "{line}");
         }
     }
@@ -110,7 +110,7 @@ fn wrong_arguments() {
     }
 }
 
-/// Any bytes as arguments: a message, and the status 2.
+/// Random bytes as arguments: a message, and status 2.
 #[test]
 fn arguments_of_any_bytes() {
     let wild: [&[u8]; 6] = [
@@ -129,7 +129,7 @@ fn arguments_of_any_bytes() {
                     OsStr::from_bytes(one),
                     OsStr::from_bytes(other),
                 ]);
-                // Standard input is empty, and no module.
+                // Standard input is empty, which is not a module.
                 assert!(matches!(run.status, Some(1 | 2)), "{run:?}");
                 assert!(!run.err.contains('\x1b'), "{run:?}");
             }
@@ -137,7 +137,7 @@ fn arguments_of_any_bytes() {
     }
 }
 
-/// Behind -- every argument is a file.
+/// After -- every argument is a file.
 #[test]
 fn files_that_look_like_options() {
     let folder = Folder::new();
@@ -165,7 +165,7 @@ fn files_that_look_like_options() {
     in_folder(&["check", "--", "-"]).is(1, nothing, "");
 }
 
-/// A pattern that prints more than a pipe holds.
+/// A pattern whose text is longer than the buffer of a pipe.
 fn long() -> Vec<u8> {
     let tune = Tune {
         patterns: vec![Pattern::new(20_000, &vec![0; 20_000])],
@@ -174,7 +174,7 @@ fn long() -> Vec<u8> {
     tune.bytes()
 }
 
-/// Runs the program with a reader of standard output that goes after so many bytes.
+/// Runs the program with a reader that closes standard output after this many bytes.
 fn with_short_reader(arguments: &[&str], bytes: usize) -> Run {
     let mut child = Command::new(PROGRAM)
         .args(arguments)
@@ -191,7 +191,7 @@ fn with_short_reader(arguments: &[&str], bytes: usize) -> Run {
     finish_child(child)
 }
 
-/// A closed pipe ends it quietly, with the status that it would have had.
+/// A closed pipe ends the program without a message, with the same status as otherwise.
 #[test]
 fn a_closed_pipe() {
     let folder = Folder::new();
@@ -208,14 +208,14 @@ fn a_closed_pipe() {
         with_short_reader(arguments, 0).is(0, "", "");
     }
     let refused = sample("short-organ.dbm");
-    // Many lines, and behind them the only module that is refused.
+    // Many lines. The last module is the only one that is refused.
     let mut arguments = vec!["check"];
     arguments.extend(vec![text(&carousel); 3_000]);
     arguments.push(text(&refused));
     with_short_reader(&arguments, 10).is(1, "", "");
 }
 
-/// Standard output on a full disk: a line on standard error, and the status 2.
+/// Standard output on a full disk: a line on standard error, and status 2.
 #[test]
 fn standard_output_is_full() {
     let folder = Folder::new();
@@ -243,7 +243,7 @@ fn standard_output_is_full() {
     }
 }
 
-/// Standard input, output or error that is closed or cannot be read: no panic, and a status.
+/// Standard input, output or error that is closed or cannot be read: no panic, and an exit status.
 #[test]
 fn closed_streams() {
     let carousel = sample("carousel.dbm");
@@ -267,7 +267,7 @@ fn closed_streams() {
         .fails("standard input: cannot be read: Bad file descriptor");
 }
 
-/// A pipe that gives its bytes in pieces is read to its end.
+/// A pipe that delivers its bytes in pieces is read to its end.
 #[test]
 fn a_slow_pipe() {
     let carousel = sample("carousel.dbm");
@@ -279,7 +279,7 @@ fn a_slow_pipe() {
     Run::of(output).is(0, "-: accepted\n", "");
 }
 
-/// An input without end is read no further than a module can be long.
+/// An endless input is read only up to the maximum length of a module.
 #[test]
 fn an_input_without_end() {
     let words = "refused 1 at 0: the module has more than 16777216 bytes\n";

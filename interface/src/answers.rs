@@ -1,4 +1,4 @@
-//! What the calls answer, laid out as the headers say.
+//! The answers of the calls, laid out as in the headers.
 
 /// The answer of each call on packed rows, and of each query that fills an output.
 #[repr(C)]
@@ -10,7 +10,7 @@ pub struct Answer {
 }
 
 impl Answer {
-    /// So many bytes are written.
+    /// The answer of a call that writes `length` bytes.
     pub const fn written(length: usize) -> Answer {
         Answer {
             number: 0,
@@ -36,11 +36,11 @@ pub struct ModuleAnswer {
     pub place: u64,
 }
 
-/// The answer of a query that shows a record, which is all zeros on a refusal. In C each record has its own struct, with number and
-/// place before its fields; no field needs more alignment than these two, so the layout is the same.
+/// The answer of a query that returns a record. The record is all zeros on a refusal. In C each record has its own struct, with number and
+/// place before its fields. No field needs a larger alignment than these two, so the layout is the same.
 #[repr(C)]
 #[derive(Clone, Copy, Debug, PartialEq, Eq)]
-pub struct Told<Record> {
+pub struct RecordAnswer<Record> {
     pub number: u64,
     pub place: u64,
     pub record: Record,
@@ -130,7 +130,7 @@ pub struct Sample {
     pub frames: u32,
 }
 
-/// Where the frames of a sample stand in the module, and how many bytes they have.
+/// The place of a sample's frames in the module, and their length in bytes.
 #[repr(C)]
 #[derive(Clone, Copy, Debug, Default, PartialEq, Eq)]
 pub struct Frames {

@@ -1,20 +1,20 @@
-//! The C interface of libpattern.a (include/dbm0_pattern.h) and of libdbm0.a (include/dbm0.h), made safe: each call has a function of
-//! its name without `dbm0_`, which takes slices. The command line, the tests over the archives and the benchmark have it from here.
+//! A safe interface to libpattern.a (include/dbm0_pattern.h) and libdbm0.a (include/dbm0.h). Each C function has a Rust function of the
+//! same name without `dbm0_`, which takes slices. The command line, the tests of the archives and the benchmark use it.
 
 mod answers;
 
 pub use answers::{
-    Answer, Cell, Envelope, Frames, Info, Instrument, ModuleAnswer, Name, Sample, Song, Told,
-    Version,
+    Answer, Cell, Envelope, Frames, Info, Instrument, ModuleAnswer, Name, RecordAnswer, Sample,
+    Song, Version,
 };
 
-/// The most bytes that a module may have. A longer one is refused.
+/// The maximum length of a module in bytes. A longer module is refused.
 pub const MOST_BYTES: usize = 16_777_216;
 
-/// The number of the refusal for an output that is shorter than needed. Its place is the needed length.
+/// The refusal number for an output that is shorter than needed. Its place is the needed length.
 pub const OUTPUT_TOO_SHORT: u64 = 17;
 
-/// The kinds of a cell's note.
+/// The kinds of note in a cell.
 pub const NOTE_NONE: u8 = 0;
 pub const NOTE_KEY_OFF: u8 = 1;
 pub const NOTE_PITCH: u8 = 2;
@@ -42,11 +42,12 @@ extern "C" {
 
 extern "C" {
     fn dbm0_check_module(module: *const u8, length: usize) -> ModuleAnswer;
-    fn dbm0_version(module: *const u8, length: usize) -> Told<Version>;
-    fn dbm0_name(module: *const u8, length: usize) -> Told<Name>;
-    fn dbm0_info(module: *const u8, length: usize) -> Told<Info>;
-    fn dbm0_song(module: *const u8, length: usize, song: usize) -> Told<Song>;
-    fn dbm0_entry(module: *const u8, length: usize, song: usize, entry: usize) -> Told<u16>;
+    fn dbm0_version(module: *const u8, length: usize) -> RecordAnswer<Version>;
+    fn dbm0_name(module: *const u8, length: usize) -> RecordAnswer<Name>;
+    fn dbm0_info(module: *const u8, length: usize) -> RecordAnswer<Info>;
+    fn dbm0_song(module: *const u8, length: usize, song: usize) -> RecordAnswer<Song>;
+    fn dbm0_entry(module: *const u8, length: usize, song: usize, entry: usize)
+        -> RecordAnswer<u16>;
     fn dbm0_playlist(
         module: *const u8,
         length: usize,
@@ -54,19 +55,31 @@ extern "C" {
         out: *mut u8,
         out_length: usize,
     ) -> Answer;
-    fn dbm0_instrument(module: *const u8, length: usize, instrument: usize) -> Told<Instrument>;
-    fn dbm0_volume_envelopes(module: *const u8, length: usize) -> Told<u16>;
-    fn dbm0_panning_envelopes(module: *const u8, length: usize) -> Told<u16>;
-    fn dbm0_volume_envelope(module: *const u8, length: usize, envelope: usize) -> Told<Envelope>;
-    fn dbm0_panning_envelope(module: *const u8, length: usize, envelope: usize) -> Told<Envelope>;
-    fn dbm0_rows(module: *const u8, length: usize, pattern: usize) -> Told<u16>;
+    fn dbm0_instrument(
+        module: *const u8,
+        length: usize,
+        instrument: usize,
+    ) -> RecordAnswer<Instrument>;
+    fn dbm0_volume_envelopes(module: *const u8, length: usize) -> RecordAnswer<u16>;
+    fn dbm0_panning_envelopes(module: *const u8, length: usize) -> RecordAnswer<u16>;
+    fn dbm0_volume_envelope(
+        module: *const u8,
+        length: usize,
+        envelope: usize,
+    ) -> RecordAnswer<Envelope>;
+    fn dbm0_panning_envelope(
+        module: *const u8,
+        length: usize,
+        envelope: usize,
+    ) -> RecordAnswer<Envelope>;
+    fn dbm0_rows(module: *const u8, length: usize, pattern: usize) -> RecordAnswer<u16>;
     fn dbm0_cell(
         module: *const u8,
         length: usize,
         pattern: usize,
         row: usize,
         track: usize,
-    ) -> Told<Cell>;
+    ) -> RecordAnswer<Cell>;
     fn dbm0_cells(
         module: *const u8,
         length: usize,
@@ -74,9 +87,14 @@ extern "C" {
         out: *mut u8,
         out_length: usize,
     ) -> Answer;
-    fn dbm0_sample(module: *const u8, length: usize, sample: usize) -> Told<Sample>;
-    fn dbm0_frames(module: *const u8, length: usize, sample: usize) -> Told<Frames>;
-    fn dbm0_frame(module: *const u8, length: usize, sample: usize, frame: usize) -> Told<i16>;
+    fn dbm0_sample(module: *const u8, length: usize, sample: usize) -> RecordAnswer<Sample>;
+    fn dbm0_frames(module: *const u8, length: usize, sample: usize) -> RecordAnswer<Frames>;
+    fn dbm0_frame(
+        module: *const u8,
+        length: usize,
+        sample: usize,
+        frame: usize,
+    ) -> RecordAnswer<i16>;
     fn dbm0_all_frames(
         module: *const u8,
         length: usize,
@@ -88,8 +106,8 @@ extern "C" {
     fn dbm0_repack(module: *const u8, length: usize, out: *mut u8, out_length: usize) -> Answer;
 }
 
-// All calls below are sound for the same reasons: a pointer and a length are those of a slice that lives through the call, and a
-// lent `&mut` slice overlaps no other. The answers are laid out as the headers say.
+// All calls below are sound for the same reasons. Each pointer and length come from a slice that lives through the call, and an output is a
+// `&mut` slice, which overlaps no other. The answers are laid out as in the headers.
 
 pub fn check_pattern(stream: &[u8], rows: u64, tracks: u64) -> Answer {
     unsafe { dbm0_check_pattern(stream.as_ptr(), stream.len(), rows, tracks) }
@@ -109,29 +127,29 @@ pub fn check_module(module: &[u8]) -> ModuleAnswer {
     unsafe { dbm0_check_module(module.as_ptr(), module.len()) }
 }
 
-/// The check of a module of no bytes at NULL.
+/// Checks a module of no bytes at NULL.
 pub fn check_module_at_null() -> ModuleAnswer {
-    // The header allows NULL where the length is 0.
+    // The header allows NULL if the length is 0.
     unsafe { dbm0_check_module(std::ptr::null(), 0) }
 }
 
-pub fn version(module: &[u8]) -> Told<Version> {
+pub fn version(module: &[u8]) -> RecordAnswer<Version> {
     unsafe { dbm0_version(module.as_ptr(), module.len()) }
 }
 
-pub fn name(module: &[u8]) -> Told<Name> {
+pub fn name(module: &[u8]) -> RecordAnswer<Name> {
     unsafe { dbm0_name(module.as_ptr(), module.len()) }
 }
 
-pub fn info(module: &[u8]) -> Told<Info> {
+pub fn info(module: &[u8]) -> RecordAnswer<Info> {
     unsafe { dbm0_info(module.as_ptr(), module.len()) }
 }
 
-pub fn song(module: &[u8], song: usize) -> Told<Song> {
+pub fn song(module: &[u8], song: usize) -> RecordAnswer<Song> {
     unsafe { dbm0_song(module.as_ptr(), module.len(), song) }
 }
 
-pub fn entry(module: &[u8], song: usize, entry: usize) -> Told<u16> {
+pub fn entry(module: &[u8], song: usize, entry: usize) -> RecordAnswer<u16> {
     unsafe { dbm0_entry(module.as_ptr(), module.len(), song, entry) }
 }
 
@@ -140,31 +158,31 @@ pub fn playlist(module: &[u8], song: usize, out: &mut [u8]) -> Answer {
     unsafe { dbm0_playlist(module.as_ptr(), module.len(), song, start, length) }
 }
 
-pub fn instrument(module: &[u8], instrument: usize) -> Told<Instrument> {
+pub fn instrument(module: &[u8], instrument: usize) -> RecordAnswer<Instrument> {
     unsafe { dbm0_instrument(module.as_ptr(), module.len(), instrument) }
 }
 
-pub fn volume_envelopes(module: &[u8]) -> Told<u16> {
+pub fn volume_envelopes(module: &[u8]) -> RecordAnswer<u16> {
     unsafe { dbm0_volume_envelopes(module.as_ptr(), module.len()) }
 }
 
-pub fn panning_envelopes(module: &[u8]) -> Told<u16> {
+pub fn panning_envelopes(module: &[u8]) -> RecordAnswer<u16> {
     unsafe { dbm0_panning_envelopes(module.as_ptr(), module.len()) }
 }
 
-pub fn volume_envelope(module: &[u8], envelope: usize) -> Told<Envelope> {
+pub fn volume_envelope(module: &[u8], envelope: usize) -> RecordAnswer<Envelope> {
     unsafe { dbm0_volume_envelope(module.as_ptr(), module.len(), envelope) }
 }
 
-pub fn panning_envelope(module: &[u8], envelope: usize) -> Told<Envelope> {
+pub fn panning_envelope(module: &[u8], envelope: usize) -> RecordAnswer<Envelope> {
     unsafe { dbm0_panning_envelope(module.as_ptr(), module.len(), envelope) }
 }
 
-pub fn rows(module: &[u8], pattern: usize) -> Told<u16> {
+pub fn rows(module: &[u8], pattern: usize) -> RecordAnswer<u16> {
     unsafe { dbm0_rows(module.as_ptr(), module.len(), pattern) }
 }
 
-pub fn cell(module: &[u8], pattern: usize, row: usize, track: usize) -> Told<Cell> {
+pub fn cell(module: &[u8], pattern: usize, row: usize, track: usize) -> RecordAnswer<Cell> {
     unsafe { dbm0_cell(module.as_ptr(), module.len(), pattern, row, track) }
 }
 
@@ -173,15 +191,15 @@ pub fn cells(module: &[u8], pattern: usize, out: &mut [u8]) -> Answer {
     unsafe { dbm0_cells(module.as_ptr(), module.len(), pattern, start, length) }
 }
 
-pub fn sample(module: &[u8], sample: usize) -> Told<Sample> {
+pub fn sample(module: &[u8], sample: usize) -> RecordAnswer<Sample> {
     unsafe { dbm0_sample(module.as_ptr(), module.len(), sample) }
 }
 
-pub fn frames(module: &[u8], sample: usize) -> Told<Frames> {
+pub fn frames(module: &[u8], sample: usize) -> RecordAnswer<Frames> {
     unsafe { dbm0_frames(module.as_ptr(), module.len(), sample) }
 }
 
-pub fn frame(module: &[u8], sample: usize, frame: usize) -> Told<i16> {
+pub fn frame(module: &[u8], sample: usize, frame: usize) -> RecordAnswer<i16> {
     unsafe { dbm0_frame(module.as_ptr(), module.len(), sample, frame) }
 }
 
@@ -195,16 +213,16 @@ pub fn records(module: &[u8], out: &mut [u8]) -> Answer {
     unsafe { dbm0_records(module.as_ptr(), module.len(), start, length) }
 }
 
-/// The records of a module into an output of no bytes at NULL.
+/// Writes the records of a module into an output of no bytes at NULL.
 pub fn records_into_null(module: &[u8]) -> Answer {
-    // The header allows NULL where the length is 0.
+    // The header allows NULL if the length is 0.
     unsafe { dbm0_records(module.as_ptr(), module.len(), std::ptr::null_mut(), 0) }
 }
 
-/// The records of a module of no bytes at NULL.
+/// Writes the records of a module of no bytes at NULL.
 pub fn records_of_null(out: &mut [u8]) -> Answer {
     let (start, length) = (out.as_mut_ptr(), out.len());
-    // The header allows NULL where the length is 0.
+    // The header allows NULL if the length is 0.
     unsafe { dbm0_records(std::ptr::null(), 0, start, length) }
 }
 
@@ -215,13 +233,13 @@ pub fn repack(module: &[u8], out: &mut [u8]) -> Answer {
 
 /// Repacks a module into an output of no bytes at NULL.
 pub fn repack_into_null(module: &[u8]) -> Answer {
-    // The header allows NULL where the length is 0.
+    // The header allows NULL if the length is 0.
     unsafe { dbm0_repack(module.as_ptr(), module.len(), std::ptr::null_mut(), 0) }
 }
 
 /// Repacks a module of no bytes at NULL.
 pub fn repack_null(out: &mut [u8]) -> Answer {
     let (start, length) = (out.as_mut_ptr(), out.len());
-    // The header allows NULL where the length is 0.
+    // The header allows NULL if the length is 0.
     unsafe { dbm0_repack(std::ptr::null(), 0, start, length) }
 }

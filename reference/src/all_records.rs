@@ -1,6 +1,6 @@
-//! All records of a module at once, one behind the other (Q16).
+//! Writes all records of a module, one after the other (Q16).
 //!
-//! The module is taken apart once. Each record is what its own query shows, written as bytes, all numbers big-endian.
+//! The module is parsed once. Each record equals the answer of its own query, written as bytes. All numbers are big-endian.
 
 use crate::module::{read, Module};
 use crate::pattern::put;
@@ -10,10 +10,10 @@ use crate::records::{
 };
 use crate::refusal::Refusal;
 
-/// What stands before the first song: version and revision, the name, the five numbers of INFO and the two of envelopes.
+/// The bytes before the first song: version and revision, the name, the five numbers of INFO, and the two counts of envelopes.
 pub const SUMMARY: u32 = 2 + 44 + 5 * 2 + 2 * 2;
 
-/// Writes all records, and answers how many bytes these are. Refusals: the module's own, 17.
+/// Writes all records and returns their length. Refusals: the module's own, 17.
 pub fn write(module: &[u8], out: &mut [u8]) -> Result<u64, Refusal> {
     put(&all(&read(module)?), out)
 }
@@ -62,7 +62,7 @@ fn summary(module: &Module) -> Vec<u8> {
     bytes
 }
 
-/// 46 bytes. The entries of the playlist stand behind them.
+/// 46 bytes. The entries of the playlist follow.
 fn of_song(song: &Song) -> Vec<u8> {
     let mut bytes = song.name.to_vec();
     bytes.extend(song.length.to_be_bytes());

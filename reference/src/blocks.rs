@@ -1,13 +1,13 @@
 //! The blocks of the six chunks that have blocks.
 //!
-//! Each kind of block takes itself off the front of what is left of its chunk. None: no such block stands there.
+//! Each `take` function parses a block at the beginning of the rest of its chunk. It returns None if there is no such block.
 
 use crate::part::{Field, Part};
 
-/// Points of an envelope, used or not.
+/// The number of points of an envelope, used or not.
 pub const POINTS: u64 = 32;
 
-/// A song: its name, and its playlist as numbers of two bytes.
+/// A song: its name, and its playlist as two-byte numbers.
 #[derive(Clone, Copy, Debug, PartialEq, Eq)]
 pub struct Song<'a> {
     pub place: u64,
@@ -57,7 +57,7 @@ impl<'a> Instrument<'a> {
         })
     }
 
-    /// Looped: the loop has a length, and one of the two kinds of loop is chosen.
+    /// Whether the loop has a length and one of the two kinds of loop is set.
     pub fn is_looped(&self) -> bool {
         self.loop_length.value != 0 && self.flags.value & 0b11 != 0
     }
@@ -86,7 +86,7 @@ impl<'a> Pattern<'a> {
     }
 }
 
-/// A sample: the bytes of one frame, how many frames, and the frames.
+/// A sample: the bytes of one frame, the number of frames, and the frames.
 #[derive(Clone, Copy, Debug, PartialEq, Eq)]
 pub struct Sample<'a> {
     pub place: u64,
@@ -149,7 +149,7 @@ impl<'a> Envelope<'a> {
         self.flags.value >> bit & 1 == 1
     }
 
-    /// Position and value of the points in use, one more than there are sections.
+    /// The position and the value of the points in use, one more than the number of sections.
     pub fn points_in_use(&self) -> impl Iterator<Item = (Field, Field)> + 'a {
         let in_use = self.sections.value as usize + 1;
         let mut left = self.points;
@@ -162,7 +162,7 @@ impl<'a> Envelope<'a> {
     }
 }
 
-/// So many blocks that fill the data exactly.
+/// Exactly `count` blocks that fill the data.
 pub fn all<'a, Block>(
     mut data: Part<'a>,
     count: u64,
@@ -175,7 +175,7 @@ pub fn all<'a, Block>(
     data.bytes.is_empty().then_some(blocks)
 }
 
-/// The envelopes of a chunk that begins with their count.
+/// The envelopes of a chunk, which begins with their count.
 pub fn envelopes(mut data: Part) -> Option<Vec<Envelope>> {
     let count = data.number(2)?.value;
     all(data, count, Envelope::take)

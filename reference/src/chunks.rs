@@ -1,6 +1,6 @@
 //! The header and the chunks of a module: refusals 1 to 10.
 //!
-//! The chunks are collected first, up to the end or to where no chunk stands. Then they are judged from the front.
+//! The chunks are collected first, up to the end or to the first bytes that are not a chunk. Then they are checked from the beginning.
 
 use std::collections::BTreeSet;
 use std::ops::RangeInclusive;
@@ -11,23 +11,23 @@ use crate::refusal::{
     unknown_version, wrong_info, wrong_length, Refusal,
 };
 
-/// A module has at most this many bytes.
+/// The maximum length of a module in bytes.
 pub const MOST_BYTES: u64 = 16_777_216;
 
 pub type Name = [u8; 4];
 
-/// The chunks that are looked into. Each occurs at most once.
+/// The chunks whose contents are checked. Each occurs at most once.
 pub const COVERED: [Name; 8] = [
     *b"NAME", *b"INFO", *b"SONG", *b"INST", *b"PATT", *b"SMPL", *b"VENV", *b"PENV",
 ];
 
-/// These stand behind INFO.
-pub const BEHIND_INFO: [Name; 4] = [*b"SONG", *b"INST", *b"PATT", *b"SMPL"];
+/// The chunks that follow INFO.
+pub const AFTER_INFO: [Name; 4] = [*b"SONG", *b"INST", *b"PATT", *b"SMPL"];
 
 const NAME_BYTES: u64 = 44;
 const INFO_BYTES: u64 = 10;
 
-/// The header: both bytes as stored.
+/// The header, with both bytes as stored.
 #[derive(Clone, Copy, Debug, PartialEq, Eq)]
 pub struct Header {
     pub version: u8,
@@ -111,7 +111,7 @@ fn within(field: Field, range: RangeInclusive<u64>) -> Result<u64, Refusal> {
     }
 }
 
-/// A module whose chunks are sound as far as they can be judged without looking at blocks.
+/// A module whose chunks are valid, without regard to their blocks.
 #[derive(Clone, Debug, PartialEq, Eq)]
 pub struct Chunks<'a> {
     pub header: Header,
@@ -120,7 +120,7 @@ pub struct Chunks<'a> {
 }
 
 impl<'a> Chunks<'a> {
-    /// Refusals: 1, 2, 3; then, from the front, 4, 5, 6, 7, 9, 10; then 8.
+    /// Refusals: 1, 2, 3; then, from the beginning, 4, 5, 6, 7, 9, 10; then 8.
     pub fn read(module: &'a [u8]) -> Result<Chunks<'a>, Refusal> {
         let mut left = Part::whole(module);
         let length = left.length();
@@ -129,13 +129,13 @@ impl<'a> Chunks<'a> {
         }
         let header = Header::take(&mut left)?;
         let (chunks, fault) = collect(left);
-        let info = judge(&chunks)?;
+        let info = check_chunks(&chunks)?;
         if let Some(refusal) = fault {
             return Err(refusal);
         }
         let there = |name| chunks.iter().any(|chunk| chunk.name == name);
         match info {
-            Some(info) if BEHIND_INFO.into_iter().all(there) => Ok(Chunks {
+            Some(info) if AFTER_INFO.into_iter().all(there) => Ok(Chunks {
                 header,
                 info,
                 chunks,
@@ -144,7 +144,7 @@ impl<'a> Chunks<'a> {
         }
     }
 
-    /// The first chunk of a name.
+    /// The first chunk with this name.
     pub fn find(&self, name: &Name) -> Option<Chunk<'a>> {
         self.chunks
             .iter()
@@ -153,7 +153,7 @@ impl<'a> Chunks<'a> {
     }
 }
 
-/// The chunks from the front, and the refusal if something stands behind them that is no chunk.
+/// The chunks from the beginning, and the refusal if they are followed by bytes that are not a chunk.
 fn collect(mut left: Part) -> (Vec<Chunk>, Option<Refusal>) {
     let mut chunks = Vec::new();
     while !left.bytes.is_empty() {
@@ -165,23 +165,23 @@ fn collect(mut left: Part) -> (Vec<Chunk>, Option<Refusal>) {
     (chunks, None)
 }
 
-/// The numbers of INFO, if there is one. Refusals, from the front: 6, 7, 9, 10.
-fn judge(chunks: &[Chunk]) -> Result<Option<Info>, Refusal> {
+/// The numbers of INFO, if there is one. Refusals, from the beginning: 6, 7, 9, 10.
+fn check_chunks(chunks: &[Chunk]) -> Result<Option<Info>, Refusal> {
     let mut met = BTreeSet::new();
     let mut info = None;
     for &chunk in chunks {
         if COVERED.contains(&chunk.name) && !met.insert(chunk.name) {
             return Err(repeated(chunk.place));
         }
-        if BEHIND_INFO.contains(&chunk.name) && info.is_none() {
+        if AFTER_INFO.contains(&chunk.name) && info.is_none() {
             return Err(before_info(chunk.place));
         }
-        let due = match &chunk.name {
+        let expected = match &chunk.name {
             b"NAME" => NAME_BYTES,
             b"INFO" => INFO_BYTES,
             _ => chunk.data.length(),
         };
-        if chunk.data.length() != due {
+        if chunk.data.length() != expected {
             return Err(wrong_length(chunk.place));
         }
         if chunk.name == *b"INFO" {

@@ -1,6 +1,6 @@
-//! The corpus: cases for the library, always the same ones, a part for each conformance program.
+//! The corpus: fixed test cases for the library, in one part for each conformance program.
 //!
-//! In a part the cases are one after the other, all numbers big-endian. Kinds 1 to 3 are for conformance_patterns, 4 and 5 for
+//! The cases of a part follow each other. All numbers are big-endian. Kinds 1 to 3 are for conformance_patterns, kinds 4 and 5 for
 //! conformance_modules:
 //!
 //! - kind 1, a stream: rows (8), tracks (8), row (8), track (8), room (4), length (4), the stream;
@@ -16,9 +16,9 @@ mod records;
 use crate::generate::{bytes, cells, damaged, entry, likely_bytes, sound_stream, Random};
 use crate::pattern::{pack, repack, FIELDS};
 
-/// What a case of records asks for.
+/// The numbers that a records case queries.
 #[derive(Clone, Copy, Debug, PartialEq, Eq)]
-pub struct Asked {
+pub struct Query {
     pub song: u64,
     pub entry: u64,
     pub instrument: u64,
@@ -30,7 +30,7 @@ pub struct Asked {
     pub frame: u64,
 }
 
-/// One case. `row` and `track` are those of the asked cell; `room` is how many bytes each output has.
+/// One case. `row` and `track` select a cell. `room` is the length of each output.
 #[derive(Clone, Debug, PartialEq, Eq)]
 pub enum Case {
     Stream {
@@ -53,14 +53,14 @@ pub enum Case {
         module: Vec<u8>,
     },
     Records {
-        asked: Asked,
+        query: Query,
         room: u32,
         module: Vec<u8>,
     },
 }
 
-impl Asked {
-    /// The numbers in the order of a case.
+impl Query {
+    /// The numbers in the order of the encoding.
     fn numbers(self) -> [u64; 9] {
         [
             self.song,
@@ -75,9 +75,9 @@ impl Asked {
         ]
     }
 
-    fn of(numbers: [u64; 9]) -> Asked {
+    fn of(numbers: [u64; 9]) -> Query {
         let [song, entry, instrument, envelope, pattern, row, track, sample, frame] = numbers;
-        Asked {
+        Query {
             song,
             entry,
             instrument,
@@ -91,7 +91,7 @@ impl Asked {
     }
 }
 
-/// The bytes of the cases.
+/// The encoded cases.
 pub fn encoded(cases: &[Case]) -> Vec<u8> {
     let mut corpus = Vec::new();
     for case in cases {
@@ -137,12 +137,12 @@ pub fn encoded(cases: &[Case]) -> Vec<u8> {
                 corpus.extend(module);
             }
             Case::Records {
-                asked,
+                query,
                 room,
                 module,
             } => {
                 corpus.push(5);
-                for number in asked.numbers() {
+                for number in query.numbers() {
                     corpus.extend(number.to_be_bytes());
                 }
                 corpus.extend(room.to_be_bytes());
@@ -154,7 +154,7 @@ pub fn encoded(cases: &[Case]) -> Vec<u8> {
     corpus
 }
 
-/// The case at the front of a corpus and what follows it. None: the corpus is at its end, the kind is unknown, or the case is cut.
+/// The first case of a corpus and the rest. None if the corpus is at its end, the kind is unknown, or the case is cut.
 pub fn take(corpus: &[u8]) -> Option<(Case, &[u8])> {
     let mut left = corpus;
     let case = match take_bytes(&mut left, 1)?[0] {
@@ -189,11 +189,11 @@ pub fn take(corpus: &[u8]) -> Option<(Case, &[u8])> {
             Case::Module { room, module }
         }
         5 => {
-            let asked = Asked::of(take_numbers(&mut left)?);
+            let query = Query::of(take_numbers(&mut left)?);
             let [room, length] = take_lengths(&mut left)?;
             let module = take_bytes(&mut left, length)?.to_vec();
             Case::Records {
-                asked,
+                query,
                 room,
                 module,
             }
@@ -225,7 +225,7 @@ fn take_lengths<const N: usize>(left: &mut &[u8]) -> Option<[u32; N]> {
     Some(numbers)
 }
 
-/// The name of each conformance program and its cases: packed rows and cells for the first; whole modules and then records for the second.
+/// The name of each conformance program and its cases: packed rows and cells for the first, whole modules and then records for the second.
 pub fn programs() -> [(&'static str, Vec<Case>); 2] {
     [
         ("conformance_patterns", pattern_cases()),
@@ -248,33 +248,33 @@ pub fn module_cases() -> Vec<Case> {
 
 /// The cases of kinds 1 to 3.
 pub fn pattern_cases() -> Vec<Case> {
-    let mut made = Made {
+    let mut builder = CaseBuilder {
         cases: Vec::new(),
         random: Random::new(1),
     };
-    made.register();
-    made.indices();
-    made.rooms();
-    made.masks();
-    made.unusual();
-    made.faults();
-    made.cuts_and_changes();
-    made.ranges();
-    made.many_tracks();
-    made.sound();
-    made.broken();
-    made.packed_cells();
-    made.large();
-    made.notes();
-    made.cases
+    builder.register();
+    builder.indices();
+    builder.rooms();
+    builder.masks();
+    builder.unusual();
+    builder.faults();
+    builder.cuts_and_changes();
+    builder.ranges();
+    builder.many_tracks();
+    builder.sound();
+    builder.broken();
+    builder.packed_cells();
+    builder.large();
+    builder.notes();
+    builder.cases
 }
 
-/// The cells of the pattern have this many bytes.
+/// The length of the pattern's cells in bytes.
 fn cell_bytes(rows: u64, tracks: u64) -> u32 {
     (rows * tracks) as u32 * FIELDS as u32
 }
 
-/// Three rows of four tracks in a stream that no packer writes: (entries and row ends).
+/// Three rows of four tracks, as a stream that no packer writes, split into entries and row ends.
 fn pieces() -> Vec<Vec<u8>> {
     vec![
         vec![0x02, 0x03, 0x47, 0x01],
@@ -288,13 +288,13 @@ fn pieces() -> Vec<Vec<u8>> {
     ]
 }
 
-struct Made {
+struct CaseBuilder {
     cases: Vec<Case>,
     random: Random,
 }
 
-impl Made {
-    /// A stream case that asks for one cell and has a given room.
+impl CaseBuilder {
+    /// A stream case with a selected cell and a given output length.
     fn stream(
         &mut self,
         rows: u64,
@@ -313,7 +313,7 @@ impl Made {
         });
     }
 
-    /// A stream case with a random cell of the pattern and room for the cells, or for a little less or more, or none.
+    /// A stream case with a random cell of the pattern. The output is long enough, slightly shorter or longer, or empty.
     fn any_stream(&mut self, rows: u64, tracks: u64, stream: &[u8]) {
         let row = if rows == 0 || self.random.chance(4) {
             rows
@@ -346,7 +346,7 @@ impl Made {
         });
     }
 
-    /// The samples of the register, each with room for its cells; and the cells that P1 to P5 hold.
+    /// The samples of the register, each with an output for its cells; and the cells of P1 to P5.
     fn register(&mut self) {
         let samples: [(u64, u64, &[u8]); 12] = [
             (2, 4, &[0x02, 0x03, 0x47, 0x01, 0x00, 0x00]),
@@ -386,7 +386,7 @@ impl Made {
         }
     }
 
-    /// Every row and track of a pattern and those one past, and wild ones; also of a broken stream.
+    /// Every row and track of a pattern, the next ones, and very large ones; also for a broken stream.
     fn indices(&mut self) {
         let sound = pieces().concat();
         for row in 0..=3 {
@@ -418,7 +418,7 @@ impl Made {
                 self.stream(3, 4, (number, number), 0, stream);
             }
         }
-        // The fault stands before, in and after the asked row.
+        // The fault is before, in and after the selected row.
         for place in 0..sound.len() {
             let mut broken = sound.clone();
             broken[place] = 0xC0;
@@ -431,7 +431,7 @@ impl Made {
         self.stream(0, 4, (u64::MAX, u64::MAX), 0, &[0]);
     }
 
-    /// Rooms of 0, and of one less, just and one more than the cells and than the packed stream need.
+    /// Output lengths of 0, and of one less, exactly, and one more than the cells and the packed stream need.
     fn rooms(&mut self) {
         let sound = pieces().concat();
         let mut packed = vec![0; 100];
@@ -491,7 +491,7 @@ impl Made {
         }
     }
 
-    /// Repeated and descending tracks, masks of 0, values of 0.
+    /// Repeated tracks, descending tracks, masks of 0, values of 0.
     fn unusual(&mut self) {
         let streams: [(u64, u64, &[u8]); 10] = [
             (1, 4, &[4, 1, 0x41, 3, 1, 0x42, 2, 1, 0x43, 1, 1, 0x44, 0]),
@@ -546,7 +546,7 @@ impl Made {
             let after = pieces[place..].concat();
             let row = self.random.below(3);
             for fault in faulty {
-                // With what follows, and as the stream's end.
+                // With the rest of the stream, and at the end of the stream.
                 self.stream(3, 4, (row, 2), 72, &[&before, fault, &after].concat());
                 self.stream(3, 4, (row, 2), 0, &[&before, fault].concat());
             }
@@ -587,7 +587,7 @@ impl Made {
         }
     }
 
-    /// Rows and tracks in range and out of it, with products that wrap at 64 bits and numbers that wrap at 8, 16 and 32.
+    /// Rows and tracks in range and out of range, with products that wrap at 64 bits and numbers that wrap at 8, 16 and 32 bits.
     fn ranges(&mut self) {
         let rows = [
             0,
@@ -639,7 +639,7 @@ impl Made {
                 );
                 let room = self.random.pick(&[0, 24, 48]);
                 self.stream(rows, tracks, (row, track), room, stream);
-                // The length that a product of 64 bits gives, where it is a small one.
+                // The length that a 64-bit product gives, if it is small.
                 let product = rows.wrapping_mul(tracks).wrapping_mul(FIELDS as u64);
                 let length = if product <= 48 {
                     product as usize
@@ -673,7 +673,7 @@ impl Made {
         }
     }
 
-    /// 254 tracks, and the tracks on both sides of where a signed byte ends.
+    /// 254 tracks, and the tracks around the limit of a signed byte.
     fn many_tracks(&mut self) {
         for track in [1, 2, 126, 127, 128, 129, 253, 254, 255] {
             self.stream(
@@ -713,7 +713,7 @@ impl Made {
         }
     }
 
-    /// Random sound streams, some asked with one row or two tracks more or less.
+    /// Random valid streams, some of them with one row or two tracks more or less.
     fn sound(&mut self) {
         for turn in 0..420 {
             let rows = self.random.below(4);
@@ -730,7 +730,7 @@ impl Made {
         }
     }
 
-    /// Random bytes, and sound streams that are damaged.
+    /// Random bytes, and valid streams that are damaged.
     fn broken(&mut self) {
         for _ in 0..160 {
             let length = self.random.below(24);
@@ -754,7 +754,7 @@ impl Made {
             let stream = damaged(&mut self.random, &stream);
             self.any_stream(rows, tracks, &stream);
         }
-        // An entry that is cut, after a number of sound ones.
+        // A cut entry after a number of valid ones.
         for _ in 0..60 {
             let mut stream = sound_stream(&mut self.random, 1, 4, 3);
             let entry = entry(&mut self.random, 4);
@@ -764,7 +764,7 @@ impl Made {
         }
     }
 
-    /// Cells of many densities, packed into rooms around the needed one.
+    /// Cells of many densities, packed into outputs around the needed length.
     fn packed_cells(&mut self) {
         for (filled, named) in [
             (0, 0),
@@ -795,7 +795,7 @@ impl Made {
         }
     }
 
-    /// Some patterns of a usual size, and outputs of the most room.
+    /// Some patterns of usual size, and outputs of the maximum length.
     fn large(&mut self) {
         for (rows, tracks, most) in [(64, 8, 5), (128, 4, 2)] {
             let stream = sound_stream(&mut self.random, rows, tracks, most);
@@ -818,7 +818,7 @@ impl Made {
         let stream = sound_stream(&mut self.random, 44, 254, 2);
         self.stream(44, 254, (43, 1), 300, &stream);
 
-        // Many rows, short streams, and rows that are all empty.
+        // Many rows, short streams, and empty rows only.
         for rows in [255, 256, 257, 65_534, 65_535] {
             self.stream(rows, 4, (rows - 1, 4), 10, &[0; 256]);
             self.stream(rows, 254, (0, 1), 0, &[]);
@@ -827,7 +827,7 @@ impl Made {
         }
     }
 
-    /// Every byte as a note, and every field on its own.
+    /// Every byte as a note, and every field alone.
     fn notes(&mut self) {
         for note in 0..=255 {
             let other = bytes(&mut self.random, 5);

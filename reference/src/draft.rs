@@ -1,7 +1,7 @@
-//! Modules to be written, right or wrong ones.
+//! Writes modules, valid or invalid.
 //!
-//! A `Tune` is a module by its records; it becomes a `Draft`, which is a module by its chunks and may be made as wrong as one likes.
-//! Nothing here reads a module, and the reader uses nothing of it.
+//! A `Tune` describes a module by its records. It is converted to a `Draft`, which describes a module by its chunks and can contain any
+//! fault. Nothing here reads a module, and the reader does not use this code.
 
 use crate::chunks::Name;
 
@@ -24,7 +24,7 @@ pub struct Instrument {
     pub flags: u16,
 }
 
-/// A pattern: its rows, its packed stream, and the byte that follows an odd one.
+/// A pattern: its rows, its packed stream, and the filler that follows an odd stream.
 #[derive(Clone, Debug, Default, PartialEq, Eq)]
 pub struct Pattern {
     pub rows: u16,
@@ -32,7 +32,7 @@ pub struct Pattern {
     pub filler: u8,
 }
 
-/// A sample: its flags, how many frames it has, and the bytes of them.
+/// A sample: its flags, the number of its frames, and their bytes.
 #[derive(Clone, Debug, Default, PartialEq, Eq)]
 pub struct Sample {
     pub flags: u32,
@@ -40,7 +40,7 @@ pub struct Sample {
     pub data: Vec<u8>,
 }
 
-/// An envelope; a point is a position and a value. Points that are not given are zeros.
+/// An envelope. A point is a position and a value. Points that are not given are zeros.
 #[derive(Clone, Debug, Default, PartialEq, Eq)]
 pub struct Envelope {
     pub instrument: u16,
@@ -53,7 +53,7 @@ pub struct Envelope {
     pub points: Vec<(u16, i16)>,
 }
 
-/// A module by its records. The counts of INFO and of the envelopes are those of the lists.
+/// A module by its records. The counts in INFO and of the envelopes are the lengths of the lists.
 #[derive(Clone, Debug, PartialEq, Eq)]
 pub struct Tune {
     pub version: u8,
@@ -112,7 +112,7 @@ impl Instrument {
 }
 
 impl Pattern {
-    /// With filler 0.
+    /// A pattern with filler 0.
     pub fn new(rows: u16, stream: &[u8]) -> Pattern {
         Pattern {
             rows,
@@ -133,7 +133,7 @@ impl Pattern {
 }
 
 impl Sample {
-    /// Frames of so many bytes each, which are also the flags.
+    /// A sample with frames of `frame_bytes` bytes, which is also the value of the flags.
     pub fn new(frame_bytes: u32, data: &[u8]) -> Sample {
         Sample {
             flags: frame_bytes,
@@ -169,7 +169,7 @@ impl Envelope {
     }
 }
 
-/// The bytes with zeros behind them, so many in all.
+/// The bytes, padded with zeros to a length.
 fn padded(bytes: &[u8], length: usize) -> Vec<u8> {
     assert!(bytes.len() <= length, "{} bytes of {length}", bytes.len());
     let mut bytes = bytes.to_vec();
@@ -177,12 +177,12 @@ fn padded(bytes: &[u8], length: usize) -> Vec<u8> {
     bytes
 }
 
-/// A chunk to be written. Its header tells the length of the data, or another one.
+/// A chunk to write. Its header has the length of the data, or another length.
 #[derive(Clone, Debug, PartialEq, Eq)]
 pub struct Chunk {
     pub name: Name,
     pub data: Vec<u8>,
-    pub told: Option<u32>,
+    pub stored_length: Option<u32>,
 }
 
 impl Chunk {
@@ -190,19 +190,23 @@ impl Chunk {
         Chunk {
             name: *name,
             data,
-            told: None,
+            stored_length: None,
         }
     }
 
     pub fn bytes(&self) -> Vec<u8> {
         let mut bytes = self.name.to_vec();
-        bytes.extend(self.told.unwrap_or(self.data.len() as u32).to_be_bytes());
+        bytes.extend(
+            self.stored_length
+                .unwrap_or(self.data.len() as u32)
+                .to_be_bytes(),
+        );
         bytes.extend(&self.data);
         bytes
     }
 }
 
-/// A module by its chunks; `tail` stands behind the last one.
+/// A module by its chunks. `tail` follows the last one.
 #[derive(Clone, Debug, PartialEq, Eq)]
 pub struct Draft {
     pub header: Vec<u8>,
@@ -276,7 +280,7 @@ impl Draft {
         bytes
     }
 
-    /// Where the first chunk of a name stands among the chunks. There must be one.
+    /// The index of the first chunk with this name. There must be one.
     pub fn index(&self, name: &Name) -> usize {
         self.chunks
             .iter()
@@ -284,18 +288,18 @@ impl Draft {
             .expect("a chunk of this name")
     }
 
-    /// The first chunk of a name. There must be one.
+    /// The first chunk with this name. There must be one.
     pub fn chunk(&mut self, name: &Name) -> &mut Chunk {
         let index = self.index(name);
         &mut self.chunks[index]
     }
 
-    /// Writes bytes over those at an offset of a chunk's data.
+    /// Overwrites bytes at an offset of a chunk's data.
     pub fn put(&mut self, name: &Name, offset: usize, bytes: &[u8]) {
         self.chunk(name).data[offset..offset + bytes.len()].copy_from_slice(bytes);
     }
 
-    /// The same chunks with those of these names in this order, and all others behind them.
+    /// The same chunks, with those of these names first and in this order, and all others after them.
     pub fn ordered(&self, names: &[Name]) -> Draft {
         let mut draft = self.clone();
         let rank = |chunk: &Chunk| names.iter().position(|name| *name == chunk.name);

@@ -1,4 +1,4 @@
-//! What is expected of each case of a corpus, as text.
+//! The expected text for each case of a corpus.
 
 mod records;
 
@@ -11,10 +11,10 @@ use crate::{all_records, listing, module};
 /// An output is filled with this byte before the call.
 pub const FILL: u8 = 0xAA;
 
-/// More room than this is taken as this.
+/// A longer output length is reduced to this one.
 pub const MOST_ROOM: u32 = 65_536;
 
-/// The expected lines, up to the end, an unknown kind or a case that is cut; the last line counts the cases.
+/// The expected lines, up to the end, an unknown kind or a case that is cut. The last line has the number of cases.
 pub fn expected(corpus: &[u8]) -> String {
     let mut text = String::new();
     let mut left = corpus;
@@ -46,7 +46,7 @@ fn lines(case: &Case, text: &mut String) {
             written(text, "repack", *room, |out| {
                 repack(stream, *rows, *tracks, out)
             });
-            asked_cell(text, cell(stream, *rows, *tracks, *row, *track));
+            selected_cell(text, cell(stream, *rows, *tracks, *row, *track));
         }
         Case::Cells {
             rows,
@@ -71,16 +71,16 @@ fn lines(case: &Case, text: &mut String) {
                     crate::repack::repack(module, out)
                 });
             }
-            // An output of so many bytes is enough for every accepted module: behind the summary no record is longer than its block.
+            // An output of this length is enough for every accepted module: after the summary no record is longer than its block.
             for room in [*room, module.len() as u32 + all_records::SUMMARY] {
                 written(text, "records", room, |out| all_records::write(module, out));
             }
         }
         Case::Records {
-            asked,
+            query,
             room,
             module,
-        } => records::lines(text, module, asked, *room),
+        } => records::lines(text, module, query, *room),
     }
 }
 
@@ -99,8 +99,8 @@ fn written(
     line(text, format_args!("{name} {number} {place} {length} {out}"));
 }
 
-/// The line of a cell that was asked for.
-fn asked_cell(text: &mut String, answer: Result<Cell, Refusal>) {
+/// The line of a selected cell.
+fn selected_cell(text: &mut String, answer: Result<Cell, Refusal>) {
     let (number, place) = numbers(answer.err());
     let values = answer.map_or([0; 9], values);
     line(
@@ -121,7 +121,7 @@ fn numbers(refusal: Option<Refusal>) -> (u64, u64) {
     refusal.map_or((0, 0), |refusal| (refusal.number, refusal.place))
 }
 
-/// The note in numbers (kind, octave, semitone, the byte of an unknown one), then the five other fields.
+/// The note as numbers (kind, octave, semitone, the byte of an unknown note), then the five other fields.
 fn values(cell: Cell) -> [u8; 9] {
     let (kind, octave, semitone, unknown) = match cell.note {
         Note::None => (0, 0, 0, 0),

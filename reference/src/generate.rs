@@ -1,6 +1,6 @@
-//! Streams, cells and modules made from a seed: the same seed, the same bytes.
+//! Makes streams, cells and modules from a seed. The same seed makes the same bytes.
 
-use crate::chunks::{Name, BEHIND_INFO, COVERED};
+use crate::chunks::{Name, AFTER_INFO, COVERED};
 use crate::draft::{Chunk, Draft, Envelope, Instrument, Pattern, Sample, Song, Tune};
 use crate::pattern::{repack, FIELDS};
 
@@ -8,7 +8,7 @@ use crate::pattern::{repack, FIELDS};
 pub struct Random(u64);
 
 impl Random {
-    /// Neighbouring seeds are spread first, so that they do not begin alike.
+    /// Neighbouring seeds are spread first, so that their sequences differ from the beginning.
     pub fn new(seed: u64) -> Random {
         let mut spread = seed.wrapping_add(0x9E37_79B9_7F4A_7C15);
         spread = (spread ^ (spread >> 30)).wrapping_mul(0xBF58_476D_1CE4_E5B9);
@@ -23,7 +23,7 @@ impl Random {
         self.0
     }
 
-    /// A number under `limit`, which is not 0.
+    /// A number less than `limit`, which is not 0.
     pub fn below(&mut self, limit: u64) -> u64 {
         (self.number() >> 11) % limit
     }
@@ -41,12 +41,12 @@ impl Random {
     }
 }
 
-/// Any bytes.
+/// Random bytes.
 pub fn bytes(random: &mut Random, length: u64) -> Vec<u8> {
     (0..length).map(|_| random.byte()).collect()
 }
 
-/// Bytes that are mostly row ends, low tracks and sound masks, so that a stream of them reads some way before it breaks.
+/// Mostly row ends, low tracks and valid masks, so that a stream of these bytes breaks late.
 pub fn likely_bytes(random: &mut Random, length: u64) -> Vec<u8> {
     const LIKELY: [u8; 16] = [0, 0, 0, 0, 1, 1, 2, 2, 3, 3, 4, 4, 0x05, 0x20, 0x3F, 0x40];
     (0..length)
@@ -60,7 +60,7 @@ pub fn likely_bytes(random: &mut Random, length: u64) -> Vec<u8> {
         .collect()
 }
 
-/// A sound entry: any track, any mask of bits 0 to 5, about one value in four 0.
+/// A valid entry: any track, any mask of bits 0 to 5, and about one value in four is 0.
 pub fn entry(random: &mut Random, tracks: u64) -> Vec<u8> {
     let track = (1 + random.below(tracks)) as u8;
     let mask = random.byte() & 0x3F;
@@ -71,7 +71,7 @@ pub fn entry(random: &mut Random, tracks: u64) -> Vec<u8> {
     entry
 }
 
-/// A sound stream: in each row up to `most` entries, in any order and with tracks repeated.
+/// A valid stream: in each row up to `most` entries, in any order and with repeated tracks.
 pub fn sound_stream(random: &mut Random, rows: u64, tracks: u64, most: u64) -> Vec<u8> {
     let mut stream = Vec::new();
     for _ in 0..rows {
@@ -83,7 +83,7 @@ pub fn sound_stream(random: &mut Random, rows: u64, tracks: u64, most: u64) -> V
     stream
 }
 
-/// A stream with one to three faults put in; some of them leave it sound.
+/// A stream with one to three faults. Some of them leave it valid.
 pub fn damaged(random: &mut Random, stream: &[u8]) -> Vec<u8> {
     let mut stream = stream.to_vec();
     for _ in 0..1 + random.below(3) {
@@ -101,7 +101,7 @@ pub fn damaged(random: &mut Random, stream: &[u8]) -> Vec<u8> {
     stream
 }
 
-/// Cells: each is non-empty at `filled` percent, and then each field is not 0 at `named` percent.
+/// Cells: each is not empty at `filled` percent, and then each field is not 0 at `named` percent.
 pub fn cells(random: &mut Random, rows: u64, tracks: u64, filled: u64, named: u64) -> Vec<u8> {
     let mut cells = Vec::new();
     for _ in 0..rows * tracks {
@@ -117,30 +117,30 @@ pub fn cells(random: &mut Random, rows: u64, tracks: u64, filled: u64, named: u6
     cells
 }
 
-/// The most of each thing that a made module has. More than the format allows is taken as what it allows.
+/// The maximum number of each item in a generated module. A number above the limit of the format is reduced to it.
 #[derive(Clone, Copy, Debug, PartialEq, Eq)]
-pub struct Most {
+pub struct Limits {
     pub songs: u64,
-    /// Entries of one playlist.
+    /// The entries of one playlist.
     pub entries: u64,
     pub instruments: u64,
     pub patterns: u64,
     pub rows: u64,
-    /// Packed entries of one row.
+    /// The packed entries of one row.
     pub row_entries: u64,
     pub tracks: u64,
     pub samples: u64,
     pub frames: u64,
-    /// Envelopes of each kind.
+    /// The envelopes of each kind.
     pub envelopes: u64,
-    /// Chunks with other identifiers.
+    /// The chunks with other identifiers.
     pub others: u64,
     pub other_bytes: u64,
 }
 
-impl Most {
+impl Limits {
     /// Modules of some hundred bytes.
-    pub const SMALL: Most = Most {
+    pub const SMALL: Limits = Limits {
         songs: 2,
         entries: 3,
         instruments: 2,
@@ -156,7 +156,7 @@ impl Most {
     };
 
     /// Modules of some thousand bytes.
-    pub const USUAL: Most = Most {
+    pub const USUAL: Limits = Limits {
         songs: 4,
         entries: 20,
         instruments: 12,
@@ -172,8 +172,8 @@ impl Most {
     };
 }
 
-/// An accepted module: records within `most`, other chunks, and any order of chunks that the rules allow.
-pub fn module(random: &mut Random, most: &Most) -> Draft {
+/// An accepted module: records within the limits, other chunks, and any order of chunks that the rules allow.
+pub fn module(random: &mut Random, most: &Limits) -> Draft {
     let mut draft = tune(random, most).draft();
     if random.chance(70) {
         shuffle(random, &mut draft);
@@ -188,7 +188,7 @@ pub fn module(random: &mut Random, most: &Most) -> Draft {
 }
 
 /// The records of an accepted module.
-pub fn tune(random: &mut Random, most: &Most) -> Tune {
+pub fn tune(random: &mut Random, most: &Limits) -> Tune {
     let version = random.pick(&[2, 3, 3]);
     let revision = (16 * random.below(10) + random.below(10)) as u8;
     let reserved = random.pick(&[[0, 0], [0, 0], [0, 1], [0xFF, 0xFF]]);
@@ -223,19 +223,19 @@ pub fn tune(random: &mut Random, most: &Most) -> Tune {
     }
 }
 
-/// 0 to `most` things.
+/// 0 to `most` items.
 fn many<T>(random: &mut Random, most: u64, make: impl Fn(&mut Random) -> T) -> Vec<T> {
     (0..random.below(most + 1)).map(|_| make(random)).collect()
 }
 
-/// Letters and spaces, up to so many bytes.
+/// Letters and spaces, up to this many bytes.
 fn text(random: &mut Random, most: u64) -> Vec<u8> {
     many(random, most, |random| {
         random.pick(b"abcdefghijklmnopqrstuvwxyz    ")
     })
 }
 
-/// A number of a range, often one of its ends.
+/// A number in a range, often one of its ends.
 fn edged(random: &mut Random, (low, high): (i64, i64)) -> i64 {
     match random.below(8) {
         0 => low,
@@ -244,7 +244,7 @@ fn edged(random: &mut Random, (low, high): (i64, i64)) -> i64 {
     }
 }
 
-/// Any number of 32 bits, mostly small, often near the ends.
+/// A number of 32 bits, mostly small, often near the ends.
 fn wild(random: &mut Random) -> u32 {
     match random.below(4) {
         0 => random.below(10) as u32,
@@ -254,7 +254,7 @@ fn wild(random: &mut Random) -> u32 {
     }
 }
 
-fn song(random: &mut Random, most: &Most, patterns: usize) -> Song {
+fn song(random: &mut Random, most: &Limits, patterns: usize) -> Song {
     let entries = if patterns == 0 { 0 } else { most.entries };
     Song {
         name: text(random, 44),
@@ -264,7 +264,7 @@ fn song(random: &mut Random, most: &Most, patterns: usize) -> Song {
     }
 }
 
-fn pattern(random: &mut Random, most: &Most, tracks: u64) -> Pattern {
+fn pattern(random: &mut Random, most: &Limits, tracks: u64) -> Pattern {
     let rows = random.below(most.rows.min(65_535) + 1);
     let mut stream = sound_stream(random, rows, tracks, most.row_entries);
     if random.chance(50) {
@@ -309,7 +309,7 @@ fn instrument(random: &mut Random, samples: &[Sample]) -> Instrument {
     }
 }
 
-/// Start, length and flags of a loop inside so many frames; every second one ends with them.
+/// Start, length and flags of a loop inside this many frames. Every second loop ends with them.
 fn loop_within(random: &mut Random, frames: u64) -> (u32, u32, u16) {
     let length = 1 + random.below(frames);
     let start = if random.chance(50) {
@@ -320,7 +320,7 @@ fn loop_within(random: &mut Random, frames: u64) -> (u32, u32, u16) {
     (start as u32, length as u32, random.pick(&[1, 2, 3]))
 }
 
-/// Start, length and flags of an instrument that is not looped: no length, or no kind of loop.
+/// Start, length and flags of an instrument without a loop: no length, or no kind of loop.
 fn no_loop(random: &mut Random) -> (u32, u32, u16) {
     if random.chance(50) {
         (wild(random), 0, random.pick(&[0, 1, 2, 3]))
@@ -332,7 +332,7 @@ fn no_loop(random: &mut Random) -> (u32, u32, u16) {
 /// The envelopes of one kind, or no such chunk.
 fn envelopes(
     random: &mut Random,
-    most: &Most,
+    most: &Limits,
     instruments: usize,
     values: (i64, i64),
 ) -> Option<Vec<Envelope>> {
@@ -345,7 +345,7 @@ fn envelopes(
     }))
 }
 
-/// An envelope whose unused points and numbers are anything.
+/// An envelope. Its unused points and numbers are random.
 fn envelope(random: &mut Random, instruments: usize, values: (i64, i64)) -> Envelope {
     let flags = random.byte() & 0x0F;
     let sections = edged(random, (0, 31));
@@ -383,7 +383,7 @@ fn envelope(random: &mut Random, instruments: usize, values: (i64, i64)) -> Enve
     }
 }
 
-/// An identifier that is not covered, some of them nearly one that is.
+/// An identifier that is not covered. Some are similar to a covered one.
 fn other_name(random: &mut Random) -> Name {
     const LIKELY: [&Name; 10] = [
         b"DSPE", b"PNAM", b"MPEG", b"XYZW", b"AAAA", b"ZZZZ", b"NAMF", b"INFN", b"TONG", b"SMPM",
@@ -391,7 +391,7 @@ fn other_name(random: &mut Random) -> Name {
     *random.pick(&LIKELY)
 }
 
-/// Puts the chunks into another order, with INFO before the four that need it.
+/// Changes the order of the chunks, with INFO before the four that need it.
 fn shuffle(random: &mut Random, draft: &mut Draft) {
     for last in (1..draft.chunks.len()).rev() {
         let other = random.below(last as u64 + 1) as usize;
@@ -402,13 +402,13 @@ fn shuffle(random: &mut Random, draft: &mut Draft) {
     let first = draft
         .chunks
         .iter()
-        .position(|chunk| BEHIND_INFO.contains(&chunk.name))
+        .position(|chunk| AFTER_INFO.contains(&chunk.name))
         .expect("the four are there");
     let place = random.below(first as u64 + 1) as usize;
     draft.chunks.insert(place, info);
 }
 
-/// Puts one fault into a module; sometimes it is none and the module stays accepted. A module without chunks stays as it is.
+/// Puts one fault into a module. Some changes leave the module accepted. A module without chunks is unchanged.
 pub fn damage(random: &mut Random, draft: &mut Draft) {
     if draft.chunks.is_empty() {
         return;
@@ -436,7 +436,7 @@ fn any(random: &mut Random, draft: &Draft) -> usize {
     random.below(draft.chunks.len() as u64) as usize
 }
 
-/// One byte of a chunk's data.
+/// Changes one byte of a chunk's data.
 fn damage_byte(random: &mut Random, draft: &mut Draft) {
     let chunk = any(random, draft);
     let data = &mut draft.chunks[chunk].data;
@@ -454,7 +454,7 @@ fn damage_byte(random: &mut Random, draft: &mut Draft) {
     };
 }
 
-/// Two bytes of a chunk's data that may be one number.
+/// Changes two bytes of a chunk's data, which may be one number.
 fn damage_pair(random: &mut Random, draft: &mut Draft) {
     let chunk = any(random, draft);
     let data = &mut draft.chunks[chunk].data;
@@ -466,7 +466,7 @@ fn damage_pair(random: &mut Random, draft: &mut Draft) {
     data[place..place + 2].copy_from_slice(&u16::to_be_bytes(number));
 }
 
-/// One of the numbers of INFO, if it is there.
+/// Changes one of the numbers of INFO, if it exists.
 fn damage_info(random: &mut Random, draft: &mut Draft) {
     let info = draft.chunks.iter_mut().find(|chunk| chunk.name == *b"INFO");
     if let Some(info) = info.filter(|info| info.data.len() >= 10) {
@@ -482,11 +482,11 @@ fn damage_info(random: &mut Random, draft: &mut Draft) {
     }
 }
 
-/// The length that a chunk's header tells.
+/// Changes the length in a chunk's header.
 fn damage_length(random: &mut Random, draft: &mut Draft) {
     let chunk = any(random, draft);
     let length = draft.chunks[chunk].data.len() as u32;
-    let told = match random.below(6) {
+    let stored_length = match random.below(6) {
         0 => length.wrapping_add(1),
         1 => length.wrapping_sub(1),
         2 => length.wrapping_add(8),
@@ -494,10 +494,10 @@ fn damage_length(random: &mut Random, draft: &mut Draft) {
         4 => u32::MAX - random.below(64) as u32,
         _ => wild(random),
     };
-    draft.chunks[chunk].told = Some(told);
+    draft.chunks[chunk].stored_length = Some(stored_length);
 }
 
-/// The end of a chunk's data; its header follows.
+/// Changes the end of a chunk's data. The length in its header is adjusted.
 fn damage_end(random: &mut Random, draft: &mut Draft) {
     let chunk = any(random, draft);
     let data = &mut draft.chunks[chunk].data;
@@ -509,13 +509,13 @@ fn damage_end(random: &mut Random, draft: &mut Draft) {
     }
 }
 
-/// Two chunks change places.
+/// Swaps two chunks.
 fn damage_order(random: &mut Random, draft: &mut Draft) {
     let (one, other) = (any(random, draft), any(random, draft));
     draft.chunks.swap(one, other);
 }
 
-/// A letter of an identifier, or the whole of it.
+/// Changes a letter of an identifier, or the whole identifier.
 fn damage_identifier(random: &mut Random, draft: &mut Draft) {
     let chunk = any(random, draft);
     let name = &mut draft.chunks[chunk].name;
@@ -526,7 +526,7 @@ fn damage_identifier(random: &mut Random, draft: &mut Draft) {
     }
 }
 
-/// The header of the module, or what stands behind its last chunk.
+/// Changes the header of the module, or the bytes after its last chunk.
 fn damage_frame(random: &mut Random, draft: &mut Draft) {
     match random.below(3) {
         0 => {
@@ -540,7 +540,7 @@ fn damage_frame(random: &mut Random, draft: &mut Draft) {
         _ => {
             let last = draft.chunks.len() - 1;
             let last = &mut draft.chunks[last];
-            last.told = Some(last.data.len() as u32);
+            last.stored_length = Some(last.data.len() as u32);
             let kept = random.below(last.data.len() as u64 + 1) as usize;
             last.data.truncate(kept);
         }

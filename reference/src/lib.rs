@@ -1,8 +1,8 @@
 //! The independent second program.
 //!
-//! It is written from the rules of the format alone (docs/FORMAT.md), in plain Rust, and it is slow and simple on purpose: it first
-//! collects what is there, the entries of a stream or the chunks and blocks of a module, and then judges it. It makes the corpus
-//! that the proved library is run on, and says what is expected of each case.
+//! It is written only from the rules of the format (docs/FORMAT.md), in plain Rust. It is slow and simple on purpose: it first collects the
+//! entries of a stream, or the chunks and blocks of a module, and then checks them. It makes the corpus on which the proved library runs,
+//! and the expected output of each case.
 
 #![forbid(unsafe_code)]
 

@@ -1,4 +1,4 @@
-//! What the listing program prints.
+//! The output of the listing program.
 
 use crate::module::read;
 use crate::pattern::put;
@@ -7,13 +7,13 @@ use crate::refusal::Refusal;
 /// The listing program reads at most this many bytes.
 pub const MOST_INPUT: usize = 65_536;
 
-/// The lines for a module: its refusal, or seven lines of figures.
+/// The lines for a module: its refusal, or seven lines of numbers.
 pub fn lines(module: &[u8]) -> String {
     let read = match read(module) {
         Ok(read) => read,
         Err(Refusal { number, place }) => return format!("refused {number} at {place}\n"),
     };
-    // Both bytes are decimal digits, one in each half.
+    // Each half of both bytes is a decimal digit.
     let (version, revision) = (read.header.version, read.header.revision);
     let info = read.info;
     [
@@ -28,12 +28,12 @@ pub fn lines(module: &[u8]) -> String {
     .concat()
 }
 
-/// Writes the lines for a module into a lent output, and answers their length. Refusal: 17.
+/// Writes the lines for a module into an output and returns their length. Refusal: 17.
 pub fn write(module: &[u8], out: &mut [u8]) -> Result<u64, Refusal> {
     put(lines(module).as_bytes(), out)
 }
 
-/// What the program prints for an input.
+/// The output of the program for an input.
 pub fn listing(input: &[u8]) -> String {
     if input.len() > MOST_INPUT {
         "input too big\n".to_string()

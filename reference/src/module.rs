@@ -1,7 +1,6 @@
 //! Whole modules.
 //!
-//! First all that is there is collected: the chunks, then the blocks of each. Then the rules are judged. The data of samples are
-//! never read.
+//! First everything is collected: the chunks, then the blocks of each. Then the rules are checked. The data of samples is never read.
 
 use crate::blocks::{all, envelopes, Envelope, Instrument, Pattern, Sample, Song};
 use crate::chunks::{Chunk, Chunks, Header, Info, Name};
@@ -9,7 +8,7 @@ use crate::part::Part;
 use crate::refusal::{wrong_blocks, Refusal};
 use crate::rules;
 
-/// A module with all its blocks. Its envelopes are none where their chunk is missing.
+/// A module with all its blocks. Without their chunk the list of envelopes is empty.
 #[derive(Clone, Debug, PartialEq, Eq)]
 pub struct Module<'a> {
     pub header: Header,
@@ -25,13 +24,13 @@ pub struct Module<'a> {
 }
 
 impl<'a> Module<'a> {
-    /// A sample by its number, from 1.
+    /// A sample by its number. Samples are counted from 1.
     pub fn sample(&self, number: u64) -> Option<&Sample<'a>> {
         let index = usize::try_from(number).ok()?.checked_sub(1)?;
         self.samples.get(index)
     }
 
-    /// The blocks of each chunk. Refusals: 11 for SONG, INST, PATT, SMPL, VENV, PENV, wherever they stand.
+    /// The blocks of each chunk. Refusals: 11 for SONG, INST, PATT, SMPL, VENV, PENV, in this order, wherever they are.
     fn collect(read: Chunks<'a>) -> Result<Module<'a>, Refusal> {
         let info = read.info;
         Ok(Module {
@@ -53,7 +52,7 @@ impl<'a> Module<'a> {
     }
 }
 
-/// The blocks of the chunk of a name; none where it is missing.
+/// The blocks of the chunk with this name. The list is empty if the chunk is missing.
 fn blocks<'a, Block>(
     read: &Chunks<'a>,
     name: &Name,
@@ -65,7 +64,7 @@ fn blocks<'a, Block>(
     }
 }
 
-/// An accepted module, taken apart. Refusals: 1, 2, 3; from the front 4, 5, 6, 7, 9, 10; then 8, 11, 12 and 13, 14, 15.
+/// An accepted module, parsed. Refusals: 1, 2, 3; from the beginning 4, 5, 6, 7, 9, 10; then 8, 11, 12 and 13, 14, 15.
 pub fn read(module: &[u8]) -> Result<Module<'_>, Refusal> {
     let module = Module::collect(Chunks::read(module)?)?;
     let refusal = rules::broken(&module).next();
@@ -75,7 +74,7 @@ pub fn read(module: &[u8]) -> Result<Module<'_>, Refusal> {
     }
 }
 
-/// Refusals: as those of `read`.
+/// Refusals: those of `read`.
 pub fn check(module: &[u8]) -> Result<(), Refusal> {
     read(module).map(drop)
 }

@@ -1,6 +1,6 @@
-//! Parts of a module that know where they stand.
+//! Parts of a module that know their place.
 
-/// A number that is stored in a module, and its place there.
+/// A number that is stored in a module, and its place.
 #[derive(Clone, Copy, Debug, PartialEq, Eq)]
 pub struct Field {
     pub place: u64,
@@ -19,7 +19,7 @@ impl Field {
     }
 }
 
-/// Some bytes of a module, and the place of the first one there.
+/// Some bytes of a module, and the place of the first byte.
 #[derive(Clone, Copy, Debug, PartialEq, Eq)]
 pub struct Part<'a> {
     pub place: u64,
@@ -39,7 +39,7 @@ impl<'a> Part<'a> {
         self.bytes.len() as u64
     }
 
-    /// Takes so many bytes off the front. None: there are fewer.
+    /// Takes bytes from the beginning. None if there are fewer.
     pub fn take(&mut self, length: u64) -> Option<Part<'a>> {
         let (taken, left) = self.bytes.split_at_checked(usize::try_from(length).ok()?)?;
         let place = self.place;
@@ -53,7 +53,7 @@ impl<'a> Part<'a> {
         })
     }
 
-    /// Takes a big-endian number of so many bytes off the front.
+    /// Takes a big-endian number of this many bytes from the beginning.
     pub fn number(&mut self, bytes: u64) -> Option<Field> {
         let taken = self.take(bytes)?;
         let value = taken
@@ -66,7 +66,7 @@ impl<'a> Part<'a> {
         })
     }
 
-    /// The part as numbers of two bytes, from the front.
+    /// The part as two-byte numbers.
     pub fn numbers(self) -> impl Iterator<Item = Field> + 'a {
         let mut left = self;
         std::iter::from_fn(move || left.number(2))

@@ -1,7 +1,7 @@
 //! Packed rows.
 //!
-//! A stream is read into rows of entries. Every call works on those: the check only reads them, the unpacker carries them out, the
-//! repacker packs what they give.
+//! A stream is read into rows of entries, and every call works on these. The check only reads them, the unpacker applies them to cells, and
+//! the repacker packs the resulting cells.
 
 use crate::refusal::{broken, no_such, out_of_range, too_short};
 
@@ -10,7 +10,7 @@ pub use crate::refusal::Refusal;
 /// A cell has six fields: note, instrument, command 1, parameter 1, command 2, parameter 2.
 pub const FIELDS: usize = 6;
 
-/// The note of a shown cell.
+/// The note of a cell in an answer.
 #[derive(Clone, Copy, Debug, PartialEq, Eq)]
 pub enum Note {
     None,
@@ -19,7 +19,7 @@ pub enum Note {
     Unknown(u8),
 }
 
-/// A shown cell.
+/// A cell in an answer.
 #[derive(Clone, Copy, Debug, PartialEq, Eq)]
 pub struct Cell {
     pub note: Note,
@@ -30,7 +30,7 @@ pub struct Cell {
     pub parameter2: u8,
 }
 
-/// Rows and tracks that are in range: at most 65,535 rows; tracks even, 4 to 254.
+/// Valid rows and tracks: at most 65,535 rows; an even number of tracks from 4 to 254.
 #[derive(Clone, Copy)]
 struct Shape {
     rows: usize,
@@ -60,7 +60,7 @@ impl Shape {
     }
 }
 
-/// One entry: its track, and for each of the six fields the value to store, if the mask names it.
+/// One entry: its track, and for each of the six fields the value to store if its mask bit is set.
 #[derive(Clone, Copy)]
 struct Entry {
     track: u8,
@@ -68,7 +68,7 @@ struct Entry {
 }
 
 impl Entry {
-    /// The entry at the front of `bytes` and what follows it. None: no sound entry stands there.
+    /// The first entry of `bytes` and the rest. None if there is no valid entry.
     fn take(bytes: &[u8], tracks: usize) -> Option<(Entry, &[u8])> {
         let (&track, bytes) = bytes.split_first()?;
         let (&mask, mut bytes) = bytes.split_first()?;
@@ -86,8 +86,8 @@ impl Entry {
         Some((Entry { track, named }, bytes))
     }
 
-    /// Stores the named fields in a cell of a row; the others stay.
-    fn carry_out(&self, row: &mut [u8]) {
+    /// Stores the fields of the mask in a cell of a row. The others are unchanged.
+    fn apply(&self, row: &mut [u8]) {
         let start = (usize::from(self.track) - 1) * FIELDS;
         for (stored, named) in row[start..start + FIELDS].iter_mut().zip(self.named) {
             if let Some(value) = named {
@@ -127,11 +127,11 @@ fn read(stream: &[u8], shape: Shape) -> Result<Vec<Vec<Entry>>, Refusal> {
     }
 }
 
-/// The cells of one row after its entries are carried out from the front.
+/// The cells of one row after its entries are applied in order.
 fn cells_of(row: &[Entry], shape: Shape) -> Vec<u8> {
     let mut cells = vec![0; shape.row_bytes()];
     for entry in row {
-        entry.carry_out(&mut cells);
+        entry.apply(&mut cells);
     }
     cells
 }
@@ -150,7 +150,7 @@ fn pack_row(cells: &[u8], packed: &mut Vec<u8>) {
     packed.push(0);
 }
 
-/// Puts the bytes at the front of the output, or refuses with 17 and touches nothing.
+/// Copies the bytes to the beginning of the output, or refuses with 17 and changes nothing.
 pub(crate) fn put(bytes: &[u8], out: &mut [u8]) -> Result<u64, Refusal> {
     let needed = bytes.len() as u64;
     out.get_mut(..bytes.len())
@@ -166,7 +166,7 @@ pub fn check(stream: &[u8], rows: u64, tracks: u64) -> Result<(), Refusal> {
     Ok(())
 }
 
-/// Writes the cells, and answers how many bytes these are. Refusals: 16, 17, 15.
+/// Writes the cells and returns their length in bytes. Refusals: 16, 17, 15.
 pub fn unpack(stream: &[u8], rows: u64, tracks: u64, out: &mut [u8]) -> Result<u64, Refusal> {
     let shape = Shape::new(rows, tracks)?;
     let needed = shape.cell_bytes();
@@ -178,7 +178,7 @@ pub fn unpack(stream: &[u8], rows: u64, tracks: u64, out: &mut [u8]) -> Result<u
     Ok(needed as u64)
 }
 
-/// Writes the packed stream of the cells, and answers its length. Refusals: 16, 17.
+/// Writes the packed stream of the cells and returns its length. Refusals: 16, 17.
 pub fn pack(cells: &[u8], rows: u64, tracks: u64, out: &mut [u8]) -> Result<u64, Refusal> {
     let shape = Shape::new(rows, tracks)?;
     if cells.len() != shape.cell_bytes() {
@@ -191,7 +191,7 @@ pub fn pack(cells: &[u8], rows: u64, tracks: u64, out: &mut [u8]) -> Result<u64,
     put(&packed, out)
 }
 
-/// Writes the packer's stream of the pattern that a stream holds, and answers its length. Refusals: 16, 15, 17.
+/// Writes the packer's stream for the cells of a stream and returns its length. Refusals: 16, 15, 17.
 pub fn repack(stream: &[u8], rows: u64, tracks: u64, out: &mut [u8]) -> Result<u64, Refusal> {
     let shape = Shape::new(rows, tracks)?;
     let rows = read(stream, shape)?;
@@ -202,7 +202,7 @@ pub fn repack(stream: &[u8], rows: u64, tracks: u64, out: &mut [u8]) -> Result<u
     put(&packed, out)
 }
 
-/// One cell; rows are counted from 0, tracks from 1. Refusals: 16, 18, 15.
+/// One cell. Rows are counted from 0, tracks from 1. Refusals: 16, 18, 15.
 pub fn cell(stream: &[u8], rows: u64, tracks: u64, row: u64, track: u64) -> Result<Cell, Refusal> {
     let shape = Shape::new(rows, tracks)?;
     if row >= rows || track == 0 || track > tracks {
@@ -217,7 +217,7 @@ pub fn cell(stream: &[u8], rows: u64, tracks: u64, row: u64, track: u64) -> Resu
     Ok(shown(wanted.try_into().expect("a cell has six bytes")))
 }
 
-/// How a cell is shown.
+/// The fields of a cell in an answer.
 pub fn shown(cell: [u8; FIELDS]) -> Cell {
     let [note, instrument, command1, parameter1, command2, parameter2] = cell;
     let note = match (note, note / 16, note % 16) {

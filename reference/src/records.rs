@@ -1,9 +1,8 @@
-//! What a module shows: every query about it.
+//! Every query about a module.
 //!
-//! Each query takes the whole module apart and gives the module's own refusal, if there is one. Then it looks for what was asked
-//! for: 18 if that is not there, and 17 if the lent output is too short. Instruments, samples and tracks are counted from 1, all
-//! else from 0. How a block is shown is said once (`shown_song` and so on), for the queries and for all records together
-//! (all_records.rs).
+//! Each query parses the whole module and returns the module's own refusal, if there is one. Then it looks up the item: 18 if there is no
+//! such item, and 17 if the output is too short. Instruments, samples and tracks are counted from 1, everything else from 0. The conversion
+//! of a block to its record is written once (`shown_song` and so on), for the queries and for all records together (all_records.rs).
 
 use crate::blocks::{self, POINTS};
 use crate::chunks::Info;
@@ -12,14 +11,14 @@ use crate::part::{Field, Part};
 use crate::pattern::{self, put, Cell};
 use crate::refusal::{no_such, Refusal};
 
-/// A song: its name, and how many entries its playlist has.
+/// A song: its name, and the number of entries in its playlist.
 #[derive(Clone, Copy, Debug, PartialEq, Eq)]
 pub struct Song {
     pub name: [u8; 44],
     pub length: u16,
 }
 
-/// An instrument, all fields as stored.
+/// An instrument, with all fields as stored.
 #[derive(Clone, Copy, Debug, PartialEq, Eq)]
 pub struct Instrument {
     pub name: [u8; 30],
@@ -46,13 +45,13 @@ pub struct Point {
     pub value: i16,
 }
 
-/// A point that is not in use is shown so.
+/// The answer for a point that is not in use.
 pub const UNUSED: Point = Point {
     position: 0,
     value: 0,
 };
 
-/// An envelope, all fields as stored but for the values of panning in version 2 and the points that are not in use.
+/// An envelope. All fields are as stored, except the panning values in version 2 and the points that are not in use.
 #[derive(Clone, Copy, Debug, PartialEq, Eq)]
 pub struct Envelope {
     pub instrument: u16,
@@ -65,25 +64,25 @@ pub struct Envelope {
     pub points: [Point; POINTS as usize],
 }
 
-/// A sample: the bits of a frame (8, 16 or 32), and how many frames it has.
+/// A sample: the bits of a frame (8, 16 or 32), and the number of frames.
 #[derive(Clone, Copy, Debug, PartialEq, Eq)]
 pub struct Sample {
     pub width: u8,
     pub frames: u32,
 }
 
-/// The thing of this number, counted from 0. Refusal: 18.
+/// The item with this number, counted from 0. Refusal: 18.
 fn from_0<Thing>(things: impl IntoIterator<Item = Thing>, number: u64) -> Result<Thing, Refusal> {
     let index = usize::try_from(number).map_err(|_| no_such())?;
     things.into_iter().nth(index).ok_or(no_such())
 }
 
-/// The thing of this number, counted from 1. Refusal: 18.
+/// The item with this number, counted from 1. Refusal: 18.
 fn from_1<Thing>(things: impl IntoIterator<Item = Thing>, number: u64) -> Result<Thing, Refusal> {
     from_0(things, number.checked_sub(1).ok_or(no_such())?)
 }
 
-/// A name, which always has the same length.
+/// A name, whose length is fixed.
 fn array<const LENGTH: usize>(bytes: &[u8]) -> [u8; LENGTH] {
     bytes.try_into().expect("so many bytes were taken")
 }
@@ -94,7 +93,7 @@ pub fn version(module: &[u8]) -> Result<(u8, u8), Refusal> {
     Ok((header.version, header.revision))
 }
 
-/// The name; zeros where the module has none. Refusals: the module's own.
+/// The name, or zeros if the module has none. Refusals: the module's own.
 pub fn name(module: &[u8]) -> Result<[u8; 44], Refusal> {
     Ok(shown_name(&read(module)?))
 }
@@ -128,8 +127,7 @@ pub fn entry(module: &[u8], song: u64, entry: u64) -> Result<u16, Refusal> {
     Ok(from_0(song.playlist.numbers(), entry)?.value as u16)
 }
 
-/// Writes all entries of a song's playlist, two bytes each, and answers how many bytes these are. Refusals: the module's own, 18,
-/// 17.
+/// Writes all entries of a song's playlist, two bytes each, and returns their length. Refusals: the module's own, 18, 17.
 pub fn playlist(module: &[u8], song: u64, out: &mut [u8]) -> Result<u64, Refusal> {
     let read = read(module)?;
     let song = from_0(&read.songs, song)?;
@@ -155,12 +153,12 @@ pub(crate) fn shown_instrument(instrument: &blocks::Instrument) -> Instrument {
     }
 }
 
-/// How many volume envelopes there are. Refusals: the module's own.
+/// The number of volume envelopes. Refusals: the module's own.
 pub fn volume_envelopes(module: &[u8]) -> Result<u64, Refusal> {
     Ok(of_kind(&read(module)?, Kind::Volume).len() as u64)
 }
 
-/// How many panning envelopes there are. Refusals: the module's own.
+/// The number of panning envelopes. Refusals: the module's own.
 pub fn panning_envelopes(module: &[u8]) -> Result<u64, Refusal> {
     Ok(of_kind(&read(module)?, Kind::Panning).len() as u64)
 }
@@ -192,7 +190,7 @@ pub(crate) fn shown_envelope(envelope: &blocks::Envelope, kind: Kind, version: u
     }
 }
 
-/// The envelopes of a kind; none where their chunk is missing.
+/// The envelopes of a kind. The list is empty if their chunk is missing.
 pub(crate) fn of_kind<'m, 'a>(module: &'m Module<'a>, kind: Kind) -> &'m [blocks::Envelope<'a>] {
     match kind {
         Kind::Volume => &module.volume_envelopes,
@@ -200,7 +198,7 @@ pub(crate) fn of_kind<'m, 'a>(module: &'m Module<'a>, kind: Kind) -> &'m [blocks
     }
 }
 
-/// How the value of a point in use is shown. Panning 0 to 64 of version 2 becomes -128 to 128.
+/// The value of a point in use as it is answered. Panning 0 to 64 of version 2 is converted to -128 to 128.
 fn shown_value(kind: Kind, version: u8, value: Field) -> i16 {
     let shown = match (kind, version) {
         (Kind::Volume, _) => value.value as i64,
@@ -210,7 +208,7 @@ fn shown_value(kind: Kind, version: u8, value: Field) -> i16 {
     shown as i16
 }
 
-/// The rows of a pattern. Refusals: the module's own, 18.
+/// The number of rows of a pattern. Refusals: the module's own, 18.
 pub fn pattern(module: &[u8], pattern: u64) -> Result<u16, Refusal> {
     let read = read(module)?;
     Ok(from_0(&read.patterns, pattern)?.rows as u16)
@@ -223,7 +221,7 @@ pub fn cell(module: &[u8], pattern: u64, row: u64, track: u64) -> Result<Cell, R
     pattern::cell(pattern.stream, pattern.rows, read.info.tracks, row, track)
 }
 
-/// Writes all cells of a pattern, and answers how many bytes these are. Refusals: the module's own, 18, 17.
+/// Writes all cells of a pattern and returns their length in bytes. Refusals: the module's own, 18, 17.
 pub fn unpack(module: &[u8], pattern: u64, out: &mut [u8]) -> Result<u64, Refusal> {
     let read = read(module)?;
     let pattern = from_0(&read.patterns, pattern)?;
@@ -243,19 +241,18 @@ pub(crate) fn shown_sample(sample: &blocks::Sample) -> Sample {
     }
 }
 
-/// The frames of a sample, as the part of the module that they are.
+/// The part of the module that has the frames of a sample.
 fn part(module: &[u8], sample: u64) -> Result<Part<'_>, Refusal> {
     let read = read(module)?;
     Ok(from_1(&read.samples, sample)?.data)
 }
 
-/// Where the frames of a sample stand in the module, and how many bytes they have. Both are 0 where `frames_refusal` gives a
-/// refusal.
+/// The place of a sample's frames in the module, and their length in bytes. Both are 0 if `frames_refusal` returns a refusal.
 pub fn frames(module: &[u8], sample: u64) -> (u64, u64) {
     part(module, sample).map_or((0, 0), |part| (part.place, part.length()))
 }
 
-/// The refusal that belongs to `frames`, or none: the module's own, 18.
+/// The refusal for `frames`, if any: the module's own, 18.
 pub fn frames_refusal(module: &[u8], sample: u64) -> Option<Refusal> {
     part(module, sample).err()
 }
@@ -267,8 +264,7 @@ pub fn frame(module: &[u8], sample: u64, frame: u64) -> Result<i16, Refusal> {
     from_0(stored_frames(sample), frame).map(at_16_bits)
 }
 
-/// Writes all frames of a sample at 16 bits, two bytes each, and answers how many bytes these are. Refusals: the module's own, 18,
-/// 17.
+/// Writes all frames of a sample at 16 bits, two bytes each, and returns their length in bytes. Refusals: the module's own, 18, 17.
 pub fn all_frames(module: &[u8], sample: u64, out: &mut [u8]) -> Result<u64, Refusal> {
     let read = read(module)?;
     let sample = from_1(&read.samples, sample)?;

@@ -1,13 +1,13 @@
 //! A refusal: its number and its place.
 
-/// The number says why, the place says where (or, for 17, how many bytes are needed).
+/// The number is the reason. The place is the location of the fault, or for 17 the needed length.
 #[derive(Clone, Copy, Debug, PartialEq, Eq)]
 pub struct Refusal {
     pub number: u64,
     pub place: u64,
 }
 
-/// 1: the module has over 16,777,216 bytes.
+/// 1: the module has more than 16,777,216 bytes.
 pub fn too_big() -> Refusal {
     Refusal {
         number: 1,
@@ -15,7 +15,7 @@ pub fn too_big() -> Refusal {
     }
 }
 
-/// 2: the module has under 8 bytes, or does not begin with DBM0.
+/// 2: the module has fewer than 8 bytes, or does not begin with DBM0.
 pub fn no_module() -> Refusal {
     Refusal {
         number: 2,
@@ -23,7 +23,7 @@ pub fn no_module() -> Refusal {
     }
 }
 
-/// 3: version or revision.
+/// 3: the version or the revision is unknown.
 pub fn unknown_version() -> Refusal {
     Refusal {
         number: 3,
@@ -31,7 +31,7 @@ pub fn unknown_version() -> Refusal {
     }
 }
 
-/// 4: the header or the data of the chunk at this place are cut.
+/// 4: the header or the data of the chunk at this place is cut.
 pub fn cut_chunk(place: u64) -> Refusal {
     Refusal { number: 4, place }
 }
@@ -59,7 +59,7 @@ pub fn missing_chunk(length: u64) -> Refusal {
     }
 }
 
-/// 9: the NAME or INFO at this place has another length than it should.
+/// 9: the NAME or INFO at this place has a wrong length.
 pub fn wrong_length(place: u64) -> Refusal {
     Refusal { number: 9, place }
 }
@@ -69,12 +69,12 @@ pub fn wrong_info(place: u64) -> Refusal {
     Refusal { number: 10, place }
 }
 
-/// 11: the blocks do not fill the chunk at this place, or a sample in it has other flags than 1, 2 or 4.
+/// 11: the blocks do not fill the chunk at this place, or one of its samples has flags other than 1, 2 or 4.
 pub fn wrong_blocks(place: u64) -> Refusal {
     Refusal { number: 11, place }
 }
 
-/// 12: the field at this place names something that does not exist.
+/// 12: the field at this place refers to something that does not exist.
 pub fn dangling(place: u64) -> Refusal {
     Refusal { number: 12, place }
 }
@@ -84,7 +84,7 @@ pub fn wrong_field(place: u64) -> Refusal {
     Refusal { number: 13, place }
 }
 
-/// 14: the loop of the instrument whose block stands at this place lies outside its sample.
+/// 14: the loop of the instrument whose block is at this place is outside its sample.
 pub fn loop_outside(place: u64) -> Refusal {
     Refusal { number: 14, place }
 }
@@ -97,12 +97,12 @@ pub fn broken(place: usize) -> Refusal {
     }
 }
 
-/// 15: the packed stream of the pattern whose block stands at this place of the module is broken.
+/// 15: the packed stream of the pattern whose block is at this place of the module is broken.
 pub fn broken_pattern(place: u64) -> Refusal {
     Refusal { number: 15, place }
 }
 
-/// 16: rows, tracks, or the length of the packer's input.
+/// 16: the rows, the tracks, or the length of the packer's input is out of range.
 pub fn out_of_range() -> Refusal {
     Refusal {
         number: 16,

@@ -1,14 +1,14 @@
-//! A whole module, repacked.
+//! Repacks a whole module.
 //!
-//! The module is taken apart and written anew, chunk by chunk as it stood. Only the data of PATT are made from what was read: the rows
-//! of each pattern and the packer's stream of its cells.
+//! The module is parsed and rewritten, chunk by chunk in the same order. Only the data of PATT is made from what was parsed: the rows of
+//! each pattern and the packer's stream for its cells.
 
 use crate::blocks::Pattern;
 use crate::module::read;
 use crate::pattern::{self, put};
 use crate::refusal::Refusal;
 
-/// Writes the repacked module, and answers how many bytes these are. Refusals: the module's own, 17.
+/// Writes the repacked module and returns its length. Refusals: the module's own, 17.
 pub fn repack(module: &[u8], out: &mut [u8]) -> Result<u64, Refusal> {
     put(&repacked(module)?, out)
 }
@@ -44,7 +44,7 @@ fn patterns(patterns: &[Pattern], tracks: u64) -> Vec<u8> {
     data
 }
 
-/// The packer's stream of a pattern's cells. It is no longer than the stream that was read.
+/// The packer's stream for a pattern's cells. It is not longer than the stream that was read.
 fn packed(pattern: &Pattern, tracks: u64) -> Vec<u8> {
     let mut stream = vec![0; pattern.stream.len()];
     let length = pattern::repack(pattern.stream, pattern.rows, tracks, &mut stream)

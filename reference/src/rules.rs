@@ -1,7 +1,6 @@
 //! The rules of fields, loops and packed streams: refusals 12 to 15.
 //!
-//! Every rule that does not hold gives its refusal, in the order of the checks. Whoever wants the refusal of the module takes the
-//! first.
+//! Every rule that does not hold yields its refusal, in the order of the checks. The first one is the refusal of the module.
 
 use crate::blocks::{Envelope, Instrument, Pattern, Song};
 use crate::module::Module;
@@ -9,12 +8,12 @@ use crate::part::Field;
 use crate::pattern;
 use crate::refusal::{broken_pattern, dangling, loop_outside, wrong_field, Refusal};
 
-/// The refusals of all rules that a module with sound blocks breaks.
+/// The refusals of all rules that a module with valid blocks breaks.
 pub fn broken<'m>(module: &'m Module) -> impl Iterator<Item = Refusal> + 'm {
     fields(module).chain(loops(module)).chain(streams(module))
 }
 
-/// 12 and 13, field by field: SONG, INST, VENV, PENV. PATT and SMPL have no field that could be wrong.
+/// 12 and 13, field by field: SONG, INST, VENV, PENV. PATT and SMPL have no field that can be invalid.
 fn fields<'m>(module: &'m Module) -> impl Iterator<Item = Refusal> + 'm {
     let info = module.info;
     let scaled = module.header.version == 2;
@@ -37,7 +36,7 @@ fn fields<'m>(module: &'m Module) -> impl Iterator<Item = Refusal> + 'm {
     songs.chain(instruments).chain(volumes).chain(pannings)
 }
 
-/// The refusal of a rule, where it does not hold.
+/// The refusal of a rule, if the rule does not hold.
 fn unless(holds: bool, refusal: Refusal) -> Option<Refusal> {
     if holds {
         None
@@ -119,7 +118,7 @@ fn of_envelope<'m>(
     .chain(values)
 }
 
-/// 14: a looped instrument has a sample, and its loop ends within it.
+/// 14: an instrument with a loop has a sample, and the loop ends inside it.
 fn loops<'m>(module: &'m Module) -> impl Iterator<Item = Refusal> + 'm {
     module
         .instruments

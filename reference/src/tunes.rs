@@ -3,7 +3,7 @@
 use crate::draft::{Chunk, Draft, Envelope, Instrument, Pattern, Sample, Song, Tune};
 use crate::pattern::{pack, FIELDS};
 
-/// The names of the files and what they hold.
+/// The names and the contents of the files.
 pub fn files() -> [(&'static str, Vec<u8>); 5] {
     [
         ("smallest.dbm", Tune::default().bytes()),
@@ -14,10 +14,10 @@ pub fn files() -> [(&'static str, Vec<u8>); 5] {
     ]
 }
 
-/// A cell to be put into a pattern: row, track, and the six fields.
+/// A cell of a pattern: row, track, and the six fields.
 type Placed = (usize, usize, [u8; FIELDS]);
 
-/// The packer's stream of a pattern of four tracks.
+/// A pattern of four tracks with the packer's stream.
 fn pattern(rows: u16, placed: &[Placed]) -> Pattern {
     let mut cells = vec![0; usize::from(rows) * 4 * FIELDS];
     for (row, track, fields) in placed {
@@ -135,7 +135,7 @@ fn organ_envelope() -> Envelope {
     }
 }
 
-/// The bell swings from side to side.
+/// The bell moves from side to side.
 fn bell_envelope() -> Envelope {
     Envelope {
         instrument: u16::from(BELL),
@@ -160,7 +160,7 @@ fn drum() -> Sample {
     Sample::new(2, &frames.flat_map(i16::to_be_bytes).collect::<Vec<u8>>())
 }
 
-/// 8 bits: a triangle of 16 frames, again and again.
+/// 8 bits: a triangle of 16 frames, repeated.
 fn organ(frames: i8) -> Sample {
     let frames = (0..frames).map(|frame| 12 * ((frame % 16 - 8).abs() - 4));
     Sample::new(1, &frames.flat_map(i8::to_be_bytes).collect::<Vec<u8>>())
@@ -175,7 +175,7 @@ fn bell() -> Sample {
     Sample::new(4, &frames.flat_map(i32::to_be_bytes).collect::<Vec<u8>>())
 }
 
-/// The module's chunks, and behind them the echo: off for each of four tracks, then its four numbers.
+/// The module's chunks, and after them the echo: off for each of four tracks, then its four numbers.
 fn echoed(tune: &Tune) -> Draft {
     let echo = [0, 4, 1, 1, 1, 1, 0, 64, 0, 128, 0, 128, 0, 255];
     let mut draft = tune.draft();
@@ -183,14 +183,14 @@ fn echoed(tune: &Tune) -> Draft {
     draft
 }
 
-/// A shorter recording of the organ was put in; the instrument kept its loop.
+/// The organ's sample is replaced by a shorter recording. The instrument keeps its loop.
 fn short_organ() -> Tune {
     let mut tune = carousel();
     tune.samples[1] = organ(40);
     tune
 }
 
-/// The packed length of the second pattern counts the filler, as some programs do.
+/// The packed length of the second pattern includes the filler, as in the files of some programs.
 fn broken_pattern() -> Draft {
     let tune = carousel();
     let [first, second] = [&tune.patterns[0], &tune.patterns[1]];
@@ -205,7 +205,7 @@ fn broken_pattern() -> Draft {
     draft
 }
 
-/// A tune of the older program: its panning envelopes are stored as 0 to 64, the panning of instruments is not.
+/// A tune of the older program. Its panning envelopes are stored as 0 to 64, but the panning of its instruments is not.
 fn old() -> Tune {
     let placed = [
         note(0, 1, 0x40, 1),

@@ -1,10 +1,10 @@
-//! All records of a module at once: expectations typed by hand.
+//! All records of a module, with expectations typed by hand.
 //!
-//! Modules and what is written of them are hexadecimal, one part a line; blanks and line ends do not count.
+//! Modules and their records are hexadecimal, one part on each line. Blanks and line ends are ignored.
 
 use reference::all_records::write;
 use reference::draft::{Envelope, Tune};
-use reference::generate::{damage, module as made, Most, Random};
+use reference::generate::{damage, module as made, Limits, Random};
 use reference::module::check;
 use reference::records::{self, Kind};
 use reference::refusal::Refusal;
@@ -33,18 +33,18 @@ fn bytes(hex: &str) -> Vec<u8> {
         .collect()
 }
 
-/// The records of the module, in an output that has more room than they need.
+/// The records of the module, written into an output that is longer than needed.
 #[track_caller]
 fn written(module: &[u8]) -> Vec<u8> {
     let mut out = vec![0xAA; module.len() + 100];
     let length = write(module, &mut out).expect("an accepted module");
-    let (written, behind) = out.split_at(length as usize);
-    assert!(behind.iter().all(|&byte| byte == 0xAA));
+    let (written, after) = out.split_at(length as usize);
+    assert!(after.iter().all(|&byte| byte == 0xAA));
     written.to_vec()
 }
 
-/// The records of the module are these bytes, in outputs of every length: where they are shorter, 17 with the needed length and nothing
-/// written, and what stands behind the needed length stays.
+/// The records of the module are these bytes, for outputs of every length. A shorter output is refused with 17 and the needed length, and
+/// nothing is written. The bytes after the needed length are unchanged.
 #[track_caller]
 fn shows(module: &[u8], records: &[u8]) {
     assert_eq!(check(module), Ok(()));
@@ -62,7 +62,7 @@ fn shows(module: &[u8], records: &[u8]) {
     }
 }
 
-/// Version 2.21, everything there but the name. PENV stands first, SONG last, two other chunks between.
+/// Version 2.21, with everything except the name. PENV is first, SONG is last, and there are two other chunks between them.
 ///
 ///        0 header
 ///        8 PENV   16 count, 18 the first envelope, 154 the second, 290 the end
@@ -115,8 +115,8 @@ const OLD: &str = "
         fefefefefefefefefefefefefefefefefefefefefefefefefefefefefefefefefefefefefefefefefefefefe
             0000";
 
-/// The panning values 0, 16 and 64 are shown as -128, -64 and 128, and 32 as 0; points not in use as zeros. The stored points of sustain
-/// and loop stay, also where they are not switched on.
+/// The panning values 0, 16 and 64 are returned as -128, -64 and 128, and 32 as 0. Points not in use are returned as zeros. The stored
+/// points of sustain and loop are returned unchanged, even if they are off.
 const OLD_RECORDS: &str = "
     02 21
     0000000000000000000000000000000000000000000000000000000000000000000000000000000000000000
@@ -161,7 +161,7 @@ fn everything_byte_by_byte() {
     shows(&module, &records);
 }
 
-/// In version 3 the values of panning are signed: the three of the first envelope -128, 128 and -1.
+/// In version 3 the panning values are signed: the three of the first envelope are -128, 128 and -1.
 #[test]
 fn panning_of_version_3() {
     let mut module = bytes(OLD);
@@ -171,7 +171,7 @@ fn panning_of_version_3() {
     }
     let mut records = bytes(OLD_RECORDS);
     records[0] = 3;
-    // The panning envelopes are the last two, 136 bytes each; the value of the first point of the second is 32 now.
+    // The panning envelopes are the last two, 136 bytes each. The value of the first point of the second is 32 now.
     let first = records.len() - 2 * 136 + 8;
     let points = bytes("0000 ff80  0005 0080  ffff ffff");
     records[first..first + 12].copy_from_slice(&points);
@@ -194,7 +194,7 @@ fn the_smallest_module() {
     shows(&bytes(SMALLEST), &bytes(records));
 }
 
-/// A name of all kinds of bytes behind all other chunks, and the highest revision.
+/// A name with all kinds of bytes after all other chunks, and the highest revision.
 #[test]
 fn a_name() {
     let name =
@@ -206,7 +206,7 @@ fn a_name() {
     shows(&module, &bytes(&records));
 }
 
-/// No chunk of envelopes, or one that has none: the same is shown.
+/// No chunk of envelopes, or a chunk without envelopes: the records are the same.
 #[test]
 fn no_envelopes() {
     let none = bytes(SMALLEST);
@@ -218,7 +218,7 @@ fn no_envelopes() {
     assert_eq!(written(&empty), written(&none));
 }
 
-/// Every number of envelopes' points that may be in use.
+/// Every number of points in use that an envelope can have.
 #[test]
 fn points_in_use() {
     for sections in 0..=31 {
@@ -264,7 +264,7 @@ fn points_in_use() {
     }
 }
 
-/// The module's own refusal comes before 17, and writes nothing.
+/// The module's own refusal has priority over 17, and nothing is written.
 #[test]
 fn refusals_of_the_module() {
     let module = bytes(OLD);
@@ -307,7 +307,7 @@ fn refusals_of_the_module() {
     assert_eq!(out, [0xAA; 100]);
 }
 
-/// The same bytes, put together from the answers of the queries.
+/// The same bytes, assembled from the answers of the queries.
 fn from_queries(module: &[u8]) -> Vec<u8> {
     let (version, revision) = records::version(module).expect("accepted");
     let mut all = vec![version, revision];
@@ -375,15 +375,15 @@ fn from_queries(module: &[u8]) -> Vec<u8> {
     all
 }
 
-/// Each record tells just what its own query answers, and an output of the module's length and 60 bytes is enough.
+/// Each record equals the answer of its own query, and an output of the module's length and 60 bytes is enough.
 #[test]
 fn records_are_what_the_queries_answer() {
     let samples = files().map(|(_, module)| module).into_iter();
     let drawn = (1..=150).map(|seed| {
         let most = if seed % 5 == 0 {
-            Most::USUAL
+            Limits::USUAL
         } else {
-            Most::SMALL
+            Limits::SMALL
         };
         made(&mut Random::new(seed), &most).bytes()
     });
@@ -401,7 +401,7 @@ fn damaged_modules_are_refused_as_by_the_check() {
     let mut refused = 0;
     for seed in 1..=2_000 {
         let random = &mut Random::new(seed);
-        let mut draft = made(random, &Most::SMALL);
+        let mut draft = made(random, &Limits::SMALL);
         damage(random, &mut draft);
         let module = draft.bytes();
         let mut out = vec![0xAA; module.len() + 60];

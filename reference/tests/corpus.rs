@@ -1,9 +1,9 @@
-//! The corpus, and the text of what is expected: typed by hand where it is text.
+//! The corpus, and the expected text, typed by hand.
 
 use std::collections::BTreeSet;
 
 use reference::corpus::{
-    encoded, module_cases, pattern_cases, programs, record_cases, take, Asked, Case,
+    encoded, module_cases, pattern_cases, programs, record_cases, take, Case, Query,
 };
 use reference::draft::{Pattern, Tune};
 use reference::expect::expected;
@@ -114,7 +114,7 @@ fn the_lines_of_modules() {
             .map(|byte| format!("{byte:02x}"))
             .collect();
     let smallest: String = smallest.iter().map(|byte| format!("{byte:02x}")).collect();
-    // Version and revision, no name, INFO's numbers and those of envelopes.
+    // Version and revision, no name, the numbers of INFO and the counts of envelopes.
     let records = format!("0300{}{}", "00".repeat(44), "0000000000000000000400000000");
     let filled = |count| "aa".repeat(count);
     assert_eq!(
@@ -159,7 +159,7 @@ fn the_lines_of_modules() {
     );
 }
 
-/// A module with P3 and the filler $FF, 72 bytes; with P1 it has 70.
+/// A module with P3 and the filler $FF has 72 bytes. With P1 it has 70.
 #[test]
 fn the_lines_of_a_repacked_module() {
     let mut module = b"DBM0\x03\x00\x00\x00INFO\x00\x00\x00\x0A".to_vec();
@@ -196,7 +196,7 @@ fn the_lines_of_a_repacked_module() {
     }
 }
 
-/// A module that is longer than 65,536 bytes is repacked into that much room, which may be enough; so are its records written.
+/// A module of more than 65,536 bytes is repacked into an output of that length, which may be enough. The same holds for its records.
 #[test]
 fn a_module_of_more_than_65536_bytes() {
     let of_rows = |rows: u16, entry: &[u8]| {
@@ -221,8 +221,8 @@ fn a_module_of_more_than_65536_bytes() {
     }
 }
 
-/// The first of everything, but for the track.
-const ASKED: Asked = Asked {
+/// The first of each item, except the track.
+const QUERY: Query = Query {
     song: 0,
     entry: 0,
     instrument: 1,
@@ -234,15 +234,15 @@ const ASKED: Asked = Asked {
     frame: 0,
 };
 
-fn records(asked: Asked, room: u32, module: &[u8]) -> Case {
+fn records(query: Query, room: u32, module: &[u8]) -> Case {
     Case::Records {
-        asked,
+        query,
         room,
         module: module.to_vec(),
     }
 }
 
-/// A module of version 2 with one of everything but a name and a volume envelope. INFO stands at 8, the sample's frames at 320.
+/// A module of version 2 with one of each item except a name and a volume envelope. INFO is at 8, the sample's frames at 320.
 #[rustfmt::skip]
 fn one_of_each() -> Vec<u8> {
     [
@@ -258,14 +258,14 @@ fn one_of_each() -> Vec<u8> {
     .concat()
 }
 
-/// So many times " 0".
+/// " 0" repeated.
 fn zeros(count: usize) -> String {
     " 0".repeat(count)
 }
 
 #[test]
 fn the_lines_of_records() {
-    let corpus = encoded(&[records(ASKED, 5, &one_of_each())]);
+    let corpus = encoded(&[records(QUERY, 5, &one_of_each())]);
     assert_eq!(corpus.len(), 81 + 324);
     assert_eq!(
         corpus[..17],
@@ -306,7 +306,7 @@ fn the_lines_of_records() {
     );
 }
 
-/// The lines of a module that refuses all that depends on an index with one refusal, and all else with another or not at all.
+/// The lines of a module that refuses every query with an index with one refusal, and all others with another or not at all.
 fn refused_records(summary: &str, counts: &str, refusal: &str, out: &str) -> String {
     format!(
         "{summary}\
@@ -340,8 +340,8 @@ fn the_lines_of_refused_records() {
     let name = "00".repeat(44);
     let summary = format!("version 0 0 2 21\nname 0 0 {name}\ninfo 0 0 1 1 1 1 4\n");
     let counts = "volume_envelopes 0 0 0\npanning_envelopes 0 0 1\n";
-    // 18 comes before 17.
-    let past = Asked {
+    // 18 has priority over 17.
+    let past = Query {
         song: 1,
         entry: 1,
         instrument: 2,
@@ -356,19 +356,19 @@ fn the_lines_of_refused_records() {
         expected(&encoded(&[records(past, 1, &module)])),
         refused_records(&summary, counts, "18 0", "aa")
     );
-    // The data of INFO are cut; this comes before 18.
+    // The data of INFO is cut. This has priority over 18.
     let summary = format!("version 4 8 0 0\nname 4 8 {name}\ninfo 4 8 0 0 0 0 0\n");
     let counts = "volume_envelopes 4 8 0\npanning_envelopes 4 8 0\n";
-    for asked in [ASKED, past] {
+    for query in [QUERY, past] {
         assert_eq!(
-            expected(&encoded(&[records(asked, 2, &module[..20])])),
+            expected(&encoded(&[records(query, 2, &module[..20])])),
             refused_records(&summary, counts, "4 8", "aaaa")
         );
     }
 }
 
 #[test]
-fn at_most_65536_bytes_of_a_part_are_told() {
+fn at_most_65536_bytes_of_a_part_are_printed() {
     let mut module = b"DBM0\x03\x00\x00\x00INFO\x00\x00\x00\x0A".to_vec();
     module.extend([0, 0, 0, 1, 0, 0, 0, 0, 0, 4]);
     for name in [b"SONG", b"INST", b"PATT"] {
@@ -378,7 +378,7 @@ fn at_most_65536_bytes_of_a_part_are_told() {
     module.extend(b"SMPL\x00\x01\x00\x09\x00\x00\x00\x01\x00\x01\x00\x01");
     module.extend([0x11; 65_536]);
     module.push(0x22);
-    let text = expected(&encoded(&[records(ASKED, 0, &module)]));
+    let text = expected(&encoded(&[records(QUERY, 0, &module)]));
     let line = format!("\nframes 0 0 66 65537 {}\nframe", "11".repeat(65_536));
     assert!(text.contains(&line));
 }
@@ -408,7 +408,7 @@ fn a_cut_case_or_an_unknown_kind_ends_the_run() {
             room: 20,
             module: vec![b'D'; 9],
         },
-        records(ASKED, 3, &[b'D'; 9]),
+        records(QUERY, 3, &[b'D'; 9]),
     ];
     for case in whole {
         let case = encoded(&[case]);
@@ -519,7 +519,7 @@ fn the_modules_are_small_and_many() {
     assert!(different.len() >= 1_700, "{} modules", different.len());
 }
 
-/// The words of the lines of a case of records, and whether the query can give 18 and 17.
+/// The words of the lines of a records case, and whether the query can return 18 and 17.
 const QUERIES: [(&str, bool, bool); 18] = [
     ("version", false, false),
     ("name", false, false),
@@ -588,7 +588,7 @@ fn the_corpus_has_every_kind_of_answer() {
             assert!(count >= 100, "{start}: {count}");
         }
     }
-    // No module of the corpus has over 16,777,216 bytes.
+    // No module of the corpus has more than 16,777,216 bytes.
     for number in [0, 2, 3, 4, 5, 6, 7, 8, 9, 10, 11, 12, 13, 14, 15] {
         let start = format!("module {number} ");
         let count = text.lines().filter(|line| line.starts_with(&start)).count();
@@ -618,10 +618,10 @@ fn the_corpus_has_every_kind_of_answer() {
     );
 }
 
-/// Of the accepted modules, enough are not yet as the packer would have them, and enough of these have chunks behind PATT.
+/// Enough of the accepted modules differ from the packer's result, and enough of these have chunks after PATT.
 #[test]
 fn the_modules_have_something_to_repack() {
-    let (mut shorter, mut as_long, mut behind) = (0, 0, 0);
+    let (mut shorter, mut as_long, mut after) = (0, 0, 0);
     for case in module_cases() {
         let Case::Module { module, .. } = case else {
             panic!("{case:?}");
@@ -637,12 +637,12 @@ fn the_modules_have_something_to_repack() {
         if length < module.len() {
             shorter += 1;
             let last = read(&module).expect("it is accepted").chunks.pop();
-            behind += usize::from(last.is_some_and(|chunk| chunk.name != *b"PATT"));
+            after += usize::from(last.is_some_and(|chunk| chunk.name != *b"PATT"));
         } else {
             as_long += 1;
         }
     }
     assert!(shorter >= 25, "{shorter}");
     assert!(as_long >= 15, "{as_long}");
-    assert!(behind >= 20, "{behind}");
+    assert!(after >= 20, "{after}");
 }

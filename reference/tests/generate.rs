@@ -3,13 +3,13 @@
 use std::collections::BTreeSet;
 
 use reference::chunks::COVERED;
-use reference::generate::{damage, module, Most, Random};
+use reference::generate::{damage, module, Limits, Random};
 use reference::module::{check, read};
 use reference::pattern::repack;
 
 #[test]
 fn made_modules_are_accepted() {
-    for (most, count) in [(Most::SMALL, 3_000), (Most::USUAL, 200)] {
+    for (most, count) in [(Limits::SMALL, 3_000), (Limits::USUAL, 200)] {
         for seed in 0..count {
             let module = module(&mut Random::new(seed), &most).bytes();
             assert_eq!(check(&module), Ok(()), "seed {seed}");
@@ -19,14 +19,14 @@ fn made_modules_are_accepted() {
 
 #[test]
 fn the_same_seed_makes_the_same_module() {
-    let bytes = |seed| module(&mut Random::new(seed), &Most::USUAL).bytes();
+    let bytes = |seed| module(&mut Random::new(seed), &Limits::USUAL).bytes();
     assert_eq!(bytes(7), bytes(7));
     assert_ne!(bytes(7), bytes(8));
 }
 
 #[test]
 fn no_more_than_the_most() {
-    let most = Most {
+    let most = Limits {
         songs: 0,
         instruments: 3,
         patterns: 1,
@@ -36,7 +36,7 @@ fn no_more_than_the_most() {
         frames: 9,
         envelopes: 0,
         others: 0,
-        ..Most::SMALL
+        ..Limits::SMALL
     };
     for seed in 0..300 {
         let bytes = module(&mut Random::new(seed), &most).bytes();
@@ -53,12 +53,12 @@ fn no_more_than_the_most() {
     }
 }
 
-/// Among some hundred modules there is each kind of thing that a module may have.
+/// Some hundred modules have every kind of item that a module can have.
 #[test]
 fn made_modules_have_everything() {
     let mut met = BTreeSet::new();
     for seed in 0..500 {
-        let bytes = module(&mut Random::new(seed), &Most::SMALL).bytes();
+        let bytes = module(&mut Random::new(seed), &Limits::SMALL).bytes();
         let read = read(&bytes).expect("made modules are accepted");
         met.insert(format!("version {}", read.header.version));
         let names: Vec<[u8; 4]> = read.chunks.iter().map(|chunk| chunk.name).collect();
@@ -88,7 +88,7 @@ fn made_modules_have_everything() {
         met.insert(format!("songs {}", read.songs.len()));
         met.insert(format!("named {}", read.name.is_some()));
     }
-    let mut due: BTreeSet<String> = [
+    let mut expected: BTreeSet<String> = [
         "version 2",
         "version 3",
         "a chunk before INFO",
@@ -113,8 +113,8 @@ fn made_modules_have_everything() {
     ]
     .map(str::to_string)
     .into();
-    due.extend((0..16).map(|flags| format!("envelope flags {flags}")));
-    assert_eq!(met, due);
+    expected.extend((0..16).map(|flags| format!("envelope flags {flags}")));
+    assert_eq!(met, expected);
 }
 
 #[test]
@@ -122,7 +122,7 @@ fn damage_leads_to_every_refusal() {
     let mut numbers = BTreeSet::new();
     for seed in 0..4_000 {
         let random = &mut Random::new(seed);
-        let mut draft = module(random, &Most::SMALL);
+        let mut draft = module(random, &Limits::SMALL);
         for _ in 0..1 + seed % 2 {
             damage(random, &mut draft);
         }
@@ -132,7 +132,7 @@ fn damage_leads_to_every_refusal() {
                 .map_or(0, |refusal| refusal.number),
         );
     }
-    // 1 is for modules of over 16,777,216 bytes.
+    // 1 is for modules of more than 16,777,216 bytes.
     assert_eq!(
         numbers.into_iter().collect::<Vec<u64>>(),
         [0, 2, 3, 4, 5, 6, 7, 8, 9, 10, 11, 12, 13, 14, 15]

@@ -1,6 +1,6 @@
-//! Whole modules: expectations typed by hand.
+//! Whole modules, with expectations typed by hand.
 //!
-//! Numbers and places are literals, reckoned from the layout that stands beside each module below.
+//! Numbers and places are literals, computed from the layout beside each module below.
 
 use reference::listing::{lines, listing, write};
 use reference::module::check;
@@ -12,8 +12,8 @@ fn chunk(name: &[u8; 4], data: &[u8]) -> Vec<u8> {
     [&name[..], &(data.len() as u32).to_be_bytes(), data].concat()
 }
 
-/// A chunk whose header tells another length.
-fn told(name: &[u8; 4], length: u32, data: &[u8]) -> Vec<u8> {
+/// A chunk whose header has another length.
+fn chunk_with_length(name: &[u8; 4], length: u32, data: &[u8]) -> Vec<u8> {
     [&name[..], &length.to_be_bytes(), data].concat()
 }
 
@@ -66,7 +66,7 @@ fn four() -> Vec<u8> {
     smallest()[26..].to_vec()
 }
 
-/// A song without a name, 46 bytes and two for each entry.
+/// A song without a name: 46 bytes, and two for each entry.
 fn song(playlist: &[u16]) -> Vec<u8> {
     let mut song = vec![0; 44];
     song.extend((playlist.len() as u16).to_be_bytes());
@@ -95,7 +95,7 @@ fn instrument(
     instrument
 }
 
-/// A pattern with a filler where its stream is odd.
+/// A pattern, with a filler if its stream is odd.
 fn pattern(rows: u16, stream: &[u8], filler: u8) -> Vec<u8> {
     let mut pattern = rows.to_be_bytes().to_vec();
     pattern.extend((stream.len() as u32).to_be_bytes());
@@ -110,7 +110,7 @@ fn sample(flags: u32, frames: u32, data: &[u8]) -> Vec<u8> {
     [&flags.to_be_bytes(), &frames.to_be_bytes(), data].concat()
 }
 
-/// An envelope of 136 bytes: the eight first ones, then points with position 0.
+/// An envelope of 136 bytes: the first eight, then points with position 0.
 fn envelope(first: [u8; 8], values: &[i16]) -> Vec<u8> {
     let mut envelope = first.to_vec();
     for value in values {
@@ -186,10 +186,10 @@ fn whole_modules_are_accepted() {
 
 #[test]
 fn most_bytes() {
-    // An other chunk at 58 that fills the module up.
+    // Another chunk at 58, which fills the module.
     let long = [
         &smallest()[..],
-        &told(b"XYZW", 16_777_216 - 66, &vec![0x5A; 16_777_216 - 66]),
+        &chunk_with_length(b"XYZW", 16_777_216 - 66, &vec![0x5A; 16_777_216 - 66]),
     ]
     .concat();
     assert_eq!(long.len(), 16_777_216);
@@ -202,7 +202,7 @@ fn most_bytes() {
     long.extend(((16_777_216_u32 - 66) / 4).to_be_bytes());
     long.resize(16_777_216 - 2, 0x80);
     refused(&long, 4, 50);
-    // 16,777,150 bytes are no whole number of frames.
+    // 16,777,150 is not a multiple of the frame length.
     long.resize(16_777_216, 0x80);
     refused(&long, 11, 50);
     long[58..62].copy_from_slice(&[0, 0, 0, 2]);
@@ -214,13 +214,13 @@ fn most_bytes() {
 fn one_byte_more() {
     let long = [
         &smallest()[..],
-        &told(b"XYZW", 16_777_217 - 66, &vec![0x5A; 16_777_217 - 66]),
+        &chunk_with_length(b"XYZW", 16_777_217 - 66, &vec![0x5A; 16_777_217 - 66]),
     ]
     .concat();
     assert_eq!(long.len(), 16_777_217);
     refused(&long, 1, 0);
     assert_eq!(listing(&long), "input too big\n");
-    // 1 comes before all else.
+    // 1 has priority over all others.
     refused(&vec![0; 16_777_217], 1, 0);
     refused(&vec![0; 16_777_216], 2, 0);
 }
@@ -278,7 +278,7 @@ fn a_cut_chunk_header() {
         let tail = &b"XYZW\x00\x00\x00\x00"[..length];
         refused(&[&smallest()[..], tail].concat(), 4, 58);
         refused(&[&HEADER[..], tail].concat(), 4, 8);
-        // Whatever the letters.
+        // Whatever the letters are.
         refused(&[&smallest()[..], &[0; 7][..length]].concat(), 4, 58);
     }
     accepted(&[&smallest()[..], b"XYZW\x00\x00\x00\x00"].concat());
@@ -287,9 +287,17 @@ fn a_cut_chunk_header() {
 #[test]
 fn cut_chunk_data() {
     let data = [1, 2, 3];
-    accepted(&[smallest(), told(b"XYZW", 3, &data)].concat());
-    refused(&[smallest(), told(b"XYZW", 4, &data)].concat(), 4, 58);
-    refused(&[smallest(), told(b"XYZW", 1 << 24, &data)].concat(), 4, 58);
+    accepted(&[smallest(), chunk_with_length(b"XYZW", 3, &data)].concat());
+    refused(
+        &[smallest(), chunk_with_length(b"XYZW", 4, &data)].concat(),
+        4,
+        58,
+    );
+    refused(
+        &[smallest(), chunk_with_length(b"XYZW", 1 << 24, &data)].concat(),
+        4,
+        58,
+    );
     for cut in 1..18 {
         refused(&smallest()[..8 + cut], 4, 8);
     }
@@ -297,28 +305,28 @@ fn cut_chunk_data() {
         refused(&smallest()[..26 + cut], 4, 26);
         refused(&smallest()[..50 + cut], 4, 50);
     }
-    // INFO lies at 8; told 11 it takes the S of SONG, and behind that stands an identifier that is none.
+    // INFO is at 8. With length 11 it includes the S of SONG, and is followed by an invalid identifier.
     refused(&with(&smallest(), 12, &[0, 0, 0, 11]), 9, 8);
-    // SMPL is the last: one byte more is not there.
+    // SMPL is the last chunk, so there is no byte after it.
     refused(&with(&smallest(), 54, &[0, 0, 0, 1]), 4, 50);
 }
 
 #[test]
 fn no_length_wraps() {
     for length in [0x8000_0000, 0xFFFF_FFF0, 0xFFFF_FFF8, 0xFFFF_FFFF_u32] {
-        let wild = told(b"XYZW", length, &[0; 8]);
+        let wild = chunk_with_length(b"XYZW", length, &[0; 8]);
         refused(&[&HEADER[..], &wild, &smallest()[8..]].concat(), 4, 8);
         refused(&[smallest(), wild].concat(), 4, 58);
         refused(&with(&smallest(), 54, &length.to_be_bytes()), 4, 50);
     }
     // 58 + 8 + this is 2^32, and with 8 more it is the place of the first chunk.
     refused(
-        &[smallest(), told(b"XYZW", 0xFFFF_FFBE, &[])].concat(),
+        &[smallest(), chunk_with_length(b"XYZW", 0xFFFF_FFBE, &[])].concat(),
         4,
         58,
     );
     refused(
-        &[smallest(), told(b"XYZW", 0xFFFF_FFC6, &[])].concat(),
+        &[smallest(), chunk_with_length(b"XYZW", 0xFFFF_FFC6, &[])].concat(),
         4,
         58,
     );
@@ -346,7 +354,7 @@ fn identifiers() {
 }
 
 #[test]
-fn covered_chunks_stand_once() {
+fn covered_chunks_occur_once() {
     // NAME at 8, INFO at 60, VENV and PENV at 78 and 88 with no envelope each, the four from 98 on.
     let name = || chunk(b"NAME", &[b'n'; 44]);
     let venv = || chunk(b"VENV", &[0, 0]);
@@ -379,7 +387,7 @@ fn other_chunks_may_repeat() {
 }
 
 #[test]
-fn four_chunks_stand_behind_info() {
+fn four_chunks_follow_info() {
     let info = || info([0, 0, 0, 0, 4]);
     for name in [b"SONG", b"INST", b"PATT", b"SMPL"] {
         refused(&module(&[chunk(name, &[]), info(), four()]), 7, 8);
@@ -388,7 +396,7 @@ fn four_chunks_stand_behind_info() {
             7,
             17,
         );
-        // Also if no INFO ever comes.
+        // Also if there is no INFO at all.
         refused(&module(&[chunk(name, &[])]), 7, 8);
     }
     let optional = [
@@ -403,7 +411,7 @@ fn four_chunks_stand_behind_info() {
 }
 
 #[test]
-fn any_order_behind_info() {
+fn any_order_after_info() {
     let [info, song, inst, patt, smpl, venv, penv] = pieces();
     accepted(&module(&[
         info.clone(),
@@ -421,7 +429,7 @@ fn any_order_behind_info() {
         smpl.clone(),
         patt.clone(),
     ]));
-    // INFO second: SONG is before it. INFO last: SMPL is.
+    // With INFO second, SONG is before it. With INFO last, SMPL is.
     refused(
         &module(&[
             song.clone(),
@@ -481,7 +489,7 @@ fn the_length_of_info() {
 
 #[test]
 fn numbers_of_info() {
-    // INFO at 8: numbers at 16, 18, 20, 22 and 24. Within range the blocks lack, which is 11 at the chunk concerned.
+    // INFO at 8: numbers at 16, 18, 20, 22 and 24. For numbers in range the blocks are missing, which is 11 at the chunk.
     let number = |place, number: u16| with(&smallest(), place, &number.to_be_bytes());
     refused(&number(16, 255), 11, 34);
     refused(&number(16, 256), 10, 16);
@@ -492,7 +500,7 @@ fn numbers_of_info() {
     refused(&number(20, 32_768), 10, 20);
     refused(&number(22, 1_024), 11, 42);
     refused(&number(22, 1_025), 10, 22);
-    // Behind NAME: 52 further on.
+    // After NAME, 52 bytes further.
     let named = module(&[chunk(b"NAME", &[0; 44]), info([0, 256, 0, 0, 4]), four()]);
     refused(&named, 10, 70);
 }
@@ -515,7 +523,7 @@ fn as_many_of_each_as_there_may_be() {
         chunk(b"SMPL", &[]),
     ]);
     accepted(&songs);
-    // One song less: it ends before the chunk does. SONG at 26.
+    // With one song less, the songs end before the chunk does. SONG at 26.
     refused(&with(&songs, 20, &32_766_u16.to_be_bytes()), 11, 26);
 }
 
@@ -546,7 +554,7 @@ fn one_chunk(numbers: [u16; 5], name: &[u8; 4], data: &[u8]) -> Vec<u8> {
 fn songs_fill_their_chunk() {
     let songs = |count, data: &[u8]| one_chunk([0, 0, count, 1, 4], b"SONG", data);
     let patt = |module: Vec<u8>| {
-        // PATT is empty there; one pattern of no rows is put in, and its chunk is the last but one.
+        // PATT is empty there. One pattern of no rows is inserted, and its chunk is the last but one.
         let end = module.len() - 8;
         let head = &module[..end - 8];
         [head, &chunk(b"PATT", &pattern(0, &[], 0)), &module[end..]].concat()
@@ -565,7 +573,7 @@ fn songs_fill_their_chunk() {
     for cut in 0..48 {
         refused(&patt(songs(1, &song(&[0])[..cut])), 11, 26);
     }
-    // A playlist that runs past the end, also where 46 + 2 × length would wrap.
+    // A playlist that runs past the end, including lengths for which 46 + 2 × length would wrap.
     for length in [2, 3, 0x7FFF, 0x8000, 0x8001, 0xFFE9, 0xFFFF_u16] {
         let song = with(&song(&[0]), 44, &length.to_be_bytes());
         refused(&patt(songs(1, &song)), 11, 26);
@@ -598,10 +606,10 @@ fn patterns_fill_their_chunk() {
     for cut in 0..8 {
         refused(&patterns(1, &even[..cut]), 11, 42);
     }
-    // The filler is missing at the end, and one stands behind an even stream.
+    // The filler is missing at the end, and a filler follows an even stream.
     refused(&patterns(1, &odd[..9]), 11, 42);
     refused(&patterns(1, &[even.clone(), vec![0]].concat()), 11, 42);
-    // A wild packed length: 6 + length is then 2^32 or a little more.
+    // A very large packed length: 6 + length is then 2^32 or slightly more.
     for length in [
         0x8000_0000,
         0xFFFF_FFFA,
@@ -791,7 +799,7 @@ fn fields_of_instruments() {
             );
         }
     }
-    // Name, rate and a loop that is none are not examined.
+    // The name, the rate, and a loop that is off are not examined.
     accepted(&with(&two, 42, &[0xFF; 30]));
     accepted(&with(&two, 76, &[0xFF; 12]));
 }
@@ -902,7 +910,7 @@ fn several_envelopes() {
     refused(&with(&both, 254, &[0, 2]), 12, 254);
     refused(&with(&both, 256, &[0x20]), 13, 256);
     refused(&with(&both, 264, &[0, 65]), 13, 264);
-    // Ascending offset: what stands in the first comes first.
+    // Ascending offset: a fault in the first envelope comes first.
     refused(&with_both(&both, (254, &[0, 0]), (128, &[0, 65])), 13, 128);
 }
 
@@ -930,7 +938,7 @@ fn loops_lie_in_their_sample() {
     refused(&looped(10, 1, 9, 2, 2), 14, 42);
     refused(&looped(10, 1, 10, 1, 3), 14, 42);
     refused(&looped(0, 1, 0, 1, 1), 14, 42);
-    // No sample, but a loop.
+    // A loop without a sample.
     refused(&looped(10, 0, 0, 1, 1), 14, 42);
     accepted(&looped(10, 0, 0, 1, 0));
     accepted(&looped(10, 0, 5, 0, 3));
@@ -938,12 +946,12 @@ fn loops_lie_in_their_sample() {
 
 #[test]
 fn kinds_of_loops() {
-    // Neither bit: no loop, however wild.
+    // If neither bit is set there is no loop, and its numbers are not examined.
     accepted(&looped(10, 1, 4_294_967_295, 4_294_967_295, 0));
     for flags in [1, 2, 3] {
         refused(&looped(10, 1, 5, 6, flags), 14, 42);
         accepted(&looped(10, 1, 5, 5, flags));
-        // No length, no loop.
+        // Without a length there is no loop.
         accepted(&looped(10, 1, 4_294_967_295, 0, flags));
         accepted(&looped(10, 1, 11, 0, flags));
     }
@@ -1179,12 +1187,12 @@ fn the_filler_is_no_row_end() {
     for filler in [1, 5, 0x40, 0xFF] {
         accepted(&of(1, &[0], filler));
     }
-    // Counted in the length, it is a byte left over: 2 at 52.
+    // If the length includes the filler, it is a byte left over: 2 at 52.
     refused(&with(&of(1, &[0], 0), 52, &[0, 0, 0, 2]), 15, 50);
 }
 
-/// Faults that are looked for when all chunks are known, in the order of the checks: what to write at which place of `rich`, and
-/// what is then refused.
+/// Faults that are checked after all chunks are known, in the order of the checks: the place in `rich`, the bytes to write there, and the
+/// expected refusal.
 const FAULTS: [(usize, &[u8], u64, u64); 33] = [
     (156, b"X", 8, 466),
     (78, &[0, 0], 11, 26),
@@ -1218,11 +1226,11 @@ const FAULTS: [(usize, &[u8], u64, u64); 33] = [
     (344, &[0, 129], 13, 344),
     (132, &[0, 0, 0, 3], 14, 90),
     (154, &[5], 15, 148),
-    // No fault: the filler.
+    // Not a fault: the filler.
     (155, &[7], 0, 0),
 ];
 
-/// The same faults of `reversed`.
+/// The same faults for `reversed`.
 const REVERSED_FAULTS: [(usize, &[u8], u64, u64); 33] = [
     (318, b"X", 8, 466),
     (462, &[0, 0], 11, 410),
@@ -1294,7 +1302,7 @@ fn all_later_faults_at_once() {
 #[test]
 fn from_the_front_the_first_faulty_chunk_decides() {
     let letters = || chunk(b"XyZW", &[]);
-    let past = || told(b"XYZW", 9_999, &[]);
+    let past = || chunk_with_length(b"XYZW", 9_999, &[]);
     let twice = || [chunk(b"VENV", &[0, 0]), chunk(b"VENV", &[0, 0])].concat();
     let early = || chunk(b"SONG", &[]);
     let name = || chunk(b"NAME", &[1, 2]);
@@ -1303,7 +1311,7 @@ fn from_the_front_the_first_faulty_chunk_decides() {
     let many = || info([0, 256, 0, 0, 4]);
     let rest = || smallest()[8..].to_vec();
     let of = |first: Vec<u8>, second: Vec<u8>| module(&[first, second, rest()]);
-    // Bad letters, 8 bytes.
+    // Invalid letters, 8 bytes.
     for second in [past(), twice(), early(), name(), short(), odd()] {
         refused(&of(letters(), second), 5, 8);
     }
@@ -1311,7 +1319,7 @@ fn from_the_front_the_first_faulty_chunk_decides() {
     for second in [letters(), twice(), early(), name(), short(), odd()] {
         refused(&of(past(), second), 4, 8);
     }
-    // The second VENV, 10 bytes behind the first.
+    // The second VENV, 10 bytes after the first.
     for second in [letters(), past(), early(), name(), short(), odd()] {
         refused(&of(twice(), second), 6, 18);
     }
@@ -1347,15 +1355,27 @@ fn in_one_chunk_the_order_of_the_checks_decides() {
     // 4 (a cut header) before 5.
     refused(&[&smallest()[..], b"xyzw\x00\x00\x00"].concat(), 4, 58);
     // 5 before 4 (data past the end).
-    refused(&[smallest(), told(b"xyzw", 1, &[])].concat(), 5, 58);
+    refused(
+        &[smallest(), chunk_with_length(b"xyzw", 1, &[])].concat(),
+        5,
+        58,
+    );
     // 4 before 6: a second INFO, SONG, NAME, cut.
-    refused(&[smallest(), told(b"INFO", 10, &[0; 9])].concat(), 4, 58);
-    refused(&[smallest(), told(b"SONG", 1, &[])].concat(), 4, 58);
+    refused(
+        &[smallest(), chunk_with_length(b"INFO", 10, &[0; 9])].concat(),
+        4,
+        58,
+    );
+    refused(
+        &[smallest(), chunk_with_length(b"SONG", 1, &[])].concat(),
+        4,
+        58,
+    );
     // 4 before 7: SONG before INFO, cut.
-    refused(&module(&[told(b"SONG", 1, &[])]), 4, 8);
-    // 4 before 9: NAME told 45 with 44 bytes; INFO told 11 with 10.
-    refused(&module(&[told(b"NAME", 45, &[0; 44])]), 4, 8);
-    refused(&module(&[told(b"INFO", 11, &[0; 10])]), 4, 8);
+    refused(&module(&[chunk_with_length(b"SONG", 1, &[])]), 4, 8);
+    // 4 before 9: NAME of length 45 with 44 bytes; INFO of length 11 with 10.
+    refused(&module(&[chunk_with_length(b"NAME", 45, &[0; 44])]), 4, 8);
+    refused(&module(&[chunk_with_length(b"INFO", 11, &[0; 10])]), 4, 8);
     // 6 before 9: a second NAME of 3 bytes, a second INFO of 9.
     let named = [smallest(), chunk(b"NAME", &[0; 44])].concat();
     refused(&[named, chunk(b"NAME", &[0; 3])].concat(), 6, 110);
@@ -1392,13 +1412,13 @@ fn the_walk_comes_before_what_is_missing_and_that_before_blocks() {
     refused(&[missing.clone(), chunk(b"NAME", &[])].concat(), 9, 58);
     refused(&with(&missing, 24, &[0, 5]), 10, 24);
     refused(&module(&[four(), chunk(b"XYZW", &[])]), 7, 8);
-    // No INFO: what lacks is told only if none of the four is met.
+    // No INFO: a missing chunk is reported only if none of the four occurs.
     refused(
         &module(&[chunk(b"VENV", &[0, 0]), chunk(b"XYZW", &[])]),
         8,
         26,
     );
-    // 8 before 11: a song lacks too.
+    // 8 before 11: a song is missing too.
     refused(&with(&missing, 20, &[0, 1]), 8, 58);
     // 10 before 11.
     refused(
@@ -1449,10 +1469,10 @@ fn the_listing_of_others() {
 
 #[test]
 fn the_listing_of_much_input() {
-    // An other chunk at 58.
+    // Another chunk at 58.
     let of = |length: u32| {
         let data = vec![0; length as usize - 66];
-        [smallest(), told(b"XYZW", length - 66, &data)].concat()
+        [smallest(), chunk_with_length(b"XYZW", length - 66, &data)].concat()
     };
     assert!(listing(&of(65_536)).ends_with("\naccepted 65536\n"));
     assert_eq!(listing(&of(65_537)), "input too big\n");

@@ -1,4 +1,4 @@
-//! Packed rows: expectations typed by hand.
+//! Packed rows, with expectations typed by hand.
 
 use reference::pattern::{cell, check, pack, repack, shown, unpack, Cell, Note, Refusal};
 
@@ -8,7 +8,7 @@ fn refused<T>(number: u64, place: u64) -> Result<T, Refusal> {
     Err(Refusal { number, place })
 }
 
-/// What unpacking writes into an output of just the needed length.
+/// The result of unpacking into an output of exactly the needed length.
 fn unpacked(stream: &[u8], rows: u64, tracks: u64) -> Vec<u8> {
     let mut out = vec![0xAA; (rows * tracks * 6) as usize];
     assert_eq!(
@@ -18,7 +18,7 @@ fn unpacked(stream: &[u8], rows: u64, tracks: u64) -> Vec<u8> {
     out
 }
 
-/// What repacking writes.
+/// The result of repacking.
 fn repacked(stream: &[u8], rows: u64, tracks: u64) -> Vec<u8> {
     let mut out = vec![0xAA; 1000];
     let length = repack(stream, rows, tracks, &mut out).unwrap() as usize;
@@ -27,7 +27,7 @@ fn repacked(stream: &[u8], rows: u64, tracks: u64) -> Vec<u8> {
     out
 }
 
-/// What packing writes.
+/// The result of packing.
 fn packed(cells: &[u8], rows: u64, tracks: u64) -> Vec<u8> {
     let mut out = vec![0xAA; 10_000];
     let length = pack(cells, rows, tracks, &mut out).unwrap() as usize;
@@ -180,7 +180,7 @@ fn a_full_row_of_four_tracks_has_33_bytes() {
 
 // Refusal 15.
 
-/// Every call that reads the stream says the same.
+/// Every call that reads the stream returns the same refusal.
 fn is_broken(stream: &[u8], rows: u64, tracks: u64, place: u64) {
     let mut out = vec![0xAA; (rows * tracks * 6) as usize + 100];
     assert_eq!(check(stream, rows, tracks), refused(15, place));
@@ -230,7 +230,7 @@ fn a_stream_cut_inside_the_fields_is_broken_at_the_entry() {
 }
 
 #[test]
-fn row_ends_that_lack_are_told_at_the_length() {
+fn missing_row_ends_are_reported_at_the_length() {
     is_broken(&[], 1, 4, 0);
     is_broken(&[], 65, 4, 0);
     is_broken(&[0, 0], 3, 4, 2);
@@ -243,7 +243,7 @@ fn row_ends_that_lack_are_told_at_the_length() {
 }
 
 #[test]
-fn bytes_left_over_are_told_at_the_first() {
+fn bytes_left_over_are_reported_at_the_first() {
     is_broken(&[0, 0], 1, 4, 1);
     is_broken(&[0, 1, 1, 0x47], 1, 4, 1);
     is_broken(&[0, 0xFF], 1, 4, 1);
@@ -260,7 +260,7 @@ fn with_no_rows_any_byte_is_left_over() {
 }
 
 #[test]
-fn the_first_fault_is_told() {
+fn the_first_fault_is_reported() {
     is_broken(&[5, 0xC0, 6, 0], 1, 4, 0);
     is_broken(&[1, 0, 5, 0, 1, 0xC0, 0], 1, 4, 2);
     is_broken(&[0, 1, 0x40], 2, 4, 1);
@@ -343,7 +343,7 @@ fn both_ranges_to_their_ends() {
 // Refusal 17.
 
 #[test]
-fn an_output_too_short_tells_the_needed_length() {
+fn an_output_too_short_reports_the_needed_length() {
     let stream = [0x02, 0x03, 0x47, 0x01, 0x00, 0x00];
     assert_eq!(unpack(&stream, 2, 4, &mut [0; 47]), refused(17, 48));
     assert_eq!(unpack(&stream, 2, 4, &mut []), refused(17, 48));
@@ -429,12 +429,12 @@ fn one_cell_gives_16_then_18_then_15() {
     assert_eq!(cell(&[9], 65_536, 4, MOST, 1), refused(16, 0));
     assert_eq!(cell(&[0, 9], 1, 4, 1, 1), refused(18, 0));
     assert_eq!(cell(&[0, 9], 1, 4, 0, 5), refused(18, 0));
-    // The fault stands after the asked row.
+    // The fault is after the selected row.
     assert_eq!(cell(&[0, 9], 1, 4, 0, 1), refused(15, 1));
     assert_eq!(cell(&[1, 1, 0x47, 0, 9, 0], 2, 4, 0, 1), refused(15, 4));
 }
 
-// Carrying out.
+// Applying entries.
 
 #[test]
 fn fields_that_an_entry_does_not_name_stay() {
@@ -508,12 +508,12 @@ fn the_last_of_254_tracks() {
     );
 }
 
-// Lent memory.
+// Output memory.
 
 #[test]
 fn a_refusal_changes_nothing() {
     let mut out = [0xAA; 24];
-    // The fault is the last thing in the stream.
+    // The fault is at the end of the stream.
     assert_eq!(
         unpack(&[1, 0x3F, 1, 2, 3, 4, 5, 6, 0, 0], 1, 4, &mut out),
         refused(15, 9)
@@ -551,7 +551,7 @@ fn bytes_past_the_needed_length_stay() {
     assert_eq!(out, [0x00, 0xAA, 0xAA]);
 }
 
-// Shown cells.
+// Cells in answers.
 
 fn note(byte: u8) -> Note {
     shown([byte, 0, 0, 0, 0, 0]).note

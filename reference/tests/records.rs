@@ -1,11 +1,11 @@
-//! The queries about a module: expectations typed by hand.
+//! The queries about a module, with expectations typed by hand.
 //!
-//! Numbers and places are literals, reckoned from the layout that stands beside each module below.
+//! Numbers and places are literals, computed from the layout beside each module below.
 
 use std::collections::BTreeSet;
 
 use reference::chunks::Info;
-use reference::generate::{damage, module as made, Most, Random};
+use reference::generate::{damage, module as made, Limits, Random};
 use reference::module::check;
 use reference::pattern::{Cell, Note};
 use reference::records::{self, Envelope, Instrument, Kind, Point, Sample, Song};
@@ -13,7 +13,7 @@ use reference::refusal::Refusal;
 
 const MOST: u64 = u64::MAX;
 
-/// More than there is of anything in `full`; some of them are 0, 1 or 2 in a number that is too small for them.
+/// Numbers of items that `full` does not have. Some are 0, 1 or 2 if truncated to fewer bits.
 const BEYOND: [u64; 10] = [
     256,
     257,
@@ -44,7 +44,7 @@ fn with(module: &[u8], place: usize, bytes: &[u8]) -> Vec<u8> {
     module
 }
 
-/// All points of an envelope; those that are not given are zeros.
+/// All points of an envelope. Those that are not given are zeros.
 fn points(given: &[(u16, i16)]) -> [Point; 32] {
     let mut points = [Point {
         position: 0,
@@ -56,8 +56,8 @@ fn points(given: &[(u16, i16)]) -> [Point; 32] {
     points
 }
 
-/// The call with an output of every length: 17 and nothing written where it is shorter than these bytes, else they are written and
-/// what is behind them stays.
+/// The call with an output of every length. If it is shorter than these bytes, 17 is returned and nothing is written. Otherwise they are
+/// written, and the bytes after them are unchanged.
 fn writes(bytes: &[u8], call: impl Fn(&mut [u8]) -> Result<u64, Refusal>) {
     let needed = bytes.len();
     for room in 0..needed {
@@ -80,7 +80,7 @@ const SONG_2: [u8; 44] = *b"\x00Third song\xFF\x01the name goes on behind zeros\
 const INSTRUMENT_1: [u8; 30] = *b"\xFFFirst instrument, and looped\x00";
 const INSTRUMENT_2: [u8; 30] = *b"Second instrument\x00\x80\x00\x00no loop!\x01";
 
-/// A module with everything in it, 1,032 bytes, good in both versions.
+/// A module with every kind of record, 1,032 bytes, valid in both versions.
 ///
 /// - PENV at 8: count at 16, blocks at 18 and 154.
 /// - NAME at 290.
@@ -92,7 +92,7 @@ const INSTRUMENT_2: [u8; 30] = *b"Second instrument\x00\x80\x00\x00no loop!\x01"
 /// - SONG at 596: blocks at 604, 656 and 702. Of the first, length at 648, entries at 650, 652 and 654.
 /// - VENV at 750: count at 758, blocks at 760 and 896.
 ///
-/// The points that are not in use hold $FF.
+/// The points that are not in use are $FF.
 #[rustfmt::skip]
 fn full(version: u8) -> Vec<u8> {
     let module = [
@@ -150,7 +150,7 @@ fn chunk(name: &[u8; 4], data: &[u8]) -> Vec<u8> {
     [&name[..], &(data.len() as u32).to_be_bytes(), data].concat()
 }
 
-/// A module with the data of SONG, INST, PATT and SMPL, in this order and straight behind INFO.
+/// A module with the data of SONG, INST, PATT and SMPL, in this order and directly after INFO.
 fn module(version: u8, info: [u16; 5], [song, inst, patt, smpl]: [&[u8]; 4]) -> Vec<u8> {
     [
         b"DBM0".to_vec(),
@@ -176,7 +176,7 @@ fn sampled(frame_bytes: u8, data: &[u8]) -> Vec<u8> {
     module(3, [0, 1, 0, 0, 4], [&[], &[], &[], &block])
 }
 
-/// One instrument of zeros, and one envelope with these points; the others hold $FF.
+/// One instrument of zeros, and one envelope with these points. The other points are $FF.
 /// INST at 34, its block at 42. The envelopes at 108: count at 116, block at 118, the value of point k at 128 + 4k.
 fn enveloped(version: u8, name: &[u8; 4], first: [u8; 8], given: &[(u16, i16)]) -> Vec<u8> {
     let mut data = [&[0, 1], &first[..]].concat();
@@ -291,7 +291,7 @@ fn volume_envelopes() {
                 points: points(&[(0, 64), (0x1234, 0)]),
             })
         );
-        // The flags have only bit 0: S1, L1, L2 and S2 are not checked, and shown as stored.
+        // Only bit 0 of the flags is set: S1, L1, L2 and S2 are not checked, and are returned as stored.
         assert_eq!(
             records::envelope(&full(version), Kind::Volume, 1),
             Ok(Envelope {
@@ -529,7 +529,7 @@ fn p10() {
             frames: 100,
         })
     );
-    // Without a length there is no loop, and its start is shown as stored.
+    // Without a length there is no loop, and its start is returned as stored.
     let start = records::instrument(&looped(4_294_967_295, 0), 1).map(|record| record.loop_start);
     assert_eq!(start, Ok(4_294_967_295));
     for (start, length) in [(90, 11), (4_294_967_295, 2)] {
@@ -565,7 +565,7 @@ fn version_and_revision_are_the_stored_bytes() {
         for revision in [0x00, 0x05, 0x09, 0x10, 0x21, 0x90, 0x99] {
             let module = with(&smallest(version), 5, &[revision]);
             assert_eq!(records::version(&module), Ok((version, revision)));
-            // The reserved word is not shown.
+            // The reserved word is not returned.
             let module = with(&module, 6, &[0xFF, 0xFE]);
             assert_eq!(records::version(&module), Ok((version, revision)));
         }
@@ -576,16 +576,16 @@ fn version_and_revision_are_the_stored_bytes() {
 fn a_missing_name_is_zeros() {
     for version in [2, 3] {
         assert_eq!(records::name(&smallest(version)), Ok([0; 44]));
-        // NAME of `full` becomes another chunk.
+        // The NAME of `full` is renamed.
         let module = with(&full(version), 290, b"NAMX");
         assert_eq!(records::name(&module), Ok([0; 44]));
-        // One that is all zeros is shown the same.
+        // For a name of all zeros the answer is the same.
         let module = [smallest(version), chunk(b"NAME", &[0; 44])].concat();
         assert_eq!(records::name(&module), Ok([0; 44]));
     }
 }
 
-/// Bytes that count up from the first one, with 0 behind 255.
+/// Bytes that count up from the first, with 0 after 255.
 fn counting<const LENGTH: usize>(first: u8) -> [u8; LENGTH] {
     std::array::from_fn(|index| first.wrapping_add(index as u8))
 }
@@ -721,7 +721,7 @@ fn without_their_chunk_there_are_no_envelopes() {
     };
     for version in [2, 3] {
         assert_eq!(counts(&smallest(version)), [Ok(0), Ok(0)]);
-        // VENV at 750 and PENV at 8 become other chunks, both or one of them.
+        // VENV at 750 and PENV at 8 are renamed, both or one of them.
         let no_volume = with(&full(version), 750, b"VENX");
         let no_panning = with(&full(version), 8, b"PENX");
         let neither = with(&no_volume, 8, b"PENX");
@@ -740,7 +740,7 @@ fn without_their_chunk_there_are_no_envelopes() {
         }
         assert!(records::envelope(&no_volume, Kind::Panning, 1).is_ok());
         assert!(records::envelope(&no_panning, Kind::Volume, 1).is_ok());
-        // Their chunks are there, with no envelope.
+        // Their chunks exist, without envelopes.
         let counted = [
             smallest(version),
             chunk(b"VENV", &[0, 0]),
@@ -771,7 +771,7 @@ fn one_point_in_use() {
         (3, b"PENV", Kind::Panning, 9),
     ] {
         let module = enveloped(version, name, first, &given);
-        // All other points hold $FF.
+        // All other points are $FF.
         assert_eq!(module[130..254], [0xFF; 124]);
         assert_eq!(shown_points(&module, kind), points(&[(0xFEDC, value)]));
     }
@@ -787,7 +787,7 @@ fn all_points_in_use() {
         -128, -120, -112, -104, -96, -88, -80, -72, -64, -56, -48, -40, -32, -24, -16, -8, 0, 8,
         16, 24, 32, 40, 48, 56, 64, 72, 80, 88, 96, 104, 112, 128,
     ];
-    // Positions in no order.
+    // Positions in any order.
     let mut positions = [0x8000; 32];
     positions[0] = 7;
     positions[1] = 6;
@@ -821,14 +821,14 @@ fn points_not_in_use_are_zeros() {
         (2, b"PENV", Kind::Panning, [128, -128]),
         (3, b"PENV", Kind::Panning, [64, 0]),
     ] {
-        // Whatever they hold: $FF, zeros, or what would be good in use.
+        // Whatever their bytes are: $FF, zeros, or values that are valid in use.
         let module = enveloped(version, name, first, &[(5, 64), (6, 0)]);
-        let due = points(&[(5, values[0]), (6, values[1])]);
-        assert_eq!(due[2].value, 0);
-        assert_eq!(shown_points(&module, kind), due);
+        let expected = points(&[(5, values[0]), (6, values[1])]);
+        assert_eq!(expected[2].value, 0);
+        assert_eq!(shown_points(&module, kind), expected);
         for byte in [0x00, 0x20, 0x7F, 0x80] {
             let module = with(&module, 134, &[byte; 120]);
-            assert_eq!(shown_points(&module, kind), due);
+            assert_eq!(shown_points(&module, kind), expected);
         }
     }
 }
@@ -845,23 +845,26 @@ fn values_of_panning_in_version_3() {
 
 #[test]
 fn every_value_of_version_2() {
-    let mut due = -128;
+    let mut expected = -128;
     for value in 0..=64 {
         let first = [0, 1, 0, 0, 0, 0, 0, 0];
         let panning = enveloped(2, b"PENV", first, &[(3, value)]);
-        assert_eq!(shown_points(&panning, Kind::Panning), points(&[(3, due)]));
+        assert_eq!(
+            shown_points(&panning, Kind::Panning),
+            points(&[(3, expected)])
+        );
         let volume = enveloped(2, b"VENV", first, &[(3, value)]);
         assert_eq!(shown_points(&volume, Kind::Volume), points(&[(3, value)]));
-        due += 4;
+        expected += 4;
     }
-    assert_eq!(due, 132);
+    assert_eq!(expected, 132);
 }
 
 #[test]
 fn fields_of_envelopes_that_are_not_checked() {
     for (name, kind) in [(b"VENV", Kind::Volume), (b"PENV", Kind::Panning)] {
         for version in [2, 3] {
-            // Bit 1 leaves L1, L2 and S2; bit 2 leaves S1 and S2; bit 3 leaves S1, L1 and L2.
+            // Bit 1 leaves L1, L2 and S2 unchecked; bit 2 leaves S1 and S2; bit 3 leaves S1, L1 and L2.
             for (flags, [s1, l1, l2, s2]) in [
                 (0x00, [255, 255, 0, 255]),
                 (0x03, [2, 255, 254, 253]),
@@ -933,7 +936,7 @@ fn the_last_track() {
 
 #[test]
 fn the_last_row() {
-    // 65,535 rows; only the last one has an entry.
+    // 65,535 rows, of which only the last has an entry.
     let stream = [&[0; 65_534][..], &[0x01, 0x02, 0x09, 0x00]].concat();
     let patt = [&[0xFF, 0xFF, 0x00, 0x01, 0x00, 0x02][..], &stream].concat();
     let of = |tracks| module(3, [0, 0, 0, 1, tracks], [&[], &[], &patt, &[]]);
@@ -947,7 +950,7 @@ fn the_last_row() {
     assert_eq!(records::cell(&module, 0, 65_533, 1), Ok(EMPTY));
     assert_eq!(records::cell(&module, 0, 65_535, 1), no_such());
     assert_eq!(records::cell(&module, 0, 65_536, 1), no_such());
-    // 65,535 × 4 × 6, and one byte of room too few.
+    // 65,535 × 4 × 6, and an output that is one byte too short.
     let mut out = vec![0xAA; 1_572_840];
     assert_eq!(
         records::unpack(&module, 0, &mut out[..1_572_839]),
@@ -967,7 +970,7 @@ fn the_last_row() {
 
 // Frames.
 
-/// Each number of the list is one frame, and shown as the other number.
+/// Each number of the list is one frame, and is returned as the other number.
 fn frames_show(frame_bytes: u8, list: &[(i32, i16)]) {
     let skipped = 4 - usize::from(frame_bytes);
     let stored: Vec<u8> = list
@@ -1112,7 +1115,7 @@ fn many_frames() {
 
 #[test]
 fn the_longest_sample() {
-    // 16,777,216 bytes in all, 66 of them before the frames. At 16 bits it takes more than a module may have.
+    // 16,777,216 bytes in all, 66 of them before the frames. At 16 bits the frames need more bytes than a module can have.
     let module = sampled(1, &vec![0x80; 16_777_150]);
     assert_eq!(module.len(), 16_777_216);
     assert_eq!(records::frames(&module, 1), (66, 16_777_150));
@@ -1124,11 +1127,11 @@ fn the_longest_sample() {
     );
 }
 
-// The last of as many as there may be.
+// The last item of the maximum number.
 
 #[test]
 fn the_last_instrument_sample_and_pattern() {
-    // The rate of an instrument, its sample and the frames of a sample are its number; the last pattern has 3 rows.
+    // The rate of an instrument, its sample and the frames of a sample are its number. The last pattern has 3 rows.
     let (mut inst, mut smpl) = (Vec::new(), Vec::new());
     for number in 1..=255 {
         inst.extend([0; 31]);
@@ -1182,7 +1185,7 @@ fn the_last_song() {
 
 #[test]
 fn the_last_envelope() {
-    // 65,535 envelopes of instrument 1; the last one has position 77.
+    // 65,535 envelopes of instrument 1. The last one has position 77.
     let one = [&[0, 1][..], &[0; 134]].concat();
     for (name, kind) in [(b"VENV", Kind::Volume), (b"PENV", Kind::Panning)] {
         let mut data = [&[0xFF, 0xFF], &one.repeat(65_535)[..]].concat();
@@ -1324,7 +1327,7 @@ fn nothing_is_there_in_the_smallest() {
 
 // The order of the refusals.
 
-/// 18 comes before 17, and touches nothing: there is no room at all, or there is some.
+/// 18 has priority over 17, and nothing is written, with an empty output and with a longer one.
 #[test]
 fn what_is_not_there_comes_before_the_room() {
     let module = full(3);
@@ -1341,7 +1344,7 @@ fn what_is_not_there_comes_before_the_room() {
     }
 }
 
-/// Every query, asked for this number of everything, with an output of this length: all refuse with this, and nothing is written.
+/// Every query, with this number for every item and an output of this length: all return this refusal, and nothing is written.
 fn all_refuse(module: &[u8], number: u64, room: usize, refusal: Refusal) {
     let mut out = vec![0xAA; room];
     let refusals = [
@@ -1369,11 +1372,11 @@ fn all_refuse(module: &[u8], number: u64, room: usize, refusal: Refusal) {
     assert_eq!(out, vec![0xAA; room]);
 }
 
-/// The module's own refusal, whether what is asked for is there or not, and whether there is room or not.
+/// The module's own refusal is returned whether or not the item exists and the output is long enough.
 fn every_query_refuses(module: &[u8], number: u64, place: u64) {
-    for asked in [0, 1, MOST] {
+    for query in [0, 1, MOST] {
         for room in [0, 200] {
-            all_refuse(module, asked, room, Refusal { number, place });
+            all_refuse(module, query, room, Refusal { number, place });
         }
     }
 }
@@ -1388,16 +1391,16 @@ fn the_own_refusal_of_the_module_comes_first() {
         every_query_refuses(&with(&full, 3, b"1"), 2, 0);
         every_query_refuses(&with(&full, 4, &[4]), 3, 4);
         every_query_refuses(&with(&full, 5, &[0x2A]), 3, 4);
-        // VENV, the last chunk, is cut; then there are three bytes behind it.
+        // VENV, the last chunk, is cut; then three bytes follow it.
         every_query_refuses(&full[..1_031], 4, 750);
         every_query_refuses(&[&full[..], &[1, 2, 3]].concat(), 4, 1_032);
         // XYZW is xYZW, then a second NAME.
         every_query_refuses(&with(&full, 360, b"x"), 5, 360);
         every_query_refuses(&with(&full, 360, b"NAME"), 6, 360);
-        // NAME, which stands before INFO, is SONG.
+        // NAME, which is before INFO, is renamed to SONG.
         every_query_refuses(&with(&full, 290, b"SONG"), 7, 290);
         every_query_refuses(&with(&full, 596, b"XONG"), 8, 1_032);
-        // NAME is NAMX, and XYZW with its three bytes is NAME.
+        // NAME is renamed to NAMX, and XYZW with its three bytes to NAME.
         let renamed = with(&with(&full, 290, b"NAMX"), 360, b"NAME");
         every_query_refuses(&renamed, 9, 360);
         every_query_refuses(&with(&full, 358, &[0, 7]), 10, 358);
@@ -1433,13 +1436,13 @@ fn whatever_is_refused_is_refused_by_every_query() {
     let mut numbers = BTreeSet::new();
     for seed in 0..1_500 {
         let random = &mut Random::new(seed);
-        let mut draft = made(random, &Most::SMALL);
+        let mut draft = made(random, &Limits::SMALL);
         damage(random, &mut draft);
         let module = draft.bytes();
         if let Err(refusal) = check(&module) {
             numbers.insert(refusal.number);
-            let asked = random.pick(&[0, 1, 2, MOST]);
-            all_refuse(&module, asked, random.pick(&[0, 64]), refusal);
+            let query = random.pick(&[0, 1, 2, MOST]);
+            all_refuse(&module, query, random.pick(&[0, 64]), refusal);
         }
     }
     assert_eq!(
@@ -1450,7 +1453,7 @@ fn whatever_is_refused_is_refused_by_every_query() {
 
 // The modules of the folder `samples`.
 
-/// A name with zeros behind it.
+/// A name padded with zeros.
 fn padded<const LENGTH: usize>(text: &[u8]) -> [u8; LENGTH] {
     let mut name = [0; LENGTH];
     name[..text.len()].copy_from_slice(text);

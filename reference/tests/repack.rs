@@ -1,11 +1,11 @@
-//! A whole module repacked: expectations typed by hand.
+//! Repacking a whole module, with expectations typed by hand.
 //!
-//! Modules before and after, numbers and places are literals, reckoned from the layout that stands beside each module below.
+//! Modules before and after, numbers and places are literals, computed from the layout beside each module below.
 
 use std::collections::BTreeSet;
 
 use reference::draft::{Chunk, Pattern, Tune};
-use reference::generate::{damage, module as made, tune as made_tune, Most, Random};
+use reference::generate::{damage, module as made, tune as made_tune, Limits, Random};
 use reference::module::check;
 use reference::pattern;
 use reference::records::{self, Kind};
@@ -24,18 +24,18 @@ fn with(module: &[u8], place: usize, bytes: &[u8]) -> Vec<u8> {
     module
 }
 
-/// The module repacked, in an output as long as it is itself.
+/// The repacked module, in an output of the module's own length.
 #[track_caller]
 fn repacked(module: &[u8]) -> Vec<u8> {
     let mut out = vec![0xAA; module.len()];
     let length = repack(module, &mut out).expect("an accepted module, no longer than it was");
-    let (written, behind) = out.split_at(length as usize);
-    assert!(behind.iter().all(|&byte| byte == 0xAA));
+    let (written, after) = out.split_at(length as usize);
+    assert!(after.iter().all(|&byte| byte == 0xAA));
     written.to_vec()
 }
 
-/// The module becomes these bytes, in outputs of every length: where they are shorter, 17 with the needed length and nothing written,
-/// and what stands behind the needed length stays. The bytes are accepted, and repack to themselves.
+/// The module is repacked to these bytes, for outputs of every length. A shorter output is refused with 17 and the needed length, and
+/// nothing is written. The bytes after the needed length are unchanged. The result is accepted, and repacks to itself.
 #[track_caller]
 fn becomes(module: &[u8], bytes: &[u8]) {
     let needed = bytes.len();
@@ -55,7 +55,7 @@ fn becomes(module: &[u8], bytes: &[u8]) {
     assert_eq!(repacked(bytes), bytes);
 }
 
-/// 58 bytes and one pattern: INFO at 8, SONG at 26, INST at 34, PATT at 42 with its block at 50, and SMPL behind it.
+/// 58 bytes and one pattern: INFO at 8, SONG at 26, INST at 34, PATT at 42 with its block at 50, and SMPL after it.
 fn one_pattern(tracks: u8, patt: &[u8]) -> Vec<u8> {
     let length = (patt.len() as u32).to_be_bytes();
     let module = [
@@ -71,7 +71,7 @@ fn one_pattern(tracks: u8, patt: &[u8]) -> Vec<u8> {
     module.concat()
 }
 
-/// Blocks with the streams P1 to P6: rows, packed length, stream, and the filler where it is odd.
+/// Blocks with the streams P1 to P6: rows, packed length, stream, and a filler if the stream is odd.
 const P1: &[u8] = b"\x00\x02\x00\x00\x00\x06\x02\x03\x47\x01\x00\x00";
 const P2: &[u8] = b"\x00\x02\x00\x00\x00\x08\x02\x01\x47\x02\x02\x01\x00\x00";
 const P3: &[u8] = b"\x00\x02\x00\x00\x00\x07\x02\x07\x47\x01\x00\x00\x00\xFF";
@@ -95,7 +95,7 @@ fn p1_to_p6() {
     }
 }
 
-/// The bytes before and after, with none of the functions above.
+/// The bytes before and after, without the functions above.
 #[test]
 fn p2_byte_by_byte() {
     let before = b"DBM0\x03\x00\x00\x00\
@@ -118,7 +118,7 @@ fn p2_byte_by_byte() {
     assert_eq!(repack(before, &mut []), refused(17, 70));
 }
 
-/// Also beside a stream that is the packer's own.
+/// Also if the stream is already the packer's own.
 #[test]
 fn every_filler_becomes_0() {
     for filler in 0..=255 {
@@ -145,14 +145,14 @@ fn odd_and_even_lengths() {
     becomes(&even_to_even, &one_row(&[2, 1, 5, 0], &[]));
 }
 
-/// A stream of the packer's length that is not the packer's.
+/// A stream that has the packer's length but not the packer's bytes.
 #[test]
 fn tracks_in_another_order() {
     let before = one_row(&[4, 1, 9, 1, 1, 5, 0], &[0]);
     becomes(&before, &one_row(&[1, 1, 5, 4, 1, 9, 0], &[0]));
 }
 
-/// Two rows of 6 tracks: tracks ascending, one entry for each, and only fields that are not 0.
+/// Two rows of 6 tracks: ascending tracks, one entry for each, and only fields that are not 0.
 #[test]
 fn entries_of_every_kind() {
     let before = [
@@ -172,7 +172,7 @@ fn entries_of_every_kind() {
     );
 }
 
-/// 254 tracks from the last one to the first, and all fields of each: 254 × 8 + 1 = 2,033 bytes, which is $7F1.
+/// 254 tracks from the last to the first, with all fields of each: 254 × 8 + 1 = 2,033 bytes, which is $7F1.
 #[test]
 fn the_most_tracks() {
     let full = |tracks: &[u8], filler| {
@@ -192,7 +192,7 @@ fn the_most_tracks() {
     );
 }
 
-/// 65,535 rows, each with an entry that names no field: 196,605 bytes, which is $2FFFD, become 65,535.
+/// 65,535 rows, each with an entry without fields: 196,605 bytes, which is $2FFFD, become 65,535.
 #[test]
 fn the_most_rows() {
     let before = [
@@ -206,7 +206,7 @@ fn the_most_rows() {
     assert_eq!(repack(&before, &mut [0; 65_599]), refused(17, 65_600));
 }
 
-/// A module with all covered chunks and others, good in both versions; 642 bytes where the blocks of PATT have 56.
+/// A module with all covered chunks and others, valid in both versions. It has 642 bytes if the blocks of PATT have 56.
 ///
 /// - PATS at 8.
 /// - NAME at 20.
@@ -249,7 +249,7 @@ fn full(version: u8, length: [u8; 4], patterns: &[&[u8]]) -> Vec<u8> {
     module.concat()
 }
 
-/// P2, P3, an empty row, no rows, and tracks that descend.
+/// P2, P3, an empty row, no rows, and descending tracks.
 fn before(version: u8) -> Vec<u8> {
     let tracks = b"\x00\x02\x00\x00\x00\x08\x04\x01\x09\x01\x01\x05\x00\x00";
     full(
@@ -273,9 +273,9 @@ fn all_other_chunks_stay_as_they_are() {
     }
 }
 
-/// PATT before or behind the three others, and as the last chunk of the module.
+/// PATT before or after the three others, and as the last chunk of the module.
 #[test]
-fn patt_anywhere_behind_info() {
+fn patt_anywhere_after_info() {
     let info = b"INFO\x00\x00\x00\x0A\x00\x00\x00\x00\x00\x00\x00\x02\x00\x04";
     let others = [
         *b"SONG\x00\x00\x00\x00",
@@ -284,13 +284,13 @@ fn patt_anywhere_behind_info() {
     ];
     for place in 0..=3 {
         let module = |patt: &[u8]| {
-            let (before, behind) = others.split_at(place);
+            let (before, after) = others.split_at(place);
             let parts = [
                 &b"DBM0\x02\x10\x00\x01"[..],
                 info,
                 &before.concat(),
                 patt,
-                &behind.concat(),
+                &after.concat(),
             ];
             parts.concat()
         };
@@ -321,7 +321,7 @@ fn the_most_patterns() {
     assert_eq!(repack(&module, &mut []), refused(17, 58 + 6_144));
 }
 
-/// Each of the module's own refusals, with outputs that would be too short, long enough and longer.
+/// Each of the module's own refusals, with outputs that are too short, long enough and longer.
 #[test]
 fn refusals_write_nothing() {
     let good = before(3);
@@ -357,7 +357,7 @@ fn refusals_write_nothing() {
     }
 }
 
-/// What both modules show is the same. The frames are compared by what they are; where they stand may differ.
+/// All queries about both modules return the same. Frames are compared by their bytes, since their place may differ.
 #[track_caller]
 fn show_the_same(one: &[u8], other: &[u8]) {
     assert_eq!(check(one), Ok(()));
@@ -415,7 +415,7 @@ fn show_the_same(one: &[u8], other: &[u8]) {
     }
 }
 
-/// What a query writes into an output that is long enough for all that is asked here.
+/// The result of a query with an output that is long enough for all queries here.
 fn filled(query: impl Fn(&mut [u8]) -> Result<u64, Refusal>) -> (Result<u64, Refusal>, Vec<u8>) {
     let mut out = vec![0xAA; 64 * 32 * 6];
     (query(&mut out), out)
@@ -427,7 +427,7 @@ fn part(module: &[u8], sample: u64) -> &[u8] {
     &module[place as usize..(place + length) as usize]
 }
 
-/// Accepted, the same shown, no longer, and repacked to itself. The module repacked.
+/// The module is repacked. The result is accepted, returns the same answers, is not longer, and repacks to itself.
 #[track_caller]
 fn keeps(module: &[u8]) -> Vec<u8> {
     let out = repacked(module);
@@ -465,9 +465,9 @@ fn drawn_modules_show_the_same() {
     for seed in 0..400 {
         let random = &mut Random::new(seed);
         let most = if seed % 8 == 0 {
-            Most::USUAL
+            Limits::USUAL
         } else {
-            Most::SMALL
+            Limits::SMALL
         };
         let module = made(random, &most).bytes();
         let out = keeps(&module);
@@ -494,14 +494,14 @@ fn packed(given: &Pattern, tracks: u16) -> Pattern {
     Pattern::new(given.rows, &stream[..length as usize])
 }
 
-/// A module that is written from records, and written again with every pattern packed: that is what repacking gives. It is the same
-/// module just where every stream was the packer's and every filler 0.
+/// A module is written from records, and again with every pattern packed. Repacking the first gives the second. Both are the same module if
+/// and only if every stream was the packer's and every filler 0.
 #[test]
 fn as_if_written_with_packed_patterns() {
     let (mut same, mut different) = (0, 0);
     for seed in 0..2_000 {
         let random = &mut Random::new(seed);
-        let given = made_tune(random, &Most::SMALL);
+        let given = made_tune(random, &Limits::SMALL);
         let patterns: Vec<Pattern> = given
             .patterns
             .iter()
@@ -533,13 +533,13 @@ fn as_if_written_with_packed_patterns() {
     assert!(same >= 200 && different >= 200, "{same} {different}");
 }
 
-/// Whatever is refused is refused so, whatever the output.
+/// A refused module is refused with the same refusal, for outputs of any length.
 #[test]
 fn damaged_modules_are_refused_as_by_the_check() {
     let mut numbers = BTreeSet::new();
     for seed in 0..3_000 {
         let random = &mut Random::new(seed);
-        let mut draft = made(random, &Most::SMALL);
+        let mut draft = made(random, &Limits::SMALL);
         for _ in 0..1 + seed % 2 {
             damage(random, &mut draft);
         }

@@ -1,4 +1,4 @@
-//! The files of the folder `samples`: what is expected of each, typed by hand.
+//! The files in `samples`, with expectations typed by hand.
 
 use reference::listing::listing;
 use reference::module::{check, read};
@@ -28,9 +28,9 @@ fn the_files_are_those_that_are_made() {
     }
 }
 
-/// The table of the folder's README: file, what it is, first line.
+/// The table in the folder's README: file, contents, first line.
 #[test]
-fn the_readme_tells_the_first_line() {
+fn the_readme_has_the_first_line() {
     let readme = include_str!("../../samples/README.md");
     for (name, bytes) in files() {
         let row = readme
@@ -110,7 +110,7 @@ fn short_organ() {
     };
     assert_eq!(check(SHORT_ORGAN), Err(refusal));
     assert_eq!(listing(SHORT_ORGAN), "refused 14 at 540\n");
-    // 24 frames of 8 bits less, and the same up to the length of SMPL.
+    // 24 frames of 8 bits less, and the same bytes up to the length of SMPL.
     assert_eq!(SHORT_ORGAN.len(), 1152 - 24);
     assert_eq!(SHORT_ORGAN[..848], CAROUSEL[..848]);
 }
@@ -124,7 +124,7 @@ fn broken_pattern() {
     };
     assert_eq!(check(BROKEN_PATTERN), Err(refusal));
     assert_eq!(listing(BROKEN_PATTERN), "refused 15 at 728\n");
-    // Only the packed length differs: 71 in the sound one.
+    // Only the packed length differs. In the valid module it is 71.
     let different: Vec<usize> = (0..1152)
         .filter(|&place| BROKEN_PATTERN[place] != CAROUSEL[place])
         .collect();

@@ -1,11 +1,11 @@
-//! Modules made from a seed show what they were made from.
+//! The queries about generated modules return the records from which the modules were made.
 //!
-//! What is due is taken from the records that a module was written from, never from the module. Only the patterns are made here, so
-//! that their cells are known while their streams are written.
+//! The expected answers come from the records that a module is written from, never from the module. Only the patterns are made here, so
+//! that their cells are known when their streams are written.
 
 use reference::chunks::Info;
 use reference::draft::{Draft, Envelope, Instrument, Pattern, Sample, Song, Tune};
-use reference::generate::{module, tune, Most, Random};
+use reference::generate::{module, tune, Limits, Random};
 use reference::pattern::{Cell, Note};
 use reference::records::{self, Kind, Point};
 use reference::refusal::Refusal;
@@ -15,14 +15,14 @@ const NO_SUCH: Refusal = Refusal {
     place: 0,
 };
 
-/// Rows of cells, and a stream that leaves them behind.
-struct Made {
+/// Rows of cells, and a stream that unpacks to them.
+struct KnownPattern {
     rows: Vec<Vec<[u8; 6]>>,
     pattern: Pattern,
 }
 
-/// Up to four entries in a row, in any order; what an entry names is put into its cell as it is written.
-fn made(random: &mut Random, count: u64, tracks: u64) -> Made {
+/// Up to four entries in a row, in any order. The fields of an entry are stored in its cell as it is written.
+fn known_pattern(random: &mut Random, count: u64, tracks: u64) -> KnownPattern {
     let mut rows = Vec::new();
     let mut stream = Vec::new();
     for _ in 0..count {
@@ -43,7 +43,7 @@ fn made(random: &mut Random, count: u64, tracks: u64) -> Made {
         rows.push(row);
     }
     let filler = random.byte();
-    Made {
+    KnownPattern {
         rows,
         pattern: Pattern {
             rows: count as u16,
@@ -53,14 +53,14 @@ fn made(random: &mut Random, count: u64, tracks: u64) -> Made {
     }
 }
 
-/// The bytes with zeros behind them.
+/// The bytes, padded with zeros.
 fn padded<const LENGTH: usize>(bytes: &[u8]) -> [u8; LENGTH] {
     let mut padded = [0; LENGTH];
     padded[..bytes.len()].copy_from_slice(bytes);
     padded
 }
 
-/// Numbers under `count`: all of few, else the ends and some others.
+/// Numbers less than `count`: all of them if they are few, else the ends and some others.
 fn some(random: &mut Random, count: usize) -> Vec<usize> {
     if count <= 6 {
         (0..count).collect()
@@ -70,12 +70,12 @@ fn some(random: &mut Random, count: usize) -> Vec<usize> {
     }
 }
 
-/// The call writes these bytes and no more; with one byte of room too few it is 17, and nothing is written.
-fn writes(due: &[u8], call: impl Fn(&mut [u8]) -> Result<u64, Refusal>) {
-    let needed = due.len();
+/// The call writes these bytes and no more. If the output is one byte too short it returns 17, and nothing is written.
+fn writes(expected: &[u8], call: impl Fn(&mut [u8]) -> Result<u64, Refusal>) {
+    let needed = expected.len();
     let mut out = vec![0xAA; needed + 3];
     assert_eq!(call(&mut out), Ok(needed as u64));
-    assert_eq!(out[..needed], *due);
+    assert_eq!(out[..needed], *expected);
     assert_eq!(out[needed..], [0xAA; 3]);
     if needed > 0 {
         let mut out = vec![0xAA; needed - 1];
@@ -103,11 +103,11 @@ fn shows_header(module: &[u8], tune: &Tune) {
 }
 
 fn shows_song(random: &mut Random, module: &[u8], number: u64, song: &Song) {
-    let due = records::Song {
+    let expected = records::Song {
         name: padded(&song.name),
         length: song.playlist.len() as u16,
     };
-    assert_eq!(records::song(module, number), Ok(due));
+    assert_eq!(records::song(module, number), Ok(expected));
     for entry in some(random, song.playlist.len()) {
         assert_eq!(
             records::entry(module, number, entry as u64),
@@ -123,7 +123,7 @@ fn shows_song(random: &mut Random, module: &[u8], number: u64, song: &Song) {
 }
 
 fn shows_instrument(module: &[u8], number: u64, instrument: &Instrument) {
-    let due = records::Instrument {
+    let expected = records::Instrument {
         name: padded(&instrument.name),
         sample: instrument.sample,
         volume: instrument.volume,
@@ -133,7 +133,7 @@ fn shows_instrument(module: &[u8], number: u64, instrument: &Instrument) {
         panning: instrument.panning,
         flags: instrument.flags,
     };
-    assert_eq!(records::instrument(module, number), Ok(due));
+    assert_eq!(records::instrument(module, number), Ok(expected));
 }
 
 fn shows_envelope(module: &[u8], kind: Kind, number: u64, envelope: &Envelope, scaled: bool) {
@@ -146,7 +146,7 @@ fn shows_envelope(module: &[u8], kind: Kind, number: u64, envelope: &Envelope, s
         let value = if scaled { (value - 32) * 4 } else { value };
         *point = Point { position, value };
     }
-    let due = records::Envelope {
+    let expected = records::Envelope {
         instrument: envelope.instrument,
         flags: envelope.flags,
         sections: envelope.sections,
@@ -156,7 +156,7 @@ fn shows_envelope(module: &[u8], kind: Kind, number: u64, envelope: &Envelope, s
         second_sustain: envelope.second_sustain,
         points,
     };
-    assert_eq!(records::envelope(module, kind, number), Ok(due));
+    assert_eq!(records::envelope(module, kind, number), Ok(expected));
 }
 
 fn shows_envelopes(module: &[u8], tune: &Tune) {
@@ -180,7 +180,7 @@ fn shows_envelopes(module: &[u8], tune: &Tune) {
     }
 }
 
-fn due_cell(cell: [u8; 6]) -> Cell {
+fn expected_cell(cell: [u8; 6]) -> Cell {
     let [note, instrument, command1, parameter1, command2, parameter2] = cell;
     let (octave, semitone) = (note >> 4, note & 0x0F);
     let note = if note == 0 {
@@ -202,14 +202,20 @@ fn due_cell(cell: [u8; 6]) -> Cell {
     }
 }
 
-fn shows_pattern(random: &mut Random, module: &[u8], number: u64, made: &Made, tracks: u64) {
-    let rows = made.rows.len();
+fn shows_pattern(
+    random: &mut Random,
+    module: &[u8],
+    number: u64,
+    known_pattern: &KnownPattern,
+    tracks: u64,
+) {
+    let rows = known_pattern.rows.len();
     assert_eq!(records::pattern(module, number), Ok(rows as u16));
     for row in some(random, rows) {
-        for (track, cell) in (1..).zip(&made.rows[row]) {
+        for (track, cell) in (1..).zip(&known_pattern.rows[row]) {
             assert_eq!(
                 records::cell(module, number, row as u64, track),
-                Ok(due_cell(*cell))
+                Ok(expected_cell(*cell))
             );
         }
         for track in [0, tracks + 1] {
@@ -220,17 +226,17 @@ fn shows_pattern(random: &mut Random, module: &[u8], number: u64, made: &Made, t
         }
     }
     assert_eq!(records::cell(module, number, rows as u64, 1), Err(NO_SUCH));
-    let cells = made.rows.concat().concat();
+    let cells = known_pattern.rows.concat().concat();
     writes(&cells, |out| records::unpack(module, number, out));
 }
 
-/// At 16 bits a frame is its first two bytes; of 8 bits there is only one, and 0 behind it.
+/// At 16 bits a frame is its first two bytes. A frame of 8 bits has one byte, followed by 0.
 fn shows_sample(random: &mut Random, module: &[u8], number: u64, sample: &Sample, place: u64) {
-    let due = records::Sample {
+    let expected = records::Sample {
         width: 8 * sample.flags as u8,
         frames: sample.frames,
     };
-    assert_eq!(records::sample(module, number), Ok(due));
+    assert_eq!(records::sample(module, number), Ok(expected));
     assert_eq!(records::frames_refusal(module, number), None);
     let (start, length) = records::frames(module, number);
     assert_eq!((start, length), (place, sample.data.len() as u64));
@@ -253,7 +259,7 @@ fn shows_sample(random: &mut Random, module: &[u8], number: u64, sample: &Sample
     });
 }
 
-/// Where the data of SMPL begin.
+/// The place of the data of SMPL.
 fn place_of_samples(draft: &Draft) -> usize {
     let before = &draft.chunks[..draft.index(b"SMPL")];
     8 + before
@@ -263,24 +269,24 @@ fn place_of_samples(draft: &Draft) -> usize {
         + 8
 }
 
-/// A module of this seed shows its records, and nothing past the last one.
-fn shows(seed: u64, most: &Most) {
-    // The same seed: the module is written from these records.
+/// The queries about the module of this seed return its records, and nothing past the last one.
+fn shows(seed: u64, most: &Limits) {
+    // The same seed, so the module is written from these records.
     let tune = tune(&mut Random::new(seed), most);
     let mut draft = module(&mut Random::new(seed), most);
     let random = &mut Random::new(seed + 1_000_000);
     let tracks = u64::from(tune.tracks);
-    let patterns: Vec<Made> = tune
+    let patterns: Vec<KnownPattern> = tune
         .patterns
         .iter()
         .map(|_| {
             let rows = random.below(most.rows + 1);
-            made(random, rows, tracks)
+            known_pattern(random, rows, tracks)
         })
         .collect();
     draft.chunk(b"PATT").data = patterns
         .iter()
-        .flat_map(|made| made.pattern.bytes())
+        .flat_map(|known_pattern| known_pattern.pattern.bytes())
         .collect();
     let module = draft.bytes();
 
@@ -292,8 +298,8 @@ fn shows(seed: u64, most: &Most) {
         shows_instrument(&module, number, instrument);
     }
     shows_envelopes(&module, &tune);
-    for (number, made) in (0..).zip(&patterns) {
-        shows_pattern(random, &module, number, made, tracks);
+    for (number, known_pattern) in (0..).zip(&patterns) {
+        shows_pattern(random, &module, number, known_pattern, tracks);
     }
     let mut place = place_of_samples(&draft);
     for (number, sample) in (1..).zip(&tune.samples) {
@@ -303,7 +309,7 @@ fn shows(seed: u64, most: &Most) {
     shows_no_more(&module, &tune);
 }
 
-/// One past the last, and 0 where counting begins at 1.
+/// One past the last, and 0 if counting begins at 1.
 fn shows_no_more(module: &[u8], tune: &Tune) {
     let [songs, patterns] = [tune.songs.len(), tune.patterns.len()].map(|count| count as u64);
     assert_eq!(records::song(module, songs), Err(NO_SUCH));
@@ -321,13 +327,13 @@ fn shows_no_more(module: &[u8], tune: &Tune) {
 #[test]
 fn small_modules() {
     for seed in 0..1_000 {
-        shows(seed, &Most::SMALL);
+        shows(seed, &Limits::SMALL);
     }
 }
 
 #[test]
 fn usual_modules() {
     for seed in 0..40 {
-        shows(seed, &Most::USUAL);
+        shows(seed, &Limits::USUAL);
     }
 }

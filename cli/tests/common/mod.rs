@@ -1,4 +1,4 @@
-//! What the tests share: running the built program, folders of their own, and the sample modules.
+//! Shared by the tests: running the built program, temporary folders, and the sample modules.
 
 #![allow(dead_code)]
 
@@ -13,7 +13,7 @@ use std::time::{Duration, Instant};
 
 pub const PROGRAM: &str = env!("CARGO_BIN_EXE_dbm0");
 
-/// What a run of the program left: its exit status (none where a signal ended it), and what it printed.
+/// The result of a run: the exit status (none if a signal ended it), and the output.
 #[derive(Debug)]
 pub struct Run {
     pub status: Option<i32>,
@@ -36,14 +36,14 @@ impl Run {
         String::from_utf8(self.out.clone()).expect("standard output is text")
     }
 
-    /// It ended with this status and printed just this.
+    /// The run ended with this status and printed exactly this.
     #[track_caller]
     pub fn is(&self, status: i32, out: &str, err: &str) {
         let found = (self.status, self.text(), self.err.clone());
         assert_eq!(found, (Some(status), out.to_string(), err.to_string()));
     }
 
-    /// It failed: status 2, nothing on standard output, and one line on standard error that has these words.
+    /// The run failed: status 2, nothing on standard output, and one line on standard error that contains these words.
     #[track_caller]
     pub fn fails(&self, words: &str) {
         assert_eq!(self.status, Some(2), "{self:?}");
@@ -60,16 +60,16 @@ impl Run {
     }
 }
 
-/// How long a run may take before it counts as hung.
+/// The time after which a run counts as hung.
 const MOST_TIME: Duration = Duration::from_secs(60);
 
-/// Starts a command and sees to it that it ends.
+/// Starts a command and waits for its end.
 pub fn finish(command: &mut Command) -> Run {
     command.stdout(Stdio::piped()).stderr(Stdio::piped());
     finish_child(command.spawn().expect("the command runs"))
 }
 
-/// The same for a child that was started. What it prints is read, as far as that is a pipe which nobody took.
+/// The same for a child that is already running. Its output is read if it is a pipe that was not taken.
 pub fn finish_child(mut child: Child) -> Run {
     let (out, err) = (child.stdout.take(), child.stderr.take());
     thread::scope(|scope| {
@@ -92,7 +92,7 @@ fn all_of(pipe: Option<impl Read>) -> Vec<u8> {
     bytes
 }
 
-/// Waits for the end, with pauses that grow.
+/// Waits for the end, with increasing pauses.
 fn wait(child: &mut Child) -> ExitStatus {
     let began = Instant::now();
     let mut pause = Duration::from_micros(200);
@@ -127,14 +127,14 @@ pub fn run_on<Argument: AsRef<OsStr>>(arguments: &[Argument], input: &[u8]) -> R
     let mut stdin = child.stdin.take().expect("a pipe");
     thread::scope(|scope| {
         scope.spawn(move || {
-            // A program that has seen enough may be gone.
+            // The program may end before it has read everything.
             let _ = stdin.write_all(input);
         });
         finish_child(child)
     })
 }
 
-/// A folder that is gone when the test is over.
+/// A folder that is removed at the end of the test.
 pub struct Folder(pub PathBuf);
 
 impl Folder {
@@ -153,7 +153,7 @@ impl Folder {
         path
     }
 
-    /// The names of all files in it.
+    /// The names of all files in the folder.
     pub fn names(&self) -> Vec<String> {
         names(&self.0)
     }
@@ -193,7 +193,7 @@ pub fn text(path: &Path) -> &str {
     path.to_str().expect("UTF-8")
 }
 
-/// A name as the program should print it, without quotes.
+/// A name in the form that the program prints, without quotes.
 pub fn escaped(name: &[u8]) -> String {
     let mut bytes = name.to_vec();
     while bytes.last() == Some(&0) {

@@ -1,4 +1,4 @@
-//! Writes the cases of the conformance program that is the only argument to standard output.
+//! Writes the cases of a conformance program to standard output. The only argument is the name of the program.
 
 #![forbid(unsafe_code)]
 

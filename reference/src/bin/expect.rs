@@ -1,4 +1,4 @@
-//! Reads the cases of a conformance program from standard input and prints what the program has to print.
+//! Reads the cases of a conformance program from standard input and prints the expected output of the program.
 
 #![forbid(unsafe_code)]
 

@@ -1,4 +1,4 @@
-//! Writes the sample modules into a folder, which is the only argument.
+//! Writes the sample modules into the folder that is the only argument.
 
 #![forbid(unsafe_code)]
 

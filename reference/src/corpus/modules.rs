@@ -1,4 +1,4 @@
-//! The cases of whole modules.
+//! The cases for whole modules.
 
 mod blocks;
 mod chunks;
@@ -8,51 +8,51 @@ mod order;
 use super::Case;
 use crate::chunks::Name;
 use crate::draft::{Draft, Envelope, Instrument, Pattern, Sample, Song, Tune};
-use crate::generate::{damage, module, Most, Random};
+use crate::generate::{damage, module, Limits, Random};
 use crate::listing::lines;
 
-/// How many modules are drawn.
+/// The number of random modules.
 const DRAWN: usize = 235;
 
-/// Enough for every text: the longest has 96 bytes.
+/// Long enough for every text. The longest has 96 bytes.
 const USUAL_ROOM: u32 = 100;
 
-/// An order in which the chunks stand quite otherwise than they are checked.
+/// An order of the chunks that differs from the order of the checks.
 pub(super) const REVERSED: [Name; 8] = [
     *b"PENV", *b"VENV", *b"NAME", *b"INFO", *b"SMPL", *b"PATT", *b"INST", *b"SONG",
 ];
 
 pub(super) fn cases() -> Vec<Case> {
-    let mut made = Made {
+    let mut builder = CaseBuilder {
         cases: Vec::new(),
         random: Random::new(2),
     };
-    made.rooms();
-    made.headers();
-    made.tails();
-    made.identifiers();
-    made.lengths();
-    made.repeats();
-    made.missing();
-    made.orders();
-    made.fixed_lengths();
-    made.info_numbers();
-    made.counts();
-    made.cuts();
-    made.chunk_ends();
-    made.wild_blocks();
-    made.songs();
-    made.instruments();
-    made.loops();
-    made.patterns();
-    made.samples();
-    made.envelopes();
-    made.values();
-    made.walk_pairs();
-    made.same_chunk_pairs();
-    made.late_pairs();
-    made.drawn();
-    made.cases
+    builder.rooms();
+    builder.headers();
+    builder.tails();
+    builder.identifiers();
+    builder.lengths();
+    builder.repeats();
+    builder.missing();
+    builder.orders();
+    builder.fixed_lengths();
+    builder.info_numbers();
+    builder.counts();
+    builder.cuts();
+    builder.chunk_ends();
+    builder.wild_blocks();
+    builder.songs();
+    builder.instruments();
+    builder.loops();
+    builder.patterns();
+    builder.samples();
+    builder.envelopes();
+    builder.values();
+    builder.walk_pairs();
+    builder.same_chunk_pairs();
+    builder.late_pairs();
+    builder.drawn();
+    builder.cases
 }
 
 /// Every list has one block: a song of one entry, a looped instrument, a pattern of one empty row, a sample of two frames.
@@ -93,18 +93,18 @@ fn rich() -> Tune {
     }
 }
 
-struct Made {
+struct CaseBuilder {
     cases: Vec<Case>,
     random: Random,
 }
 
-impl Made {
+impl CaseBuilder {
     fn with_room(&mut self, module: &[u8], room: u32) {
         let module = module.to_vec();
         self.cases.push(Case::Module { room, module });
     }
 
-    /// A case with the usual room; now and then with none, or one less, just or one more than the text needs.
+    /// A case with the usual output length. Some cases have an empty output, or one less, exactly or one more than the text needs.
     fn module(&mut self, module: &[u8]) {
         let needed = lines(module).len() as u32;
         let room = match self.cases.len() % 16 {
@@ -117,21 +117,21 @@ impl Made {
         self.with_room(module, room);
     }
 
-    /// A case of some records with something changed.
+    /// A case of records with a change.
     fn tune(&mut self, tune: &Tune, change: impl FnOnce(&mut Tune)) {
         let mut tune = tune.clone();
         change(&mut tune);
         self.module(&tune.bytes());
     }
 
-    /// A case of the chunks of some records with something changed.
+    /// A case of the chunks of some records with a change.
     fn draft(&mut self, tune: &Tune, change: impl FnOnce(&mut Draft)) {
         let mut draft = tune.draft();
         change(&mut draft);
         self.module(&draft.bytes());
     }
 
-    /// The smallest module, a refused one and one with long figures in rooms around what they need; a place of four digits.
+    /// The smallest module, a refused one, and one with long numbers, with outputs around the needed length; and a place of four digits.
     fn rooms(&mut self) {
         let smallest = Tune::default().bytes();
         for room in [0, 1, 12, 13, 76, 77, 78, 160] {
@@ -160,12 +160,12 @@ impl Made {
         self.with_room(&songs.bytes(), USUAL_ROOM);
     }
 
-    /// Modules drawn at random, with no, one or two faults.
+    /// Random modules with no, one or two faults.
     fn drawn(&mut self) {
         for turn in 0..DRAWN {
             let most = if turn % 4 == 0 { 360 } else { 220 };
             let mut draft = loop {
-                let draft = module(&mut self.random, &Most::SMALL);
+                let draft = module(&mut self.random, &Limits::SMALL);
                 if draft.bytes().len() <= most {
                     break draft;
                 }

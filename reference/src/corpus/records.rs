@@ -1,15 +1,15 @@
-//! The cases of a module's records.
+//! The cases for the records of a module.
 
 use super::modules::REVERSED;
-use super::{Asked, Case};
+use super::{Case, Query};
 use crate::draft::{Chunk, Draft, Envelope, Instrument, Pattern, Sample, Song, Tune};
-use crate::generate::{module, Most, Random};
+use crate::generate::{module, Limits, Random};
 
-/// How many modules are drawn.
+/// The number of random modules.
 const DRAWN: usize = 5;
 
-/// The first of everything.
-const FIRST: Asked = Asked {
+/// The first of each item.
+const FIRST: Query = Query {
     song: 0,
     entry: 0,
     instrument: 1,
@@ -21,8 +21,8 @@ const FIRST: Asked = Asked {
     frame: 0,
 };
 
-/// Numbers that are far too big.
-const WILD: Asked = Asked {
+/// Numbers that are far too large.
+const WILD: Query = Query {
     song: u64::MAX,
     entry: u64::MAX,
     instrument: u64::MAX,
@@ -34,8 +34,8 @@ const WILD: Asked = Asked {
     frame: u64::MAX,
 };
 
-/// The first of everything, if the numbers were cut to 8, 16 or 32 bits.
-const WRAPPED: Asked = Asked {
+/// The first of each item if the numbers were truncated to 8, 16 or 32 bits.
+const WRAPPED: Query = Query {
     song: 1 << 16,
     entry: 1 << 32,
     instrument: (1 << 8) + 1,
@@ -48,20 +48,20 @@ const WRAPPED: Asked = Asked {
 };
 
 pub(super) fn cases() -> Vec<Case> {
-    let mut made = Made {
+    let mut builder = CaseBuilder {
         cases: Vec::new(),
         random: Random::new(3),
     };
-    made.whole();
-    made.smallest();
-    made.songs();
-    made.instruments();
-    made.envelopes();
-    made.patterns();
-    made.samples();
-    made.refused();
-    made.drawn();
-    made.cases
+    builder.whole();
+    builder.smallest();
+    builder.songs();
+    builder.instruments();
+    builder.envelopes();
+    builder.patterns();
+    builder.samples();
+    builder.refused();
+    builder.drawn();
+    builder.cases
 }
 
 fn songs() -> Vec<Song> {
@@ -120,7 +120,7 @@ fn instruments() -> Vec<Instrument> {
     ]
 }
 
-/// For six tracks. Row 0 of the first: a pitch in track 2, key off in track 6. Row 1: an unknown note in track 1.
+/// For six tracks. Row 0 of the first pattern: a pitch in track 2, key off in track 6. Row 1: an unknown note in track 1.
 fn patterns() -> Vec<Pattern> {
     vec![
         Pattern {
@@ -146,7 +146,7 @@ fn samples() -> Vec<Sample> {
     ]
 }
 
-/// The points stand behind each other, their values go around in a range. All 32 are written, whatever is in use.
+/// The positions of the points ascend, and their values cycle through a range. All 32 points are written, used or not.
 fn envelope(sections: u8, start: u16, (least, most): (i16, i16)) -> Envelope {
     let range = i32::from(most) - i32::from(least) + 1;
     let points = (0..32).map(|point: u16| {
@@ -202,24 +202,24 @@ fn whole() -> Tune {
     }
 }
 
-struct Made {
+struct CaseBuilder {
     cases: Vec<Case>,
     random: Random,
 }
 
-impl Made {
-    fn asks(&mut self, module: &[u8], room: u32, asked: Asked) {
+impl CaseBuilder {
+    fn add_case(&mut self, module: &[u8], room: u32, query: Query) {
         self.cases.push(Case::Records {
-            asked,
+            query,
             room,
             module: module.to_vec(),
         });
     }
 
-    /// The first, the last, and those one past; the chunks in another order, with one more among them.
+    /// The first, the last, and the next one; and the chunks in another order, with an extra chunk.
     fn whole(&mut self) {
         let module = whole().bytes();
-        let last = Asked {
+        let last = Query {
             song: 2,
             entry: 0,
             instrument: 3,
@@ -230,7 +230,7 @@ impl Made {
             sample: 3,
             frame: 5,
         };
-        let past = Asked {
+        let past = Query {
             song: 3,
             entry: 3,
             instrument: 4,
@@ -241,12 +241,12 @@ impl Made {
             sample: 5,
             frame: 6,
         };
-        self.asks(&module, 72, FIRST);
-        self.asks(&module, 36, last);
-        self.asks(&module, 3, past);
+        self.add_case(&module, 72, FIRST);
+        self.add_case(&module, 36, last);
+        self.add_case(&module, 3, past);
         let mut draft = whole().draft().ordered(&REVERSED);
         draft.chunks.insert(4, Chunk::new(b"DSPE", vec![1, 2, 3]));
-        let second = Asked {
+        let second = Query {
             song: 1,
             instrument: 2,
             pattern: 1,
@@ -254,13 +254,13 @@ impl Made {
             frame: 2,
             ..FIRST
         };
-        self.asks(&draft.bytes(), 6, second);
+        self.add_case(&draft.bytes(), 6, second);
     }
 
-    /// Nothing is there; or only a name, and chunks of no envelopes.
+    /// A module without records; and one with only a name and chunks of no envelopes.
     fn smallest(&mut self) {
-        self.asks(&Tune::default().bytes(), 0, FIRST);
-        self.asks(&Tune::default().bytes(), 2, WILD);
+        self.add_case(&Tune::default().bytes(), 0, FIRST);
+        self.add_case(&Tune::default().bytes(), 2, WILD);
         let named = Tune {
             version: 2,
             revision: 0x99,
@@ -270,10 +270,10 @@ impl Made {
             panning_envelopes: Some(vec![]),
             ..Tune::default()
         };
-        self.asks(&named.bytes(), 1, FIRST);
+        self.add_case(&named.bytes(), 1, FIRST);
     }
 
-    /// Songs and entries from the first to one past the last, in rooms of nothing, one less, just and one more than is needed.
+    /// Songs and entries from the first to one past the last. Outputs are empty, and one less, exactly and one more than needed.
     fn songs(&mut self) {
         let tune = Tune {
             songs: songs(),
@@ -292,14 +292,14 @@ impl Made {
             (2, 1, 2),
             (3, 0, 0),
         ] {
-            let asked = Asked {
+            let query = Query {
                 song,
                 entry,
                 ..FIRST
             };
-            self.asks(&module, room, asked);
+            self.add_case(&module, room, query);
         }
-        self.asks(&module, 6, WRAPPED);
+        self.add_case(&module, 6, WRAPPED);
         let long = Tune {
             songs: vec![Song {
                 name: vec![],
@@ -308,14 +308,14 @@ impl Made {
             patterns: vec![Pattern::default(); 2],
             ..Tune::default()
         };
-        let asked = Asked {
+        let query = Query {
             entry: 257,
             ..FIRST
         };
-        self.asks(&long.bytes(), 515, asked);
+        self.add_case(&long.bytes(), 515, query);
     }
 
-    /// Instruments from 0 to one past the last; the panning of instruments is not scaled in version 2.
+    /// Instruments from 0 to one past the last. The panning of instruments is not scaled in version 2.
     fn instruments(&mut self) {
         for instrument in 0..=4 {
             let tune = Tune {
@@ -325,17 +325,17 @@ impl Made {
                 samples: samples(),
                 ..Tune::default()
             };
-            let asked = Asked {
+            let query = Query {
                 instrument,
                 sample: instrument,
                 frame: instrument,
                 ..FIRST
             };
-            self.asks(&tune.bytes(), 10, asked);
+            self.add_case(&tune.bytes(), 10, query);
         }
     }
 
-    /// Both kinds with no section and with 31, in both versions; panning of version 2 from end to end; one past the last.
+    /// Both kinds with no sections and with 31, in both versions; panning of version 2 over its whole range; and one past the last.
     fn envelopes(&mut self) {
         let with = |version, volume: &[Envelope], panning: &[Envelope]| Tune {
             version,
@@ -355,22 +355,22 @@ impl Made {
             points: vec![(0, 0), (10, 32), (300, 64), (9, 9)],
             ..envelope(2, 0, VOLUME)
         };
-        let asked = |envelope| Asked { envelope, ..FIRST };
+        let query = |envelope| Query { envelope, ..FIRST };
         let full = envelope(31, 0x8000, VOLUME);
         let most = with(3, &[full.clone()], &[envelope(31, 1, PANNING)]);
-        self.asks(&most.bytes(), 0, asked(0));
+        self.add_case(&most.bytes(), 0, query(0));
         let most = with(2, &[old.clone()], &[full]);
-        self.asks(&most.bytes(), 0, asked(0));
+        self.add_case(&most.bytes(), 0, query(0));
         let two = with(2, &[], &[old.clone(), envelope(0, 0xFFFF, (1, 1))]);
         for envelope in 0..3 {
-            self.asks(&two.bytes(), 0, asked(envelope));
+            self.add_case(&two.bytes(), 0, query(envelope));
         }
         let one = with(3, &[old], &[]);
-        self.asks(&one.bytes(), 4, WRAPPED);
-        self.asks(&one.bytes(), 4, asked(u64::MAX));
+        self.add_case(&one.bytes(), 4, WRAPPED);
+        self.add_case(&one.bytes(), 4, query(u64::MAX));
     }
 
-    /// Cells of each kind of note; rows and tracks around the pattern's, also of one with no rows; rooms around what is needed.
+    /// Cells of each kind of note; rows and tracks around the pattern's limits, also without rows; and outputs around the needed length.
     fn patterns(&mut self) {
         let tune = Tune {
             tracks: 6,
@@ -394,38 +394,38 @@ impl Made {
             (2, 0, 4, 35),
             (3, 0, 1, 0),
         ] {
-            let asked = Asked {
+            let query = Query {
                 pattern,
                 row,
                 track,
                 ..FIRST
             };
-            self.asks(&module, room, asked);
+            self.add_case(&module, room, query);
         }
-        self.asks(&module, 72, WRAPPED);
+        self.add_case(&module, 72, WRAPPED);
         let wide = Tune {
             tracks: 254,
             patterns: vec![Pattern::new(1, &[0xFE, 0x03, 0x1C, 0x80, 0x00])],
             ..Tune::default()
         };
-        let asked = Asked {
+        let query = Query {
             track: 254,
             ..FIRST
         };
-        self.asks(&wide.bytes(), 1_524, asked);
+        self.add_case(&wide.bytes(), 1_524, query);
         let long = Tune {
             patterns: vec![Pattern::new(300, &[0; 300])],
             ..Tune::default()
         };
-        let asked = Asked {
+        let query = Query {
             row: 299,
             track: 4,
             ..FIRST
         };
-        self.asks(&long.bytes(), 24, asked);
+        self.add_case(&long.bytes(), 24, query);
     }
 
-    /// Samples of each width and of no frames, from 0 to one past the last; frames and rooms alike.
+    /// Samples of each width and without frames, from 0 to one past the last, with frames and output lengths around their limits.
     fn samples(&mut self) {
         let tune = Tune {
             samples: samples(),
@@ -450,26 +450,26 @@ impl Made {
             (4, 1, 2),
             (5, 0, 0),
         ] {
-            let asked = Asked {
+            let query = Query {
                 sample,
                 frame,
                 ..FIRST
             };
-            self.asks(&module, room, asked);
+            self.add_case(&module, room, query);
         }
-        self.asks(&module, 12, WRAPPED);
+        self.add_case(&module, 12, WRAPPED);
         let long = Tune {
             samples: vec![Sample::new(1, &[0xC3; 300])],
             ..Tune::default()
         };
-        let asked = Asked {
+        let query = Query {
             frame: 299,
             ..FIRST
         };
-        self.asks(&long.bytes(), 600, asked);
+        self.add_case(&long.bytes(), 600, query);
     }
 
-    /// A module for each refusal but 1, asked for what is there and for what is not.
+    /// A module for each refusal except 1, with numbers of existing and missing items.
     fn refused(&mut self) {
         let smallest = Tune::default();
         let changed = |change: fn(&mut Draft)| {
@@ -528,22 +528,22 @@ impl Made {
             .bytes(),
         ];
         for (index, module) in modules.iter().enumerate() {
-            let asked = if index % 3 == 1 { WILD } else { FIRST };
-            self.asks(module, index as u32 % 4, asked);
+            let query = if index % 3 == 1 { WILD } else { FIRST };
+            self.add_case(module, index as u32 % 4, query);
         }
     }
 
-    /// Modules drawn at random, asked at random.
+    /// Random modules with random numbers.
     fn drawn(&mut self) {
         for _ in 0..DRAWN {
             let module = loop {
-                let module = module(&mut self.random, &Most::SMALL).bytes();
+                let module = module(&mut self.random, &Limits::SMALL).bytes();
                 if (150..=400).contains(&module.len()) {
                     break module;
                 }
             };
             let random = &mut self.random;
-            let asked = Asked {
+            let query = Query {
                 song: random.below(2),
                 entry: random.below(3),
                 instrument: 1 + random.below(2),
@@ -555,7 +555,7 @@ impl Made {
                 frame: random.below(4),
             };
             let room = random.pick(&[6, 10, 24, 48, 72, 144]);
-            self.asks(&module, room, asked);
+            self.add_case(&module, room, query);
         }
     }
 }

@@ -1,18 +1,18 @@
-//! The lines of a module's records: one for each query.
+//! The lines for a module's records: one for each query.
 //!
-//! A line has a word, the refusal's number and place, and the fields of the record, all 0 where it is refused. Numbers are decimal,
-//! with a minus where they are negative; names, parts and outputs are hexadecimal and stand last.
+//! A line has a word, the refusal's number and place, and the fields of the record, which are all 0 on a refusal. Numbers are decimal, with
+//! a minus sign if negative. Names, parts and outputs are hexadecimal and come last.
 
-use super::{asked_cell, hex, line, numbers, written, MOST_ROOM};
+use super::{hex, line, numbers, selected_cell, written, MOST_ROOM};
 use crate::chunks::Info;
-use crate::corpus::Asked;
+use crate::corpus::Query;
 use crate::records::{self, Envelope, Instrument, Kind, Sample, Song, UNUSED};
 use crate::refusal::Refusal;
 
-pub(super) fn lines(text: &mut String, module: &[u8], asked: &Asked, room: u32) {
+pub(super) fn lines(text: &mut String, module: &[u8], query: &Query, room: u32) {
     summary(text, module);
-    song(text, module, asked, room);
-    instrument(text, module, asked);
+    song(text, module, query, room);
+    instrument(text, module, query);
     for (name, count) in [
         ("volume_envelopes", records::volume_envelopes(module)),
         ("panning_envelopes", records::panning_envelopes(module)),
@@ -23,13 +23,13 @@ pub(super) fn lines(text: &mut String, module: &[u8], asked: &Asked, room: u32) 
         ("volume_envelope", Kind::Volume),
         ("panning_envelope", Kind::Panning),
     ] {
-        envelope(text, name, records::envelope(module, kind, asked.envelope));
+        envelope(text, name, records::envelope(module, kind, query.envelope));
     }
-    pattern(text, module, asked, room);
-    sample(text, module, asked, room);
+    pattern(text, module, query, room);
+    sample(text, module, query, room);
 }
 
-/// The line of a query whose answer is a record, or the empty one where it is refused.
+/// The line of a query. On a refusal the record is the empty one.
 fn record<Record>(
     text: &mut String,
     name: &str,
@@ -65,23 +65,23 @@ fn summary(text: &mut String, module: &[u8]) {
     });
 }
 
-fn song(text: &mut String, module: &[u8], asked: &Asked, room: u32) {
+fn song(text: &mut String, module: &[u8], query: &Query, room: u32) {
     let empty = Song {
         name: [0; 44],
         length: 0,
     };
-    let song = records::song(module, asked.song);
+    let song = records::song(module, query.song);
     record(text, "song", song, empty, |song| {
         format!("{} {}", song.length, hex(&song.name))
     });
-    let entry = records::entry(module, asked.song, asked.entry);
+    let entry = records::entry(module, query.song, query.entry);
     record(text, "entry", entry, 0, |pattern| pattern.to_string());
     written(text, "playlist", room, |out| {
-        records::playlist(module, asked.song, out)
+        records::playlist(module, query.song, out)
     });
 }
 
-fn instrument(text: &mut String, module: &[u8], asked: &Asked) {
+fn instrument(text: &mut String, module: &[u8], query: &Query) {
     let empty = Instrument {
         name: [0; 30],
         sample: 0,
@@ -92,7 +92,7 @@ fn instrument(text: &mut String, module: &[u8], asked: &Asked) {
         panning: 0,
         flags: 0,
     };
-    let instrument = records::instrument(module, asked.instrument);
+    let instrument = records::instrument(module, query.instrument);
     record(text, "instrument", instrument, empty, |shown| {
         format!(
             "{} {} {} {} {} {} {} {}",
@@ -108,7 +108,7 @@ fn instrument(text: &mut String, module: &[u8], asked: &Asked) {
     });
 }
 
-/// The positions of all points stand before their values.
+/// The positions of all points come before their values.
 fn envelope(text: &mut String, name: &str, answer: Result<Envelope, Refusal>) {
     let empty = Envelope {
         instrument: 0,
@@ -139,37 +139,37 @@ fn envelope(text: &mut String, name: &str, answer: Result<Envelope, Refusal>) {
     });
 }
 
-fn pattern(text: &mut String, module: &[u8], asked: &Asked, room: u32) {
-    let rows = records::pattern(module, asked.pattern);
+fn pattern(text: &mut String, module: &[u8], query: &Query, room: u32) {
+    let rows = records::pattern(module, query.pattern);
     record(text, "rows", rows, 0, |rows| rows.to_string());
-    let cell = records::cell(module, asked.pattern, asked.row, asked.track);
-    asked_cell(text, cell);
+    let cell = records::cell(module, query.pattern, query.row, query.track);
+    selected_cell(text, cell);
     written(text, "unpack", room, |out| {
-        records::unpack(module, asked.pattern, out)
+        records::unpack(module, query.pattern, out)
     });
 }
 
-/// Of the part that the frames are at most so many bytes are told as an output can have.
-fn sample(text: &mut String, module: &[u8], asked: &Asked, room: u32) {
+/// At most as many bytes of the frames are printed as an output can have.
+fn sample(text: &mut String, module: &[u8], query: &Query, room: u32) {
     let empty = Sample {
         width: 0,
         frames: 0,
     };
-    let sample = records::sample(module, asked.sample);
+    let sample = records::sample(module, query.sample);
     record(text, "sample", sample, empty, |sample| {
         format!("{} {}", sample.width, sample.frames)
     });
-    let (number, place) = numbers(records::frames_refusal(module, asked.sample));
-    let (offset, length) = records::frames(module, asked.sample);
-    let told = length.min(u64::from(MOST_ROOM));
-    let part = hex(&module[offset as usize..(offset + told) as usize]);
+    let (number, place) = numbers(records::frames_refusal(module, query.sample));
+    let (offset, length) = records::frames(module, query.sample);
+    let printed = length.min(u64::from(MOST_ROOM));
+    let part = hex(&module[offset as usize..(offset + printed) as usize]);
     line(
         text,
         format_args!("frames {number} {place} {offset} {length} {part}"),
     );
-    let frame = records::frame(module, asked.sample, asked.frame);
+    let frame = records::frame(module, query.sample, query.frame);
     record(text, "frame", frame, 0, |frame| frame.to_string());
     written(text, "all_frames", room, |out| {
-        records::all_frames(module, asked.sample, out)
+        records::all_frames(module, query.sample, out)
     });
 }

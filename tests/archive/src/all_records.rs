@@ -1,4 +1,4 @@
-//! All records of a module at once, in the frame of writing.rs.
+//! Writing all records of a module at once, tested by writing.rs.
 
 use crate::compare::answer;
 use crate::queries::{self, Queries};
@@ -10,15 +10,15 @@ use reference::generate::Random;
 /// libdbm0.a against the reference.
 pub const RECORDS: Call<'static> = Call {
     name: "records",
-    library: &|module, lent| interface::records(module, lent.out()),
+    library: &|module, output| interface::records(module, output.slice()),
     queries: &queries::ARCHIVE,
-    reference: &|module, lent| answer(write(module, lent.out())),
+    reference: &|module, output| answer(write(module, output.slice())),
     enough: &|length| length + 60,
     refusal: &queries::refusal,
     keeps: &shown_one_by_one,
 };
 
-/// Each record is what its query answers.
+/// Each record equals the answer of its query.
 fn shown_one_by_one(
     call: &Call,
     module: &[u8],
@@ -41,7 +41,7 @@ fn shown_one_by_one(
     ))
 }
 
-/// The records of an accepted module, each asked for by its own query.
+/// The records of an accepted module, each from its own query.
 fn one_by_one(queries: &Queries, module: &[u8]) -> Vec<u8> {
     let version = (queries.version)(module).record;
     let info = (queries.info)(module).record;

@@ -1,4 +1,4 @@
-//! The comparison: a library, given as its calls, against the reference.
+//! Compares a library, given as its calls, with the reference.
 
 use std::fmt::Debug;
 
@@ -9,31 +9,31 @@ use reference::generate::Random;
 use reference::refusal::Refusal;
 use reference::{module, pattern};
 
-/// How many bytes stand before and after a lent output.
+/// The number of guard bytes before and after an output.
 const GUARD: usize = 64;
 
-/// An output in the middle of a larger buffer. Every byte begins as one that depends on its place, so that a byte that is moved,
-/// cleared or copied shows.
-pub struct Lent {
+/// An output in the middle of a larger buffer. Every byte is preset to a value that depends on its place, so a byte that is moved, cleared
+/// or copied is detected.
+pub struct GuardedOutput {
     pub bytes: Vec<u8>,
     start: usize,
     room: usize,
 }
 
-impl Lent {
-    pub fn new(room: usize) -> Lent {
-        Lent::shifted(0, room)
+impl GuardedOutput {
+    pub fn new(room: usize) -> GuardedOutput {
+        GuardedOutput::shifted(0, room)
     }
 
-    /// The same so many bytes further on, for another alignment.
-    pub fn shifted(shift: usize, room: usize) -> Lent {
+    /// The same, moved by `shift` bytes for another alignment.
+    pub fn shifted(shift: usize, room: usize) -> GuardedOutput {
         let start = GUARD + shift;
         let bytes = (0..start + room + GUARD).map(filler).collect();
-        Lent { bytes, start, room }
+        GuardedOutput { bytes, start, room }
     }
 
-    /// The part that a call is lent.
-    pub fn out(&mut self) -> &mut [u8] {
+    /// The part that is passed to the call.
+    pub fn slice(&mut self) -> &mut [u8] {
         &mut self.bytes[self.start..self.start + self.room]
     }
 }
@@ -46,30 +46,34 @@ fn filler(place: usize) -> u8 {
 #[derive(Clone, Copy)]
 pub struct Library {
     pub check: fn(&[u8], u64, u64) -> Answer,
-    pub unpack: fn(&[u8], u64, u64, &mut Lent) -> Answer,
-    pub pack: fn(&[u8], u64, u64, &mut Lent) -> Answer,
+    pub unpack: fn(&[u8], u64, u64, &mut GuardedOutput) -> Answer,
+    pub pack: fn(&[u8], u64, u64, &mut GuardedOutput) -> Answer,
     pub check_module: fn(&[u8]) -> ModuleAnswer,
 }
 
 /// libpattern.a and libdbm0.a.
 pub const ARCHIVE: Library = Library {
     check: interface::check_pattern,
-    unpack: |stream, rows, tracks, lent| {
-        interface::unpack_pattern(stream, rows, tracks, lent.out())
+    unpack: |stream, rows, tracks, output| {
+        interface::unpack_pattern(stream, rows, tracks, output.slice())
     },
-    pack: |cells, rows, tracks, lent| interface::pack_pattern(cells, rows, tracks, lent.out()),
+    pack: |cells, rows, tracks, output| {
+        interface::pack_pattern(cells, rows, tracks, output.slice())
+    },
     check_module: interface::check_module,
 };
 
 /// The reference itself.
 pub const REFERENCE: Library = Library {
     check: |stream, rows, tracks| answer(pattern::check(stream, rows, tracks).map(|()| 0)),
-    unpack: |stream, rows, tracks, lent| answer(pattern::unpack(stream, rows, tracks, lent.out())),
-    pack: |cells, rows, tracks, lent| answer(pattern::pack(cells, rows, tracks, lent.out())),
+    unpack: |stream, rows, tracks, output| {
+        answer(pattern::unpack(stream, rows, tracks, output.slice()))
+    },
+    pack: |cells, rows, tracks, output| answer(pattern::pack(cells, rows, tracks, output.slice())),
     check_module: |module| module_answer(module::check(module)),
 };
 
-/// The answer of the C interface for an answer of the reference.
+/// The answer of the C interface for a result of the reference.
 pub fn answer(result: Result<u64, Refusal>) -> Answer {
     match result {
         Ok(length) => Answer::written(length as usize),
@@ -77,7 +81,7 @@ pub fn answer(result: Result<u64, Refusal>) -> Answer {
     }
 }
 
-/// The answer of the C interface for an answer of the reference about a module.
+/// The answer of the C interface for the reference's check of a module.
 pub fn module_answer(result: Result<(), Refusal>) -> ModuleAnswer {
     match result {
         Ok(()) => ModuleAnswer {
@@ -88,10 +92,10 @@ pub fn module_answer(result: Result<(), Refusal>) -> ModuleAnswer {
     }
 }
 
-/// A case of the corpus. A cell to show is no call of the archives, and of records only the module is checked: `records::all` asks for
-/// them.
+/// Compares a case of the corpus. The archives have no call for a case that shows a cell. For records only the module is checked;
+/// `records::all` compares the queries.
 pub fn case(library: Library, case: &Case) -> Result<(), String> {
-    let lent = |room: u32| room.min(MOST_ROOM) as usize;
+    let output_length = |room: u32| room.min(MOST_ROOM) as usize;
     match case {
         Case::Stream {
             rows,
@@ -99,19 +103,19 @@ pub fn case(library: Library, case: &Case) -> Result<(), String> {
             room,
             stream,
             ..
-        } => self::stream(library, stream, *rows, *tracks, lent(*room)),
+        } => self::stream(library, stream, *rows, *tracks, output_length(*room)),
         Case::Cells {
             rows,
             tracks,
             room,
             cells,
-        } => self::cells(library, cells, *rows, *tracks, lent(*room)),
+        } => self::cells(library, cells, *rows, *tracks, output_length(*room)),
         Case::Shown(_) => Ok(()),
         Case::Module { module, .. } | Case::Records { module, .. } => self::module(library, module),
     }
 }
 
-/// Checks and unpacks a stream into this much room. The error says what differs, with the whole case.
+/// Checks and unpacks a stream into an output of this length. The error message has the difference and the whole case.
 pub fn stream(
     library: Library,
     stream: &[u8],
@@ -119,17 +123,18 @@ pub fn stream(
     tracks: u64,
     room: usize,
 ) -> Result<(), String> {
-    let told = |what: String| {
+    let report = |what: String| {
         format!("{what}\nstream {stream:02x?}, {rows} rows, {tracks} tracks, room {room}")
     };
     let is = (library.check)(stream, rows, tracks);
     let expected = (REFERENCE.check)(stream, rows, tracks);
-    same_answer("check", is, expected).map_err(told)?;
-    let unpack = |of: Library| move |lent: &mut Lent| (of.unpack)(stream, rows, tracks, lent);
-    same_output("unpack", room, unpack(library), unpack(REFERENCE)).map_err(told)
+    same_answer("check", is, expected).map_err(report)?;
+    let unpack =
+        |of: Library| move |output: &mut GuardedOutput| (of.unpack)(stream, rows, tracks, output);
+    same_output("unpack", room, unpack(library), unpack(REFERENCE)).map_err(report)
 }
 
-/// Packs cells into this much room. The error says what differs, with the whole case.
+/// Packs cells into an output of this length. The error message has the difference and the whole case.
 pub fn cells(
     library: Library,
     cells: &[u8],
@@ -137,61 +142,62 @@ pub fn cells(
     tracks: u64,
     room: usize,
 ) -> Result<(), String> {
-    let told = |what: String| {
+    let report = |what: String| {
         format!("{what}\ncells {cells:02x?}, {rows} rows, {tracks} tracks, room {room}")
     };
-    let pack = |of: Library| move |lent: &mut Lent| (of.pack)(cells, rows, tracks, lent);
-    same_output("pack", room, pack(library), pack(REFERENCE)).map_err(told)
+    let pack =
+        |of: Library| move |output: &mut GuardedOutput| (of.pack)(cells, rows, tracks, output);
+    same_output("pack", room, pack(library), pack(REFERENCE)).map_err(report)
 }
 
-/// Cells packed and unpacked again are the same cells, and their length is the one that an output of nothing tells.
+/// Packing and unpacking returns the same cells, and the packed length equals the needed length that an empty output reports.
 pub fn round_trip(library: Library, cells: &[u8], rows: u64, tracks: u64) -> Result<(), String> {
-    let told = |what: &str| format!("{what}\ncells {cells:02x?}, {rows} rows, {tracks} tracks");
-    let asked = (library.pack)(cells, rows, tracks, &mut Lent::new(0));
-    let mut lent = Lent::new((rows * (1 + 8 * tracks)) as usize);
-    let packed = (library.pack)(cells, rows, tracks, &mut lent);
+    let report = |what: &str| format!("{what}\ncells {cells:02x?}, {rows} rows, {tracks} tracks");
+    let empty = (library.pack)(cells, rows, tracks, &mut GuardedOutput::new(0));
+    let mut output = GuardedOutput::new((rows * (1 + 8 * tracks)) as usize);
+    let packed = (library.pack)(cells, rows, tracks, &mut output);
     if packed.number != 0 {
-        return Err(told("pack refuses in the most room that it can need"));
+        return Err(report("pack refuses in the most room that it can need"));
     }
-    if packed.length != asked.place {
-        return Err(told("pack writes another length than it tells"));
+    if packed.length != empty.place {
+        return Err(report("pack writes another length than it reports"));
     }
-    let stream = lent.out()[..packed.length as usize].to_vec();
+    let stream = output.slice()[..packed.length as usize].to_vec();
     if (library.check)(&stream, rows, tracks) != Answer::written(0) {
-        return Err(told("the packed stream does not pass the check"));
+        return Err(report("the packed stream does not pass the check"));
     }
-    let mut lent = Lent::new(cells.len());
-    let unpacked = (library.unpack)(&stream, rows, tracks, &mut lent);
-    if unpacked != Answer::written(cells.len()) || lent.out() != cells {
-        return Err(told("unpacking gives other cells"));
+    let mut output = GuardedOutput::new(cells.len());
+    let unpacked = (library.unpack)(&stream, rows, tracks, &mut output);
+    if unpacked != Answer::written(cells.len()) || output.slice() != cells {
+        return Err(report("unpacking gives other cells"));
     }
     Ok(())
 }
 
-/// Checks a module. The error says what differs, with the whole module where it is not too long to be read.
+/// Checks a module. The error message has the difference, and the whole module if it is short.
 pub fn module(library: Library, module: &[u8]) -> Result<(), String> {
-    let told = |what: String| with_module(what, module);
+    let report = |what: String| with_module(what, module);
     let is = (library.check_module)(module);
     if is.place > module.len() as u64 {
-        return Err(told(format!("check_module gives {is:?}, past the end")));
+        return Err(report(format!("check_module gives {is:?}, past the end")));
     }
     let expected = (REFERENCE.check_module)(module);
-    same_answer("check_module", is, expected).map_err(told)
+    same_answer("check_module", is, expected).map_err(report)
 }
 
-/// Two calls with outputs of the same length: they answer the same, and leave the same in the output and on both sides of it.
+/// Two calls with outputs of the same length return the same answer, and leave the same bytes in the output and on both sides of it.
 pub fn same_output(
     call: &str,
     room: usize,
-    is: impl FnOnce(&mut Lent) -> Answer,
-    expected: impl FnOnce(&mut Lent) -> Answer,
+    is: impl FnOnce(&mut GuardedOutput) -> Answer,
+    expected: impl FnOnce(&mut GuardedOutput) -> Answer,
 ) -> Result<(), String> {
-    let (mut is_lent, mut expected_lent) = (Lent::new(room), Lent::new(room));
-    same_answer(call, is(&mut is_lent), expected(&mut expected_lent))?;
-    same_bytes(call, &is_lent, &expected_lent)
+    let (mut is_output, mut expected_output) = (GuardedOutput::new(room), GuardedOutput::new(room));
+    same_answer(call, is(&mut is_output), expected(&mut expected_output))?;
+    same_bytes(call, &is_output, &expected_output)
 }
 
-/// Lengths of an output where so many bytes are needed: none, one, shorter, longer, and all around the needed one and another.
+/// Lengths to test for an output: 0, 1, shorter, longer, and all around the needed length and one other length.
 pub fn rooms(needed: usize, other: usize, random: &mut Random) -> Vec<usize> {
     let short = random.below(needed as u64 + 1) as usize;
     let more = 3 + random.below(100) as usize;
@@ -204,7 +210,7 @@ pub fn rooms(needed: usize, other: usize, random: &mut Random) -> Vec<usize> {
     rooms
 }
 
-/// What differs, with the whole module where it is not too long to be read.
+/// The difference, and the whole module if it is short.
 pub fn with_module(what: String, module: &[u8]) -> String {
     match module.len() {
         0..=4096 => format!("{what}\nmodule {module:02x?}"),
@@ -219,8 +225,8 @@ pub fn same_answer<A: PartialEq + Debug>(call: &str, is: A, expected: A) -> Resu
     Err(format!("{call} gives {is:?}, expected {expected:?}"))
 }
 
-/// The output and the guards on both sides.
-pub fn same_bytes(call: &str, is: &Lent, expected: &Lent) -> Result<(), String> {
+/// The outputs and the guards on both sides are equal.
+pub fn same_bytes(call: &str, is: &GuardedOutput, expected: &GuardedOutput) -> Result<(), String> {
     let differs = is
         .bytes
         .iter()

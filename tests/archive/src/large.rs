@@ -1,12 +1,12 @@
-//! Modules as large as they may be.
+//! Modules of the maximum length.
 
 use reference::chunks::Name;
 use reference::draft::{Chunk, Draft, Tune};
 
-/// A module has at most this many bytes.
+/// The maximum length of a module in bytes.
 pub const MOST: usize = 16_777_216;
 
-/// The bytes of a module, brought to a length by another chunk in front of all others.
+/// The bytes of a module, extended to a length by an extra chunk before all others.
 pub fn filled_up(mut draft: Draft, length: usize) -> Vec<u8> {
     let data = length - draft.bytes().len() - 8;
     draft
@@ -17,7 +17,7 @@ pub fn filled_up(mut draft: Draft, length: usize) -> Vec<u8> {
     module
 }
 
-/// Playlists of the last song, the last but two and so on, which fill the module up. There are 1,024 patterns.
+/// Playlists for the last song, the last but two and so on, which fill the module. There are 1,024 patterns.
 pub fn fill_playlists(tune: &mut Tune) {
     let mut entries = (MOST - tune.bytes().len()) / 2;
     for song in tune.songs.iter_mut().rev().step_by(2) {
@@ -28,7 +28,7 @@ pub fn fill_playlists(tune: &mut Tune) {
     assert_eq!(entries, 0);
 }
 
-/// The same module with one chunk behind all others.
+/// The same module with one chunk after all others.
 pub fn with_last(tune: &Tune, name: &Name) -> Draft {
     let mut draft = tune.draft();
     let index = draft.index(name);

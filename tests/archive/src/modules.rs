@@ -1,10 +1,10 @@
-//! The modules that a comparison of whole modules runs over: those of the corpus, the files of the folder `samples`, random ones, sound
-//! and damaged, and all those that are a module with one change.
+//! The modules on which whole-module comparisons run: those of the corpus, the files in `samples`, random ones, valid and damaged, and all
+//! variants of a module with one change.
 
 use crate::seeds::for_seeds;
 use reference::corpus::{module_cases, record_cases, Case};
 use reference::draft::Draft;
-use reference::generate::{bytes, damage, damaged, module, Most, Random};
+use reference::generate::{bytes, damage, damaged, module, Limits, Random};
 use reference::module::check;
 use reference::tunes::files;
 
@@ -13,17 +13,17 @@ pub trait Comparison: Fn(&[u8], &mut Random) -> Result<(), String> {}
 
 impl<F: Fn(&[u8], &mut Random) -> Result<(), String>> Comparison for F {}
 
-/// The small modules, and, so many times in a hundred, a larger one.
+/// A small module, or a larger one in `larger` percent of the cases.
 fn drawn(random: &mut Random, larger: u64) -> Draft {
     let most = if random.chance(larger) {
-        Most::USUAL
+        Limits::USUAL
     } else {
-        Most::SMALL
+        Limits::SMALL
     };
     module(random, &most)
 }
 
-/// The modules of all cases; there are at least so many.
+/// The modules of all cases. There are at least `least`.
 pub fn corpus(agrees: impl Comparison, least: usize) {
     let cases = [module_cases(), record_cases()].concat();
     let mut count = 0;
@@ -51,7 +51,7 @@ pub fn sound(agrees: impl Comparison, cases: u64, larger: u64) {
     });
 }
 
-/// Chunks, blocks and fields damaged.
+/// Modules with damaged chunks, blocks and fields.
 pub fn damaged_parts(agrees: impl Comparison, cases: u64, larger: u64) {
     for_seeds(cases, |random| {
         let mut draft = drawn(random, larger);
@@ -62,7 +62,7 @@ pub fn damaged_parts(agrees: impl Comparison, cases: u64, larger: u64) {
     });
 }
 
-/// Bytes taken out, put in and changed, wherever they stand.
+/// Modules with bytes removed, inserted and changed at any place.
 pub fn damaged_bytes(agrees: impl Comparison, cases: u64, larger: u64) {
     for_seeds(cases, |random| {
         let module = drawn(random, larger).bytes();
@@ -70,21 +70,21 @@ pub fn damaged_bytes(agrees: impl Comparison, cases: u64, larger: u64) {
     });
 }
 
-/// Bytes that are mostly no module, though most have the beginning of one.
+/// Random bytes. Limits have the beginning of a module, but few are one.
 pub fn any_bytes(agrees: impl Comparison, cases: u64) {
     for_seeds(cases, |random| {
         let length = random.below(100);
         let mut module = bytes(random, length);
-        for (byte, due) in module.iter_mut().zip(*b"DBM0\x03\x00\x00\x00") {
+        for (byte, expected) in module.iter_mut().zip(*b"DBM0\x03\x00\x00\x00") {
             if random.chance(98) {
-                *byte = due;
+                *byte = expected;
             }
         }
         agrees(&module, random)
     });
 }
 
-/// Every beginning of a module, and the module without each byte, and with one more.
+/// Every prefix of a module, the module without each byte, and the module with an extra byte.
 pub fn every_cut(module: &[u8], agrees: impl Comparison) {
     for place in 0..module.len() {
         let random = &mut Random::new(place as u64);
@@ -97,7 +97,7 @@ pub fn every_cut(module: &[u8], agrees: impl Comparison) {
     }
 }
 
-/// Every byte of a module changed to each of the values that are given for it.
+/// A module with each byte changed to each of the given values.
 pub fn every_change<const COUNT: usize>(
     module: &[u8],
     values: impl Fn(u8) -> [u8; COUNT],
@@ -114,12 +114,12 @@ pub fn every_change<const COUNT: usize>(
     }
 }
 
-/// All values that a byte can have.
+/// All values of a byte.
 pub fn all_values(_: u8) -> [u8; 256] {
     std::array::from_fn(|value| value as u8)
 }
 
-/// The module may be anywhere in memory, and what is before and after it does not count.
+/// The module can be at any address, and the bytes before and after it have no effect.
 pub fn at_every_alignment(module: &[u8], agrees: impl Comparison) {
     for start in 0..64 {
         for filler in [0, b'A', 0xFF] {
@@ -137,12 +137,12 @@ pub fn file(wanted: &str) -> Vec<u8> {
     found.expect("there is such a file").1
 }
 
-/// The files of the folder `samples`, and so many modules made from seeds; every fourth of these is damaged.
+/// The files in `samples`, and this many modules made from seeds. Every fourth of these is damaged.
 pub fn some(seeds: u64) -> Vec<Vec<u8>> {
     let mut modules: Vec<Vec<u8>> = files().into_iter().map(|(_, module)| module).collect();
     for seed in 0..seeds {
         let random = &mut Random::new(seed);
-        let mut draft = module(random, &Most::SMALL);
+        let mut draft = module(random, &Limits::SMALL);
         if seed % 4 == 0 {
             damage(random, &mut draft);
         }

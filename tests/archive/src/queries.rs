@@ -1,9 +1,9 @@
-//! The queries about a module, as a library gives them: libdbm0.a, and the reference.
+//! The queries about a module, in two implementations: libdbm0.a and the reference.
 
-use crate::compare::{answer, Lent};
+use crate::compare::{answer, GuardedOutput};
 use interface::{
-    Answer, Cell, Envelope, Frames, Info, Instrument, ModuleAnswer, Name, Sample, Song, Told,
-    Version,
+    Answer, Cell, Envelope, Frames, Info, Instrument, ModuleAnswer, Name, RecordAnswer, Sample,
+    Song, Version,
 };
 use reference::chunks;
 use reference::pattern::{self, Note};
@@ -13,24 +13,24 @@ use reference::refusal::Refusal;
 /// The queries of a library under comparison.
 #[derive(Clone, Copy)]
 pub struct Queries {
-    pub version: fn(&[u8]) -> Told<Version>,
-    pub name: fn(&[u8]) -> Told<Name>,
-    pub info: fn(&[u8]) -> Told<Info>,
-    pub song: fn(&[u8], usize) -> Told<Song>,
-    pub entry: fn(&[u8], usize, usize) -> Told<u16>,
-    pub playlist: fn(&[u8], usize, &mut Lent) -> Answer,
-    pub instrument: fn(&[u8], usize) -> Told<Instrument>,
-    pub volume_envelopes: fn(&[u8]) -> Told<u16>,
-    pub panning_envelopes: fn(&[u8]) -> Told<u16>,
-    pub volume_envelope: fn(&[u8], usize) -> Told<Envelope>,
-    pub panning_envelope: fn(&[u8], usize) -> Told<Envelope>,
-    pub rows: fn(&[u8], usize) -> Told<u16>,
-    pub cell: fn(&[u8], usize, usize, usize) -> Told<Cell>,
-    pub cells: fn(&[u8], usize, &mut Lent) -> Answer,
-    pub sample: fn(&[u8], usize) -> Told<Sample>,
-    pub frames: fn(&[u8], usize) -> Told<Frames>,
-    pub frame: fn(&[u8], usize, usize) -> Told<i16>,
-    pub all_frames: fn(&[u8], usize, &mut Lent) -> Answer,
+    pub version: fn(&[u8]) -> RecordAnswer<Version>,
+    pub name: fn(&[u8]) -> RecordAnswer<Name>,
+    pub info: fn(&[u8]) -> RecordAnswer<Info>,
+    pub song: fn(&[u8], usize) -> RecordAnswer<Song>,
+    pub entry: fn(&[u8], usize, usize) -> RecordAnswer<u16>,
+    pub playlist: fn(&[u8], usize, &mut GuardedOutput) -> Answer,
+    pub instrument: fn(&[u8], usize) -> RecordAnswer<Instrument>,
+    pub volume_envelopes: fn(&[u8]) -> RecordAnswer<u16>,
+    pub panning_envelopes: fn(&[u8]) -> RecordAnswer<u16>,
+    pub volume_envelope: fn(&[u8], usize) -> RecordAnswer<Envelope>,
+    pub panning_envelope: fn(&[u8], usize) -> RecordAnswer<Envelope>,
+    pub rows: fn(&[u8], usize) -> RecordAnswer<u16>,
+    pub cell: fn(&[u8], usize, usize, usize) -> RecordAnswer<Cell>,
+    pub cells: fn(&[u8], usize, &mut GuardedOutput) -> Answer,
+    pub sample: fn(&[u8], usize) -> RecordAnswer<Sample>,
+    pub frames: fn(&[u8], usize) -> RecordAnswer<Frames>,
+    pub frame: fn(&[u8], usize, usize) -> RecordAnswer<i16>,
+    pub all_frames: fn(&[u8], usize, &mut GuardedOutput) -> Answer,
 }
 
 /// libdbm0.a.
@@ -40,7 +40,7 @@ pub const ARCHIVE: Queries = Queries {
     info: interface::info,
     song: interface::song,
     entry: interface::entry,
-    playlist: |module, song, lent| interface::playlist(module, song, lent.out()),
+    playlist: |module, song, output| interface::playlist(module, song, output.slice()),
     instrument: interface::instrument,
     volume_envelopes: interface::volume_envelopes,
     panning_envelopes: interface::panning_envelopes,
@@ -48,69 +48,79 @@ pub const ARCHIVE: Queries = Queries {
     panning_envelope: interface::panning_envelope,
     rows: interface::rows,
     cell: interface::cell,
-    cells: |module, pattern, lent| interface::cells(module, pattern, lent.out()),
+    cells: |module, pattern, output| interface::cells(module, pattern, output.slice()),
     sample: interface::sample,
     frames: interface::frames,
     frame: interface::frame,
-    all_frames: |module, sample, lent| interface::all_frames(module, sample, lent.out()),
+    all_frames: |module, sample, output| interface::all_frames(module, sample, output.slice()),
 };
 
 /// The reference itself.
 pub const REFERENCE: Queries = Queries {
-    version: |module| told(records::version(module).map(version)),
-    name: |module| told(records::name(module).map(Name)),
-    info: |module| told(records::info(module).map(info)),
-    song: |module, number| told(records::song(module, number as u64).map(song)),
-    entry: |module, song, entry| told(records::entry(module, song as u64, entry as u64)),
-    playlist: |module, song, lent| answer(records::playlist(module, song as u64, lent.out())),
-    instrument: |module, number| told(records::instrument(module, number as u64).map(instrument)),
-    volume_envelopes: |module| told(records::volume_envelopes(module).map(|count| count as u16)),
-    panning_envelopes: |module| told(records::panning_envelopes(module).map(|count| count as u16)),
+    version: |module| record_answer(records::version(module).map(version)),
+    name: |module| record_answer(records::name(module).map(Name)),
+    info: |module| record_answer(records::info(module).map(info)),
+    song: |module, number| record_answer(records::song(module, number as u64).map(song)),
+    entry: |module, song, entry| record_answer(records::entry(module, song as u64, entry as u64)),
+    playlist: |module, song, output| answer(records::playlist(module, song as u64, output.slice())),
+    instrument: |module, number| {
+        record_answer(records::instrument(module, number as u64).map(instrument))
+    },
+    volume_envelopes: |module| {
+        record_answer(records::volume_envelopes(module).map(|count| count as u16))
+    },
+    panning_envelopes: |module| {
+        record_answer(records::panning_envelopes(module).map(|count| count as u16))
+    },
     volume_envelope: |module, number| {
-        told(records::envelope(module, Kind::Volume, number as u64).map(envelope))
+        record_answer(records::envelope(module, Kind::Volume, number as u64).map(envelope))
     },
     panning_envelope: |module, number| {
-        told(records::envelope(module, Kind::Panning, number as u64).map(envelope))
+        record_answer(records::envelope(module, Kind::Panning, number as u64).map(envelope))
     },
-    rows: |module, pattern| told(records::pattern(module, pattern as u64)),
+    rows: |module, pattern| record_answer(records::pattern(module, pattern as u64)),
     cell: |module, pattern, row, track| {
-        told(records::cell(module, pattern as u64, row as u64, track as u64).map(cell))
+        record_answer(records::cell(module, pattern as u64, row as u64, track as u64).map(cell))
     },
-    cells: |module, pattern, lent| answer(records::unpack(module, pattern as u64, lent.out())),
-    sample: |module, number| told(records::sample(module, number as u64).map(sample)),
-    frames: |module, sample| told(frames(module, sample as u64)),
-    frame: |module, sample, frame| told(records::frame(module, sample as u64, frame as u64)),
-    all_frames: |module, sample, lent| {
-        answer(records::all_frames(module, sample as u64, lent.out()))
+    cells: |module, pattern, output| {
+        answer(records::unpack(module, pattern as u64, output.slice()))
+    },
+    sample: |module, number| record_answer(records::sample(module, number as u64).map(sample)),
+    frames: |module, sample| record_answer(frames(module, sample as u64)),
+    frame: |module, sample, frame| {
+        record_answer(records::frame(module, sample as u64, frame as u64))
+    },
+    all_frames: |module, sample, output| {
+        answer(records::all_frames(module, sample as u64, output.slice()))
     },
 };
 
-/// The answer of the C interface for an answer of the reference: on a refusal the record is all zeros.
-fn told<Record: Default>(result: Result<Record, Refusal>) -> Told<Record> {
+/// The answer of the C interface for a result of the reference. On a refusal the record is all zeros.
+fn record_answer<Record: Default>(result: Result<Record, Refusal>) -> RecordAnswer<Record> {
     match result {
-        Ok(record) => shown(record),
+        Ok(record) => success(record),
         Err(refusal) => refused(refusal.number, refusal.place),
     }
 }
 
-/// The refusal of a module, as each query about the whole of it gives it.
+/// The refusal of a module, as every query returns it.
 pub fn refusal(library: &Queries, module: &[u8]) -> ModuleAnswer {
-    let Told { number, place, .. } = (library.version)(module);
+    let RecordAnswer { number, place, .. } = (library.version)(module);
     ModuleAnswer { number, place }
 }
 
-/// A record without a refusal.
-pub fn shown<Record>(record: Record) -> Told<Record> {
-    Told {
+/// An answer with a record and no refusal.
+pub fn success<Record>(record: Record) -> RecordAnswer<Record> {
+    RecordAnswer {
         number: 0,
         place: 0,
         record,
     }
 }
 
-/// A refusal, with a record of zeros.
-pub fn refused<Record: Default>(number: u64, place: u64) -> Told<Record> {
-    Told {
+/// An answer with a refusal. The record is all zeros.
+pub fn refused<Record: Default>(number: u64, place: u64) -> RecordAnswer<Record> {
+    RecordAnswer {
         number,
         place,
         record: Record::default(),

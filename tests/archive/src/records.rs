@@ -1,17 +1,17 @@
-//! The comparison of all queries about a module.
+//! Compares all queries about a module.
 
 use std::fmt::Debug;
 
-use crate::compare::{rooms, same_answer, same_output, with_module, Lent};
+use crate::compare::{rooms, same_answer, same_output, with_module, GuardedOutput};
 use crate::queries::{Queries, REFERENCE};
-use interface::{Answer, Frames, Info, Told, OUTPUT_TOO_SHORT};
+use interface::{Answer, Frames, Info, RecordAnswer, OUTPUT_TOO_SHORT};
 use reference::generate::Random;
 
-/// Asks a library everything about a module, and the reference too. The error says what differs, with the whole module where it is
-/// not too long to be read.
+/// Runs all queries about a module on a library and on the reference. The error message has the difference, and the whole module if it is
+/// short.
 ///
-/// Every song, entry, instrument, envelope, pattern, row, track, sample and frame that is there is asked for (of a long module some
-/// of them), those just outside, and some that are far off; outputs are too short, just long enough and longer.
+/// The queries cover every song, entry, instrument, envelope, pattern, row, track, sample and frame (some of them if the module is long),
+/// the numbers just outside, and some that are far outside. Outputs are too short, exactly long enough, and longer.
 pub fn all(library: &Queries, module: &[u8], random: &mut Random) -> Result<(), String> {
     let stored = module.to_vec();
     let is = Side { library, module };
@@ -26,8 +26,7 @@ pub fn all(library: &Queries, module: &[u8], random: &mut Random) -> Result<(), 
     Ok(())
 }
 
-/// Asks a library everything about two modules, which should show the same. Frames are compared by what they are, not by where they
-/// stand.
+/// Runs all queries about two modules, whose answers should be the same. Frames are compared by their bytes, not by their place.
 pub fn show_the_same(
     library: &Queries,
     module: &[u8],
@@ -40,34 +39,34 @@ pub fn show_the_same(
 
 fn compare(is: Side, expected: Side, random: &mut Random) -> Result<(), String> {
     let module = expected.module;
-    let mut asking = Asking {
+    let mut comparison = QueryComparison {
         is,
         expected,
         info: (expected.library.info)(module).record,
         many: if module.len() <= 2_000 { 16 } else { 3 },
         random,
     };
-    asking.all().map_err(|what| with_module(what, module))
+    comparison.all().map_err(|what| with_module(what, module))
 }
 
-/// A library, and the module that it is asked about.
+/// A library, and the module of the queries.
 #[derive(Clone, Copy)]
 struct Side<'a> {
     library: &'a Queries,
     module: &'a [u8],
 }
 
-struct Asking<'a> {
+struct QueryComparison<'a> {
     is: Side<'a>,
     expected: Side<'a>,
-    /// Zeros where the module is refused.
+    /// All zeros if the module is refused.
     info: Info,
-    /// Of more things than these only some are asked for.
+    /// If there are more items than this, only some are compared.
     many: usize,
     random: &'a mut Random,
 }
 
-impl Asking<'_> {
+impl QueryComparison<'_> {
     fn all(&mut self) -> Result<(), String> {
         self.same("version", &[], |of| (of.library.version)(of.module))?;
         self.same("name", &[], |of| (of.library.name)(of.module))?;
@@ -83,8 +82,8 @@ impl Asking<'_> {
         let Side { library, module } = self.expected;
         for song in self.numbers(0, usize::from(self.info.songs)) {
             self.same("song", &[song], |of| (of.library.song)(of.module, song))?;
-            self.same_output("playlist", song, |of, lent| {
-                (of.library.playlist)(of.module, song, lent)
+            self.same_output("playlist", song, |of, output| {
+                (of.library.playlist)(of.module, song, output)
             })?;
             let entries = (library.song)(module, song).record.length;
             for entry in self.numbers(0, usize::from(entries)) {
@@ -134,8 +133,8 @@ impl Asking<'_> {
             self.same("rows", &[pattern], |of| {
                 (of.library.rows)(of.module, pattern)
             })?;
-            self.same_output("cells", pattern, |of, lent| {
-                (of.library.cells)(of.module, pattern, lent)
+            self.same_output("cells", pattern, |of, output| {
+                (of.library.cells)(of.module, pattern, output)
             })?;
             let rows = (library.rows)(module, pattern).record;
             for row in self.numbers(0, usize::from(rows)) {
@@ -156,8 +155,8 @@ impl Asking<'_> {
                 (of.library.sample)(of.module, sample)
             })?;
             self.frames(sample)?;
-            self.same_output("all_frames", sample, |of, lent| {
-                (of.library.all_frames)(of.module, sample, lent)
+            self.same_output("all_frames", sample, |of, output| {
+                (of.library.all_frames)(of.module, sample, output)
             })?;
             let frames = (library.sample)(module, sample).record.frames;
             for frame in self.numbers(0, frames as usize) {
@@ -169,69 +168,69 @@ impl Asking<'_> {
         Ok(())
     }
 
-    /// The frames are the same part where the modules are one, and else the same bytes.
+    /// If both sides have the same module, the frames are at the same place. Otherwise they have the same bytes.
     fn frames(&mut self, sample: usize) -> Result<(), String> {
         for Side { library, module } in [self.is, self.expected] {
             within(module, (library.frames)(module, sample))
                 .map_err(|what| format!("frames of {sample} {what}"))?;
         }
-        let told = |of: Side| (of.library.frames)(of.module, sample);
+        let frames_of = |of: Side| (of.library.frames)(of.module, sample);
         if std::ptr::eq(self.is.module, self.expected.module) {
-            return self.same("frames", &[sample], |of| part(told(of)));
+            return self.same("frames", &[sample], |of| part(frames_of(of)));
         }
         self.same("frames", &[sample], |of| {
-            let Told { number, place, .. } = told(of);
+            let RecordAnswer { number, place, .. } = frames_of(of);
             (number, place)
         })?;
-        let [is, expected] = [self.is, self.expected].map(|of| bytes(of.module, told(of)));
+        let [is, expected] = [self.is, self.expected].map(|of| bytes(of.module, frames_of(of)));
         if is != expected {
             return Err(format!("the frames of {sample} are other bytes"));
         }
         Ok(())
     }
 
-    /// Both sides answer the same.
+    /// Both sides return the same answer.
     fn same<A: PartialEq + Debug>(
         &self,
         call: &str,
-        asked: &[usize],
+        items: &[usize],
         query: impl Fn(Side) -> A,
     ) -> Result<(), String> {
         same_answer(call, query(self.is), query(self.expected))
-            .map_err(|what| format!("{what} (asked for {asked:?})"))
+            .map_err(|what| format!("{what} (items {items:?})"))
     }
 
-    /// The same with outputs of several lengths, around the needed one. What is expected there is what the other side leaves.
+    /// The same with outputs of several lengths around the needed length. The expected bytes are those of the other side.
     fn same_output(
         &mut self,
         call: &str,
-        asked: usize,
-        query: impl Fn(Side, &mut Lent) -> Answer,
+        item: usize,
+        query: impl Fn(Side, &mut GuardedOutput) -> Answer,
     ) -> Result<(), String> {
-        let needed = match query(self.expected, &mut Lent::new(0)) {
+        let needed = match query(self.expected, &mut GuardedOutput::new(0)) {
             answer if answer.number == OUTPUT_TOO_SHORT => answer.place as usize,
             _ => 0,
         };
         for room in rooms(needed, needed, self.random) {
-            let is = |lent: &mut Lent| query(self.is, lent);
-            let expected = |lent: &mut Lent| query(self.expected, lent);
+            let is = |output: &mut GuardedOutput| query(self.is, output);
+            let expected = |output: &mut GuardedOutput| query(self.expected, output);
             same_output(call, room, is, expected)
-                .map_err(|what| format!("{what} (asked for {asked} with room {room})"))?;
+                .map_err(|what| format!("{what} (item {item}, room {room})"))?;
         }
         Ok(())
     }
 
-    /// Numbers to ask for where so many things are there, counted from `first`.
+    /// Numbers to test if there are `count` items, counted from `first`.
     fn numbers(&mut self, first: usize, count: usize) -> Vec<usize> {
-        let behind = first + count;
-        let mut numbers = vec![0, behind, usize::MAX];
+        let end = first + count;
+        let mut numbers = vec![0, end, usize::MAX];
         let any = first + self.random.below(count.max(1) as u64) as usize;
         if count <= self.many {
-            numbers.extend(first..behind);
+            numbers.extend(first..end);
         } else {
-            numbers.extend([first, any, behind - 1]);
+            numbers.extend([first, any, end - 1]);
         }
-        // One that is there again in a number that is too small for it, and any number.
+        // A number that is valid again if it is truncated to fewer bits, and a random number.
         numbers.push(any + (1 << self.random.pick(&[8, 16, 31, 32, 63])));
         numbers.push(self.random.number() as usize >> self.random.below(64));
         numbers.sort_unstable();
@@ -240,8 +239,8 @@ impl Asking<'_> {
     }
 }
 
-/// The frames lie in the module.
-fn within(module: &[u8], frames: Told<Frames>) -> Result<(), String> {
+/// The frames are inside the module.
+fn within(module: &[u8], frames: RecordAnswer<Frames>) -> Result<(), String> {
     let Frames { offset, length } = frames.record;
     match offset.checked_add(length) {
         Some(end) if end <= module.len() as u64 => Ok(()),
@@ -249,20 +248,20 @@ fn within(module: &[u8], frames: Told<Frames>) -> Result<(), String> {
     }
 }
 
-/// The frames, which lie in the module.
-fn bytes(module: &[u8], frames: Told<Frames>) -> &[u8] {
+/// The bytes of the frames, which are inside the module.
+fn bytes(module: &[u8], frames: RecordAnswer<Frames>) -> &[u8] {
     let Frames { offset, length } = frames.record;
     &module[offset as usize..(offset + length) as usize]
 }
 
-/// The frames as they are compared: where there are none, they may stand anywhere.
-fn part(frames: Told<Frames>) -> Told<Frames> {
+/// The frames in the form that is compared. If there are none, the place is ignored.
+fn part(frames: RecordAnswer<Frames>) -> RecordAnswer<Frames> {
     match frames {
-        Told {
+        RecordAnswer {
             number: 0,
             place,
             record: Frames { length: 0, .. },
-        } => Told {
+        } => RecordAnswer {
             number: 0,
             place,
             record: Frames::default(),

@@ -1,6 +1,6 @@
-//! Repacking a whole module, in the frame of writing.rs.
+//! Repacking a whole module, tested by writing.rs.
 
-use crate::compare::{answer, same_answer, Lent};
+use crate::compare::{answer, same_answer, GuardedOutput};
 use crate::queries;
 use crate::records::show_the_same;
 use crate::writing::Call;
@@ -11,21 +11,21 @@ use reference::repack::repack;
 /// libdbm0.a against the reference.
 pub const REPACK: Call<'static> = Call {
     name: "repack",
-    library: &|module, lent| interface::repack(module, lent.out()),
+    library: &|module, output| interface::repack(module, output.slice()),
     queries: &queries::ARCHIVE,
-    reference: &|module, lent| answer(repack(module, lent.out())),
+    reference: &|module, output| answer(repack(module, output.slice())),
     enough: &|length| length,
     refusal: &queries::refusal,
     keeps: &keeps,
 };
 
-/// The module repacked is accepted, shows the same, and repacks to itself.
+/// The repacked module is accepted, its queries return the same answers, and repacking it again does not change it.
 fn keeps(call: &Call, module: &[u8], repacked: &[u8], random: &mut Random) -> Result<(), String> {
     show_the_same(call.queries, repacked, module, random)?;
-    let mut again = Lent::new(repacked.len());
+    let mut again = GuardedOutput::new(repacked.len());
     let is = (call.library)(repacked, &mut again);
     same_answer("repack", is, Answer::written(repacked.len()))?;
-    match again.out() == repacked {
+    match again.slice() == repacked {
         true => Ok(()),
         false => Err("it does not repack to itself".to_string()),
     }

@@ -1,7 +1,7 @@
 //! Random cases, each made from its own seed.
 //!
-//! DBM0_CASES says how many there are of each kind, DBM0_SEED where the seeds begin; a case that fails prints its seed, and
-//! DBM0_SEED with it and DBM0_CASES=1 repeats it.
+//! DBM0_CASES is the number of cases of each kind, and DBM0_SEED is the first seed. A case that fails prints its seed. To repeat it, set
+//! DBM0_SEED to it and DBM0_CASES to 1.
 
 use reference::generate::Random;
 

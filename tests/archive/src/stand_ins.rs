@@ -1,7 +1,7 @@
-//! Wrong libraries in the place of a call of writing.rs, to see that the frame notices them. `tests_of_the_comparison!` makes the tests
-//! that each call has.
+//! Wrong libraries in place of a `Call` of writing.rs, to test that the comparison detects them. `tests_of_the_comparison!` defines the
+//! tests that are the same for each call.
 
-use crate::compare::Lent;
+use crate::compare::GuardedOutput;
 use crate::modules;
 use crate::queries;
 use crate::writing::{Call, Fill};
@@ -9,7 +9,7 @@ use interface::{Answer, OUTPUT_TOO_SHORT};
 use reference::generate::Random;
 
 impl Call<'_> {
-    /// Of how many of these modules the stand-in differs from the reference, and of how many it does not hold alone what must.
+    /// The number of modules for which the stand-in differs from the reference, and the number for which `holds_alone` fails.
     pub fn differences(&self, library: Fill) -> (usize, usize) {
         let call = Call {
             library,
@@ -27,15 +27,15 @@ impl Call<'_> {
         )
     }
 
-    /// The stand-in is noticed beside the reference, and also alone.
+    /// The stand-in is detected by comparison with the reference, and also without it.
     #[track_caller]
     pub fn notices(&self, library: Fill) {
         let (differ, alone) = self.differences(library);
         assert!(differ >= 3 && alone >= 3, "only {differ} and {alone}");
     }
 
-    /// The stand-in is noticed beside the reference only: it keeps what it must, but is not what is asked for, or is wrong in an output
-    /// of another length.
+    /// The stand-in is detected only by comparison with the reference. Its output has the required properties but is not the expected one,
+    /// or is wrong for an output of another length.
     #[track_caller]
     pub fn notices_beside_the_reference(&self, library: Fill) {
         let (differ, alone) = self.differences(library);
@@ -43,31 +43,31 @@ impl Call<'_> {
         assert_eq!(alone, 0);
     }
 
-    /// What the reference does, and then a change of what it has written, which is made for the module.
+    /// The reference, followed by a change of the bytes that it has written. The change depends on the module.
     pub fn changed<'s>(
         &'s self,
         change: impl Fn(&[u8], &mut [u8]) + 's,
-    ) -> impl Fn(&[u8], &mut Lent) -> Answer + 's {
+    ) -> impl Fn(&[u8], &mut GuardedOutput) -> Answer + 's {
         let call: &Call<'s> = self;
-        move |module, lent| {
-            let answer = (call.reference)(module, lent);
+        move |module, output| {
+            let answer = (call.reference)(module, output);
             if answer.number == 0 {
-                change(module, &mut lent.out()[..answer.length as usize]);
+                change(module, &mut output.slice()[..answer.length as usize]);
             }
             answer
         }
     }
 
-    /// What the reference writes, and another answer. That is made of the right one, of the room of the output, and of the room that is
-    /// enough for the module.
+    /// The bytes of the reference with another answer. The answer is made from the correct one, the length of the output, and the length
+    /// that is always enough for the module.
     fn answering<'s>(
         &'s self,
         change: impl Fn(Answer, usize, usize) -> Answer + 's,
-    ) -> impl Fn(&[u8], &mut Lent) -> Answer + 's {
+    ) -> impl Fn(&[u8], &mut GuardedOutput) -> Answer + 's {
         let call: &Call<'s> = self;
-        move |module, lent| {
-            let answer = (call.reference)(module, lent);
-            change(answer, lent.out().len(), (call.enough)(module.len()))
+        move |module, output| {
+            let answer = (call.reference)(module, output);
+            change(answer, output.slice().len(), (call.enough)(module.len()))
         }
     }
 
@@ -75,13 +75,15 @@ impl Call<'_> {
         assert_eq!(self.differences(self.reference), (0, 0));
     }
 
-    /// Nothing is written; everything is refused.
+    /// A library that writes nothing, and one that refuses everything.
     pub fn notices_idle_libraries(&self) {
-        self.notices(&|module, lent| (self.reference)(module, &mut Lent::new(lent.out().len())));
+        self.notices(&|module, output| {
+            (self.reference)(module, &mut GuardedOutput::new(output.slice().len()))
+        });
         self.notices(&|_, _| Answer::refused(2, 0));
     }
 
-    /// The length that is always enough instead of the needed one: in the answer; as what must be there, with one place and the other.
+    /// The length that is always enough instead of the needed one: in the answer, and as a required length with either place.
     pub fn notices_another_needed_length(&self) {
         self.notices_beside_the_reference(&self.answering(|answer, _, enough| {
             match answer.number == OUTPUT_TOO_SHORT {
@@ -90,28 +92,28 @@ impl Call<'_> {
             }
         }));
         for wrong_place in [false, true] {
-            self.notices_beside_the_reference(&|module, lent| {
+            self.notices_beside_the_reference(&|module, output| {
                 let enough = (self.enough)(module.len());
-                let asked = (self.reference)(module, &mut Lent::new(0));
-                if asked.number != OUTPUT_TOO_SHORT || lent.out().len() >= enough {
-                    return (self.reference)(module, lent);
+                let needed = (self.reference)(module, &mut GuardedOutput::new(0));
+                if needed.number != OUTPUT_TOO_SHORT || output.slice().len() >= enough {
+                    return (self.reference)(module, output);
                 }
                 match wrong_place {
                     true => Answer::refused(OUTPUT_TOO_SHORT, enough),
-                    false => asked,
+                    false => needed,
                 }
             });
         }
     }
 
-    /// The first or the last byte of the output is changed on a refusal: on 17, and on those of the module.
+    /// The first or the last byte of the output is changed on a refusal: on 17, and on the refusals of the module.
     pub fn notices_writing_on_a_refusal(&self) {
         let writes = |last: bool, on: fn(u64) -> bool| {
-            move |module: &[u8], lent: &mut Lent| {
-                let answer = (self.reference)(module, lent);
+            move |module: &[u8], output: &mut GuardedOutput| {
+                let answer = (self.reference)(module, output);
                 let byte = match last {
-                    true => lent.out().last_mut(),
-                    false => lent.out().first_mut(),
+                    true => output.slice().last_mut(),
+                    false => output.slice().first_mut(),
                 };
                 if let Some(byte) = byte.filter(|_| on(answer.number)) {
                     *byte ^= 1;
@@ -127,23 +129,23 @@ impl Call<'_> {
         }
     }
 
-    /// A byte after the needed length, and bytes on both sides of what is lent.
+    /// A byte after the needed length is changed, and bytes on both sides of the output.
     pub fn notices_bytes_that_should_stay(&self) {
-        self.notices(&|module, lent| {
-            let answer = (self.reference)(module, lent);
-            if let Some(byte) = lent.out().get_mut(answer.length as usize) {
+        self.notices(&|module, output| {
+            let answer = (self.reference)(module, output);
+            if let Some(byte) = output.slice().get_mut(answer.length as usize) {
                 *byte ^= u8::from(answer.number == 0);
             }
             answer
         });
-        let before: Fill = &|module, lent| {
-            lent.bytes[63] ^= 1;
-            (self.reference)(module, lent)
+        let before: Fill = &|module, output| {
+            output.bytes[63] ^= 1;
+            (self.reference)(module, output)
         };
-        let after: Fill = &|module, lent| {
-            let end = 64 + lent.out().len();
-            lent.bytes[end] ^= 1;
-            (self.reference)(module, lent)
+        let after: Fill = &|module, output| {
+            let end = 64 + output.slice().len();
+            output.bytes[end] ^= 1;
+            (self.reference)(module, output)
         };
         for library in [before, after] {
             let (differ, alone) = self.differences(library);
@@ -151,20 +153,20 @@ impl Call<'_> {
         }
     }
 
-    /// 17 before the module's own refusal, where the output is shorter than these lengths.
+    /// 17 is returned before the module's own refusal if the output is shorter than these lengths.
     pub fn notices_another_order_of_refusals(&self) {
         for most in [1, 60, usize::MAX] {
             self.notices_beside_the_reference(&self.answering(move |answer, room, enough| {
-                let asked = enough.min(most);
-                match matches!(answer.number, 0 | OUTPUT_TOO_SHORT) || room >= asked {
+                let needed = enough.min(most);
+                match matches!(answer.number, 0 | OUTPUT_TOO_SHORT) || room >= needed {
                     true => answer,
-                    false => Answer::refused(OUTPUT_TOO_SHORT, asked),
+                    false => Answer::refused(OUTPUT_TOO_SHORT, needed),
                 }
             }));
         }
     }
 
-    /// The length that is answered.
+    /// The returned length is wrong.
     pub fn notices_another_length(&self) {
         self.notices(&self.answering(|answer, _, _| Answer {
             length: answer.length - u64::from(answer.number == 0),
@@ -173,7 +175,7 @@ impl Call<'_> {
     }
 }
 
-/// The tests that each call has of its comparison.
+/// The tests that each comparison has.
 #[macro_export]
 macro_rules! tests_of_the_comparison {
     ($call:expr) => {

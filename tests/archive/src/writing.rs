@@ -1,15 +1,15 @@
-//! The frame for a call that writes into a lent output what it makes of a module. Each such call is one `Call` (repacking.rs,
-//! all_records.rs); what is the same for all of them is here.
+//! Tests for a call that computes bytes from a module and writes them into an output. Each such call is one `Call` (repacking.rs,
+//! all_records.rs). The code here is common to all of them.
 //!
-//! A call is compared with the reference in outputs of every length around the needed one and around the module's own. After a refusal
-//! the output is as it was; after success only the written bytes differ; and the memory on both sides of the output, and the module,
-//! stay in any case. `tests_of_a_call!` makes the tests that each call has, over typed, generated and damaged modules;
-//! `tests_of_the_comparison!` of stand_ins.rs makes those that show that a wrong library is noticed. So another call needs a `Call`, two
-//! modules with what is written for them, and these two macros; and its own tests where it has something of its own.
+//! A call is compared with the reference, with outputs of every length around the needed length and around the module's length. After a
+//! refusal the output is unchanged. After success only the written bytes differ. The memory on both sides of the output and the module are
+//! never changed. `tests_of_a_call!` defines the tests that each call has, on typed, generated and damaged modules.
+//! `tests_of_the_comparison!` in stand_ins.rs defines tests which show that a wrong library is detected. A new call needs a `Call`, two
+//! modules with their expected bytes, these two macros, and tests of its own for its special cases.
 
 use std::collections::BTreeSet;
 
-use crate::compare::{rooms, same_answer, same_bytes, same_output, with_module, Lent};
+use crate::compare::{rooms, same_answer, same_bytes, same_output, with_module, GuardedOutput};
 use crate::large::{filled_up, MOST};
 use crate::modules;
 use crate::queries::Queries;
@@ -17,10 +17,10 @@ use interface::{Answer, ModuleAnswer, OUTPUT_TOO_SHORT};
 use reference::draft::Tune;
 use reference::generate::Random;
 
-/// What is called: it makes something of a module, and writes it into the output. What else it takes, the closure has with it.
-pub type Fill<'a> = &'a dyn Fn(&[u8], &mut Lent) -> Answer;
+/// A call: it computes bytes from a module and writes them into the output. Further arguments are captured by the closure.
+pub type Fill<'a> = &'a dyn Fn(&[u8], &mut GuardedOutput) -> Answer;
 
-/// What must hold of the bytes that a call writes, whatever the reference says. It is given the module and the bytes.
+/// The required properties of the bytes that a call writes, independent of the reference. The arguments are the module and the bytes.
 pub type Keeps<'a> = &'a dyn Fn(&Call, &[u8], &[u8], &mut Random) -> Result<(), String>;
 
 #[derive(Clone, Copy)]
@@ -30,24 +30,23 @@ pub struct Call<'a> {
     pub library: Fill<'a>,
     pub queries: &'a Queries,
     pub reference: Fill<'a>,
-    /// For a module of so many bytes: an output of how many is enough.
+    /// The length of an output that is always enough for a module of this length.
     pub enough: &'a dyn Fn(usize) -> usize,
-    /// What a query of the library says that refuses just what the call refuses.
+    /// The answer of a query that refuses exactly the modules that the call refuses.
     pub refusal: &'a dyn Fn(&Queries, &[u8]) -> ModuleAnswer,
     pub keeps: Keeps<'a>,
 }
 
 impl Call<'_> {
-    /// All that is asked of a call for one module. The error says what differs, with the whole module where it is not too long to be
-    /// read.
+    /// All checks of a call for one module. The error message has the difference, and the whole module if it is short.
     pub fn agrees(&self, module: &[u8], random: &mut Random) -> Result<(), String> {
         self.compare(module, random)?;
         self.holds_alone(module, random)
     }
 
-    /// The library does what the reference does, in outputs of several lengths.
+    /// The library agrees with the reference for outputs of several lengths.
     pub fn compare(&self, module: &[u8], random: &mut Random) -> Result<(), String> {
-        let needed = match (self.reference)(module, &mut Lent::new(0)) {
+        let needed = match (self.reference)(module, &mut GuardedOutput::new(0)) {
             answer if answer.number == OUTPUT_TOO_SHORT => answer.place as usize,
             _ => module.len(),
         };
@@ -57,20 +56,20 @@ impl Call<'_> {
         Ok(())
     }
 
-    /// The same with one length of the output.
+    /// The same for one length of the output.
     pub fn into_room(&self, module: &[u8], room: usize) -> Result<(), String> {
-        self.does(module, room, |lent| (self.reference)(module, lent))
+        self.check_output(module, room, |output| (self.reference)(module, output))
     }
 
-    /// With an output of one length the library answers and writes what is expected, and the module stays.
-    fn does(
+    /// For an output of one length the library returns and writes what is expected, and the module is unchanged.
+    fn check_output(
         &self,
         module: &[u8],
         room: usize,
-        expected: impl FnOnce(&mut Lent) -> Answer,
+        expected: impl FnOnce(&mut GuardedOutput) -> Answer,
     ) -> Result<(), String> {
         let stored = module.to_vec();
-        let is = |lent: &mut Lent| (self.library)(module, lent);
+        let is = |output: &mut GuardedOutput| (self.library)(module, output);
         same_output(self.name, room, is, expected)
             .and_then(|()| match module == stored {
                 true => Ok(()),
@@ -79,8 +78,8 @@ impl Call<'_> {
             .map_err(|what| with_module(format!("{what} (with room {room})"), &stored))
     }
 
-    /// What holds of the library alone, with its own queries: a refusal is that of a query; the output, which is long enough, is changed
-    /// only where bytes are written; and of these bytes holds what must.
+    /// The properties of the library without the reference, checked with its own queries: a refusal equals that of a query, only the
+    /// written bytes of an output that is long enough change, and these bytes have the required properties.
     pub fn holds_alone(&self, module: &[u8], random: &mut Random) -> Result<(), String> {
         let written = self
             .written(module)
@@ -93,34 +92,35 @@ impl Call<'_> {
         }
     }
 
-    /// The bytes that are written where nothing is refused.
+    /// The written bytes, if the module is not refused.
     fn written(&self, module: &[u8]) -> Result<Option<Vec<u8>>, String> {
         let room = (self.enough)(module.len());
-        let (mut lent, mut expected_lent) = (Lent::new(room), Lent::new(room));
-        let is = (self.library)(module, &mut lent);
+        let (mut output, mut expected_output) =
+            (GuardedOutput::new(room), GuardedOutput::new(room));
+        let is = (self.library)(module, &mut output);
         let refusal = (self.refusal)(self.queries, module);
         let expected = match refusal.number {
             0 => Answer::written(is.length as usize),
             number => Answer::refused(number, refusal.place as usize),
         };
         same_answer(self.name, is, expected)?;
-        let Some(bytes) = lent.out().get(..is.length as usize) else {
+        let Some(bytes) = output.slice().get(..is.length as usize) else {
             return Err(format!("{} bytes are written, of {room}", is.length));
         };
         let bytes = bytes.to_vec();
-        expected_lent.out()[..bytes.len()].copy_from_slice(&bytes);
-        same_bytes(self.name, &lent, &expected_lent)?;
+        expected_output.slice()[..bytes.len()].copy_from_slice(&bytes);
+        same_bytes(self.name, &output, &expected_output)?;
         Ok((refusal.number == 0).then_some(bytes))
     }
 
-    /// The library writes these bytes: in outputs around their length, and in one that is always enough. With fewer it is 17. The
-    /// reference does the same.
+    /// The library writes these bytes, into outputs around their length and into one that is always enough. A shorter output is refused
+    /// with 17. The reference does the same.
     #[track_caller]
     pub fn gives(&self, module: &[u8], bytes: &[u8]) {
         let (needed, enough) = (bytes.len(), (self.enough)(module.len()));
         let rooms = [0, needed - 1, needed, needed + 1, enough, enough + 1];
         for room in BTreeSet::from(rooms) {
-            self.does(module, room, |lent| writing(bytes, lent))
+            self.check_output(module, room, |output| writing(bytes, output))
                 .unwrap();
         }
         for room in BTreeSet::from([needed + 3, enough]) {
@@ -128,17 +128,17 @@ impl Call<'_> {
         }
     }
 
-    /// The library refuses the module, whatever the output, and writes nothing.
+    /// The library refuses the module for outputs of all lengths, and writes nothing.
     #[track_caller]
     pub fn refuses(&self, module: &[u8], number: u64, place: usize) {
         let length = module.len();
         for room in [0, 1, length - 1, length, (self.enough)(length)] {
-            self.does(module, room, |_| Answer::refused(number, place))
+            self.check_output(module, room, |_| Answer::refused(number, place))
                 .unwrap();
         }
     }
 
-    /// Of a module of as many bytes as there may be these bytes are written. With one byte more it is 1, and nothing is written.
+    /// For a module of the maximum length these bytes are written. With one more byte it is refused with 1, and nothing is written.
     pub fn one_byte_too_many(&self, bytes: impl Fn(&[u8]) -> Vec<u8>) {
         let mut module = filled_up(Tune::default().draft(), MOST);
         self.gives(&module, &bytes(&module));
@@ -146,7 +146,7 @@ impl Call<'_> {
         self.refuses(&module, 1, 0);
     }
 
-    /// The module may be anywhere in memory.
+    /// The module can be at any address.
     pub fn at_every_alignment(&self, module: &[u8], bytes: &[u8]) {
         modules::at_every_alignment(module, |module, _| {
             self.gives(module, bytes);
@@ -155,9 +155,9 @@ impl Call<'_> {
     }
 }
 
-/// What a call does that has these bytes to write.
-pub fn writing(bytes: &[u8], lent: &mut Lent) -> Answer {
-    match lent.out().get_mut(..bytes.len()) {
+/// A correct call whose result is these bytes.
+pub fn writing(bytes: &[u8], output: &mut GuardedOutput) -> Answer {
+    match output.slice().get_mut(..bytes.len()) {
         Some(out) => {
             out.copy_from_slice(bytes);
             Answer::written(bytes.len())
@@ -166,28 +166,31 @@ pub fn writing(bytes: &[u8], lent: &mut Lent) -> Answer {
     }
 }
 
-/// A call writes these bytes, in outputs around their length, and it is 17 in shorter ones.
+/// A call writes these bytes into outputs around their length. Shorter outputs are refused with 17.
 #[track_caller]
-pub fn writes_around(bytes: &[u8], call: impl Fn(&mut Lent) -> Answer) {
+pub fn writes_around(bytes: &[u8], call: impl Fn(&mut GuardedOutput) -> Answer) {
     for room in [0, bytes.len() - 1, bytes.len(), bytes.len() + 1] {
-        same_output("it", room, &call, |lent| writing(bytes, lent)).unwrap();
+        same_output("it", room, &call, |output| writing(bytes, output)).unwrap();
     }
 }
 
-/// A call writes these bytes, in outputs of every length from every start on.
+/// A call writes these bytes into outputs of every length and every alignment.
 #[track_caller]
-pub fn writes(bytes: &[u8], call: impl Fn(&mut Lent) -> Answer) {
+pub fn writes(bytes: &[u8], call: impl Fn(&mut GuardedOutput) -> Answer) {
     for shift in 0..64 {
         for room in 0..bytes.len() + 10 {
-            let (mut is, mut expected) = (Lent::shifted(shift, room), Lent::shifted(shift, room));
+            let (mut is, mut expected) = (
+                GuardedOutput::shifted(shift, room),
+                GuardedOutput::shifted(shift, room),
+            );
             assert_eq!(call(&mut is), writing(bytes, &mut expected));
             assert_eq!(is.bytes, expected.bytes, "shift {shift}, room {room}");
         }
     }
 }
 
-/// NULL in the place of the output and of the module, where its length is 0. The module needs an output of so many bytes, and its last
-/// chunk has two bytes of data.
+/// NULL for the output and for the module if the length is 0. The module needs an output of `needed` bytes, and its last chunk has two
+/// bytes of data.
 pub fn memory_of_no_bytes(
     module: &[u8],
     needed: usize,
@@ -204,8 +207,8 @@ pub fn memory_of_no_bytes(
     assert_eq!(out, [0xAA; 200]);
 }
 
-/// The tests that each call has. Typed are modules and the bytes that are written for them; the first ends with a chunk of two bytes.
-/// Of the modules to cut, every beginning is taken, and the module without each byte, and with one more.
+/// The tests that each call has. `typed` has modules and their expected bytes; the first module ends with a chunk of two bytes. For each
+/// module in `cut`, the tests use every prefix, the module without each byte, and the module with an extra byte.
 #[macro_export]
 macro_rules! tests_of_a_call {
     (
@@ -224,7 +227,7 @@ macro_rules! tests_of_a_call {
         #[test]
         fn outputs_of_every_length_and_alignment() {
             for (module, bytes) in $typed {
-                $crate::writing::writes(bytes, |lent| ($call.library)(module, lent));
+                $crate::writing::writes(bytes, |output| ($call.library)(module, output));
             }
         }
 

@@ -1,13 +1,13 @@
-//! All records of a module at once: libdbm0.a against the reference, and against its own queries. DBM0_CASES and DBM0_SEED say how many
-//! random cases there are, and which. The modules that are as large as they may be stand in large_all_records.rs.
+//! Writing all records of a module at once: libdbm0.a against the reference, and against its own queries. DBM0_CASES is the number of
+//! random cases and DBM0_SEED the first seed. Modules of the maximum length are in large_all_records.rs.
 
 use archive::all_records::RECORDS;
 use archive::modules::{all_values, every_change, file};
 use archive::seeds::for_seeds;
-use reference::generate::{module, Most};
+use reference::generate::{module, Limits};
 use reference::module::check;
 
-/// A song of one entry, no instruments, a pattern of one row, a sample of 32 bits. SONG at 26, PATT at 90, SMPL at 106, PNAM at 130.
+/// A song of one entry, no instruments, a pattern of one row, and a sample of 32 bits. SONG is at 26, PATT at 90, SMPL at 106, PNAM at 130.
 const MODULE: &[u8; 140] = b"DBM0\x03\x21\xDE\xAD\
     INFO\x00\x00\x00\x0A\x00\x00\x00\x01\x00\x01\x00\x01\x00\x06\
     SONG\x00\x00\x00\x30A song of forty-four bytes, all of them used\x00\x01\x00\x00\
@@ -16,7 +16,7 @@ const MODULE: &[u8; 140] = b"DBM0\x03\x21\xDE\xAD\
     SMPL\x00\x00\x00\x10\x00\x00\x00\x04\x00\x00\x00\x02\x01\x02\x03\x04\x05\x06\x07\x08\
     PNAM\x00\x00\x00\x02\x80\x81";
 
-/// Its records: 60 bytes, the song, the rows, the sample.
+/// The records of `MODULE`: 60 bytes, the song, the rows, the sample.
 const SHOWN: &[u8; 116] = b"\x03\x21\
     \0\0\0\0\0\0\0\0\0\0\0\0\0\0\0\0\0\0\0\0\0\0\0\0\0\0\0\0\0\0\0\0\0\0\0\0\0\0\0\0\0\0\0\0\
     \x00\x00\x00\x01\x00\x01\x00\x01\x00\x06\x00\x00\x00\x00\
@@ -34,10 +34,10 @@ archive::tests_of_a_call! {
     damaged modules: 6_000,
 }
 
-/// Many records of all kinds; the reference alone, as the queries would take long.
+/// Many records of all kinds, compared only with the reference, since the queries would take long.
 #[test]
 fn many_records() {
-    let most = Most {
+    let most = Limits {
         songs: 300,
         entries: 200,
         instruments: 255,
@@ -49,7 +49,7 @@ fn many_records() {
         envelopes: 200,
         others: 30,
         other_bytes: 50,
-        ..Most::SMALL
+        ..Limits::SMALL
     };
     for_seeds(60, |random| {
         let module = module(random, &most).bytes();
@@ -58,7 +58,7 @@ fn many_records() {
     });
 }
 
-/// Every length of an output, of modules that have records of all kinds.
+/// Outputs of every length, for modules that have records of all kinds.
 #[test]
 fn every_room() {
     for name in ["carousel.dbm", "old.dbm"] {
@@ -69,7 +69,7 @@ fn every_room() {
     }
 }
 
-/// Every byte of a module of each version, changed to every value.
+/// A module of each version, with each byte changed to every value.
 #[test]
 fn every_change_of_a_byte() {
     for version in [2, 3] {

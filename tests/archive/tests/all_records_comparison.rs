@@ -1,14 +1,14 @@
-//! The comparison of all records at once itself: it finds nothing between the reference and the reference, and it notices each of these
-//! wrong libraries.
+//! Tests of the comparison of all records: it finds no difference between the reference and itself, and it detects each of these wrong
+//! libraries.
 
 use archive::all_records::RECORDS;
-use archive::compare::Lent;
+use archive::compare::GuardedOutput;
 use reference::module::read;
 
 archive::tests_of_the_comparison!(RECORDS);
 
-/// Where the records of each kind begin in the output: songs, instruments, patterns, samples, volume envelopes, panning envelopes, and
-/// the end.
+/// The places in the output at which the records of each kind begin: songs, instruments, patterns, samples, volume envelopes, panning
+/// envelopes, and the end.
 fn begins(module: &[u8]) -> [usize; 7] {
     let read = read(module).expect("an accepted module");
     let songs: usize = read
@@ -31,20 +31,20 @@ fn begins(module: &[u8]) -> [usize; 7] {
     places
 }
 
-/// The summary alone is written.
+/// Only the summary is written.
 #[test]
 fn the_summary_alone() {
-    RECORDS.notices(&|module, lent| {
-        let mut whole = Lent::new(lent.out().len());
+    RECORDS.notices(&|module, output| {
+        let mut whole = GuardedOutput::new(output.slice().len());
         let answer = (RECORDS.reference)(module, &mut whole);
         if answer.number == 0 {
-            lent.out()[..60].copy_from_slice(&whole.out()[..60]);
+            output.slice()[..60].copy_from_slice(&whole.slice()[..60]);
         }
         answer
     });
 }
 
-/// The last byte of the records of each kind, one after the other.
+/// The last byte of the records of each kind is changed in turn.
 #[test]
 fn a_byte_of_each_kind() {
     RECORDS.notices(&RECORDS.changed(|_, out| out[0] ^= 1));
@@ -60,7 +60,7 @@ fn a_byte_of_each_kind() {
     }
 }
 
-/// The envelopes as they are stored: points that are not in use too, and the values of version 2 not scaled.
+/// Envelopes as they are stored: unused points are not cleared, and the values of version 2 are not scaled.
 #[test]
 fn envelopes_as_stored() {
     fn stored(module: &[u8], out: &mut [u8], in_use: bool) {
@@ -78,7 +78,7 @@ fn envelopes_as_stored() {
     RECORDS.notices(&RECORDS.changed(|module, out| stored(module, out, false)));
 }
 
-/// The panning envelopes before the volume envelopes; the patterns before the instruments.
+/// The panning envelopes before the volume envelopes, and the patterns before the instruments.
 #[test]
 fn another_order_of_records() {
     RECORDS.notices(&RECORDS.changed(|module, out| {
@@ -91,7 +91,7 @@ fn another_order_of_records() {
     }));
 }
 
-/// The bytes of a frame in the place of its bits.
+/// The bytes of a frame instead of its bits.
 #[test]
 fn bytes_of_a_frame() {
     RECORDS.notices(&RECORDS.changed(|module, out| {

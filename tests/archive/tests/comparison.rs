@@ -1,12 +1,12 @@
-//! The comparison itself: it finds nothing between the reference and the reference, and it notices each of these wrong libraries.
+//! Tests of the comparison: it finds no difference between the reference and itself, and it detects each of these wrong libraries.
 
-use archive::compare::{self, Lent, Library, REFERENCE};
+use archive::compare::{self, GuardedOutput, Library, REFERENCE};
 use archive::writing::writing;
 use interface::Answer;
 use reference::corpus::{pattern_cases, Case};
 use reference::generate::{cells, Random};
 
-/// How many cases of the corpus differ.
+/// The number of cases of the corpus that differ.
 fn differences(library: Library) -> usize {
     pattern_cases()
         .iter()
@@ -58,9 +58,9 @@ fn another_place() {
 
 #[test]
 fn an_unpacker_that_writes_nothing() {
-    let unpack = |stream: &[u8], rows, tracks, lent: &mut Lent| {
-        let room = lent.out().len();
-        (REFERENCE.unpack)(stream, rows, tracks, &mut Lent::new(room))
+    let unpack = |stream: &[u8], rows, tracks, output: &mut GuardedOutput| {
+        let room = output.slice().len();
+        (REFERENCE.unpack)(stream, rows, tracks, &mut GuardedOutput::new(room))
     };
     assert!(
         differences(Library {
@@ -72,10 +72,10 @@ fn an_unpacker_that_writes_nothing() {
 
 #[test]
 fn an_unpacker_that_fills_row_0_only() {
-    let unpack = |stream: &[u8], rows, tracks: u64, lent: &mut Lent| {
-        let answer = (REFERENCE.unpack)(stream, rows, tracks, lent);
+    let unpack = |stream: &[u8], rows, tracks: u64, output: &mut GuardedOutput| {
+        let answer = (REFERENCE.unpack)(stream, rows, tracks, output);
         if answer.length > 0 {
-            lent.out()[tracks as usize * 6..answer.length as usize].fill(0);
+            output.slice()[tracks as usize * 6..answer.length as usize].fill(0);
         }
         answer
     };
@@ -89,10 +89,10 @@ fn an_unpacker_that_fills_row_0_only() {
 
 #[test]
 fn an_unpacker_that_clears_its_output_first() {
-    let unpack = |stream: &[u8], rows, tracks, lent: &mut Lent| {
-        let answer = (REFERENCE.unpack)(stream, rows, tracks, lent);
+    let unpack = |stream: &[u8], rows, tracks, output: &mut GuardedOutput| {
+        let answer = (REFERENCE.unpack)(stream, rows, tracks, output);
         if answer.number == 15 {
-            lent.out().fill(0);
+            output.slice().fill(0);
         }
         answer
     };
@@ -106,12 +106,12 @@ fn an_unpacker_that_clears_its_output_first() {
 
 #[test]
 fn an_unpacker_that_gives_15_before_17() {
-    let unpack = |stream: &[u8], rows, tracks, lent: &mut Lent| {
+    let unpack = |stream: &[u8], rows, tracks, output: &mut GuardedOutput| {
         let check = (REFERENCE.check)(stream, rows, tracks);
         if check.number != 0 {
             return check;
         }
-        (REFERENCE.unpack)(stream, rows, tracks, lent)
+        (REFERENCE.unpack)(stream, rows, tracks, output)
     };
     assert!(
         differences(Library {
@@ -124,17 +124,17 @@ fn an_unpacker_that_gives_15_before_17() {
 #[test]
 fn a_byte_before_or_past_the_output() {
     for past in [false, true] {
-        let unpack: fn(&[u8], u64, u64, &mut Lent) -> Answer = if past {
-            |stream, rows, tracks, lent| {
-                let answer = (REFERENCE.unpack)(stream, rows, tracks, lent);
-                let end = lent.bytes.len() - 64;
-                lent.bytes[end] ^= 1;
+        let unpack: fn(&[u8], u64, u64, &mut GuardedOutput) -> Answer = if past {
+            |stream, rows, tracks, output| {
+                let answer = (REFERENCE.unpack)(stream, rows, tracks, output);
+                let end = output.bytes.len() - 64;
+                output.bytes[end] ^= 1;
                 answer
             }
         } else {
-            |stream, rows, tracks, lent| {
-                let answer = (REFERENCE.unpack)(stream, rows, tracks, lent);
-                lent.bytes[63] ^= 1;
+            |stream, rows, tracks, output| {
+                let answer = (REFERENCE.unpack)(stream, rows, tracks, output);
+                output.bytes[63] ^= 1;
                 answer
             }
         };
@@ -154,10 +154,10 @@ fn a_byte_before_or_past_the_output() {
 
 #[test]
 fn a_packer_that_clears_the_rest() {
-    let pack = |cells: &[u8], rows, tracks, lent: &mut Lent| {
-        let answer = (REFERENCE.pack)(cells, rows, tracks, lent);
+    let pack = |cells: &[u8], rows, tracks, output: &mut GuardedOutput| {
+        let answer = (REFERENCE.pack)(cells, rows, tracks, output);
         if answer.number == 0 {
-            lent.out()[answer.length as usize..].fill(0);
+            output.slice()[answer.length as usize..].fill(0);
         }
         answer
     };
@@ -166,8 +166,8 @@ fn a_packer_that_clears_the_rest() {
 
 #[test]
 fn a_needed_length_that_is_invented() {
-    let pack = |cells: &[u8], rows, tracks, lent: &mut Lent| {
-        let answer = (REFERENCE.pack)(cells, rows, tracks, lent);
+    let pack = |cells: &[u8], rows, tracks, output: &mut GuardedOutput| {
+        let answer = (REFERENCE.pack)(cells, rows, tracks, output);
         Answer {
             place: if answer.number == 17 {
                 rows * (1 + 8 * tracks)
@@ -184,8 +184,8 @@ fn a_needed_length_that_is_invented() {
 
 #[test]
 fn a_packer_that_names_all_six_fields() {
-    let pack = |cells: &[u8], rows: u64, tracks: u64, lent: &mut Lent| {
-        let answer = (REFERENCE.pack)(cells, rows, tracks, lent);
+    let pack = |cells: &[u8], rows: u64, tracks: u64, output: &mut GuardedOutput| {
+        let answer = (REFERENCE.pack)(cells, rows, tracks, output);
         if answer.number == 16 {
             return answer;
         }
@@ -197,24 +197,24 @@ fn a_packer_that_names_all_six_fields() {
             }
             packed.push(0);
         }
-        writing(&packed, lent)
+        writing(&packed, output)
     };
     let library = Library { pack, ..REFERENCE };
     assert!(differences(library) > 100);
-    // The round trip alone does not see it: that is what the comparison is for.
+    // The round trip alone does not detect it, but the comparison does.
     assert_eq!(compare::round_trip(library, &[0; 24], 1, 4), Ok(()));
 }
 
 #[test]
 fn a_round_trip_that_loses_a_field() {
-    let pack = |cells: &[u8], rows, tracks, lent: &mut Lent| {
+    let pack = |cells: &[u8], rows, tracks, output: &mut GuardedOutput| {
         let mut cells = cells.to_vec();
         cells
             .iter_mut()
             .skip(5)
             .step_by(6)
             .for_each(|field| *field = 0);
-        (REFERENCE.pack)(&cells, rows, tracks, lent)
+        (REFERENCE.pack)(&cells, rows, tracks, output)
     };
     let library = Library { pack, ..REFERENCE };
     assert!(compare::round_trip(library, &[1; 24], 1, 4).is_err());

@@ -1,10 +1,11 @@
-//! All records at once of modules as large as they may be. What is written of them is made by hand too.
+//! All records of modules of the maximum length. The expected bytes are also made by hand.
 
 use archive::all_records::RECORDS;
 use archive::large::{fill_playlists, filled_up, with_last, MOST};
 use reference::draft::{Chunk, Envelope, Instrument, Pattern, Sample, Song, Tune};
 
-/// Version 3.00, no name, and these numbers: instruments, samples, songs, patterns, tracks, volume envelopes, panning envelopes.
+/// The summary: version 3.00, no name, and the numbers of instruments, samples, songs, patterns, tracks, volume envelopes and panning
+/// envelopes.
 fn summary(numbers: [u16; 7]) -> Vec<u8> {
     let mut bytes = vec![3, 0];
     bytes.extend([0; 44]);
@@ -12,7 +13,7 @@ fn summary(numbers: [u16; 7]) -> Vec<u8> {
     bytes
 }
 
-/// 32,767 songs, whose playlists fill the module: the longest have 65,535 entries.
+/// 32,767 songs, whose playlists fill the module. The longest have 65,535 entries.
 #[test]
 fn all_songs() {
     let mut tune = Tune {
@@ -34,8 +35,7 @@ fn all_songs() {
     RECORDS.gives(&module, &records);
 }
 
-/// 65,535 volume envelopes of two points, and as many panning envelopes of all points as fit. Of the first, the points that are not in
-/// use are other than 0.
+/// 65,535 volume envelopes of two points, and as many panning envelopes of 32 points as fit. The unused points of the first are not 0.
 #[test]
 fn all_envelopes() {
     let volume = |number: u16| Envelope {
@@ -85,7 +85,7 @@ fn all_envelopes() {
     RECORDS.gives(&module, &records);
 }
 
-/// In version 2: the stored values 0 to 64 become -128 to 128 in steps of 4.
+/// In version 2 the stored values 0 to 64 are returned as -128 to 128 in steps of 4.
 #[test]
 fn all_envelopes_of_version_2() {
     let envelope = |value: fn(i16) -> i16, number: u16| Envelope {
@@ -114,7 +114,7 @@ fn all_envelopes_of_version_2() {
     RECORDS.gives(&module, &records);
 }
 
-/// 1,024 patterns of packed rows and 255 samples, which fill the module and are hardly shown.
+/// 1,024 patterns of packed rows and 255 samples, which fill the module and have short records.
 #[test]
 fn patterns_and_samples() {
     let row = [[4, 0x3F, 1, 2, 3, 4, 5, 6].repeat(99), vec![0]].concat();
@@ -142,7 +142,7 @@ fn patterns_and_samples() {
     RECORDS.gives(&module, &records);
 }
 
-/// As many chunks as there is room for, all of them empty, before and behind the others.
+/// As many empty chunks as fit, before and after the others.
 #[test]
 fn as_many_chunks_as_fit() {
     let mut draft = Tune::default().draft();

@@ -1,17 +1,17 @@
-//! The queries about modules as large as they may be. What they should show is typed by hand too.
+//! The queries about modules of the maximum length. The expected answers are also typed by hand.
 
 use std::fmt::Debug;
 
 use archive::large::{filled_up, with_last, MOST};
-use archive::queries::{refused, shown, Queries, ARCHIVE, REFERENCE};
+use archive::queries::{refused, success, Queries, ARCHIVE, REFERENCE};
 use archive::writing::writes_around;
-use interface::{Cell, Envelope, Frames, Info, Instrument, Name, Sample, Song, Told};
+use interface::{Cell, Envelope, Frames, Info, Instrument, Name, RecordAnswer, Sample, Song};
 use reference::draft::{self, Tune};
 use reference::records;
 
-/// The archive agrees with the reference, and the answer is this one.
+/// The archive agrees with the reference, and this is the answer.
 #[track_caller]
-fn gives<Record>(query: impl Fn(&Queries) -> Told<Record>, expected: Told<Record>)
+fn gives<Record>(query: impl Fn(&Queries) -> RecordAnswer<Record>, expected: RecordAnswer<Record>)
 where
     Record: PartialEq + Debug,
 {
@@ -19,7 +19,7 @@ where
     assert_eq!(query(&ARCHIVE), expected, "the archive");
 }
 
-fn not_there<Record: Default>() -> Told<Record> {
+fn not_there<Record: Default>() -> RecordAnswer<Record> {
     refused(18, 0)
 }
 
@@ -29,8 +29,8 @@ fn name(text: &[u8]) -> Name {
     name
 }
 
-/// A sample that fills the module: nearly 17 million frames of 8 bits, or as many of 16 or 32 as fit. SMPL stands at 50, its block
-/// at 58, its frames at 66.
+/// A sample that fills the module: nearly 17 million frames of 8 bits, or as many of 16 or 32 bits as fit. SMPL is at 50, its block at 58,
+/// its frames at 66.
 #[test]
 fn a_long_sample() {
     for (width, frames) in [(1, 16_777_150), (2, 8_388_575), (4, 4_194_287)] {
@@ -47,19 +47,19 @@ fn a_long_sample() {
             width: 8 * width as u8,
             frames: frames as u32,
         };
-        gives(|library| (library.sample)(&module, 1), shown(sample));
+        gives(|library| (library.sample)(&module, 1), success(sample));
         let part = Frames {
             offset: 66,
             length: data.len() as u64,
         };
-        gives(|library| (library.frames)(&module, 1), shown(part));
+        gives(|library| (library.frames)(&module, 1), success(part));
         for frame in [0, 1, 65_535, 65_536, frames / 2, frames - 1] {
-            // The upper two bytes, and 0 where there is no second one.
+            // The upper two bytes, or one byte and 0.
             let stored = &data[width * frame..width * (frame + 1)];
             let expected = i16::from_be_bytes([stored[0], *stored.get(1).unwrap_or(&0)]);
             gives(
                 |library| (library.frame)(&module, 1, frame),
-                shown(expected),
+                success(expected),
             );
         }
         for frame in [frames, frames + 1, 1 << 32, usize::MAX] {
@@ -67,13 +67,13 @@ fn a_long_sample() {
         }
         let mut expected = vec![0; 2 * frames];
         records::all_frames(&module, 1, &mut expected).expect("there is room");
-        writes_around(&expected, |lent| {
-            interface::all_frames(&module, 1, lent.out())
+        writes_around(&expected, |output| {
+            interface::all_frames(&module, 1, output.slice())
         });
     }
 }
 
-/// 32,767 songs; the last of them has as many entries as a song can have.
+/// 32,767 songs. The last has the maximum number of entries.
 #[test]
 fn all_songs() {
     let mut tune = Tune {
@@ -96,27 +96,27 @@ fn all_songs() {
         (32_766, song(b"last", 65_535)),
     ];
     for (number, expected) in expected {
-        gives(|library| (library.song)(&module, number), shown(expected));
+        gives(|library| (library.song)(&module, number), success(expected));
     }
     gives(|library| (library.song)(&module, 32_767), not_there());
     let entry = |song, entry, expected| {
         gives(|library| (library.entry)(&module, song, entry), expected);
     };
-    entry(32_766, 0, shown(0));
-    entry(32_766, 1_023, shown(1_023));
-    entry(32_766, 65_534, shown(1_022));
+    entry(32_766, 0, success(0));
+    entry(32_766, 1_023, success(1_023));
+    entry(32_766, 65_534, success(1_022));
     entry(32_766, 65_535, not_there());
     entry(32_765, 0, not_there());
     let bytes: Vec<u8> = playlist
         .iter()
         .flat_map(|entry| entry.to_be_bytes())
         .collect();
-    writes_around(&bytes, |lent| {
-        interface::playlist(&module, 32_766, lent.out())
+    writes_around(&bytes, |output| {
+        interface::playlist(&module, 32_766, output.slice())
     });
 }
 
-/// 1,024 patterns of 254 tracks; every field is another in each.
+/// 1,024 patterns of 254 tracks, each with different fields.
 #[test]
 fn all_patterns() {
     let cells = |pattern: usize| -> Vec<u8> {
@@ -142,9 +142,9 @@ fn all_patterns() {
     };
     let module = filled_up(with_last(&tune, b"PATT"), MOST);
     for pattern in [0, 1, 255, 256, 1_023] {
-        gives(|library| (library.rows)(&module, pattern), shown(1));
-        writes_around(&cells(pattern), |lent| {
-            interface::cells(&module, pattern, lent.out())
+        gives(|library| (library.rows)(&module, pattern), success(1));
+        writes_around(&cells(pattern), |output| {
+            interface::cells(&module, pattern, output.slice())
         });
     }
     gives(|library| (library.rows)(&module, 1_024), not_there());
@@ -161,7 +161,7 @@ fn all_patterns() {
     };
     gives(
         |library| (library.cell)(&module, 1_023, 0, 254),
-        shown(last),
+        success(last),
     );
     gives(
         |library| (library.cell)(&module, 1_023, 0, 255),
@@ -187,7 +187,7 @@ fn a_long_pattern() {
         ..Tune::default()
     };
     let module = filled_up(with_last(&tune, b"PATT"), MOST);
-    gives(|library| (library.rows)(&module, 0), shown(65_535));
+    gives(|library| (library.rows)(&module, 0), success(65_535));
     let first = Cell {
         kind: 2,
         octave: 8,
@@ -199,14 +199,14 @@ fn a_long_pattern() {
         instrument: 7,
         ..Cell::default()
     };
-    gives(|library| (library.cell)(&module, 0, 0, 254), shown(first));
+    gives(|library| (library.cell)(&module, 0, 0, 254), success(first));
     gives(
         |library| (library.cell)(&module, 0, 65_534, 254),
-        shown(last),
+        success(last),
     );
     gives(
         |library| (library.cell)(&module, 0, 65_533, 254),
-        shown(Cell::default()),
+        success(Cell::default()),
     );
     gives(
         |library| (library.cell)(&module, 0, 65_535, 254),
@@ -217,7 +217,9 @@ fn a_long_pattern() {
     expected[253 * 6 + 5] = 0xFF;
     expected[CELLS - 254 * 6] = 0x10;
     expected[CELLS - 5] = 7;
-    writes_around(&expected, |lent| interface::cells(&module, 0, lent.out()));
+    writes_around(&expected, |output| {
+        interface::cells(&module, 0, output.slice())
+    });
 }
 
 /// 255 instruments and 255 samples.
@@ -254,7 +256,7 @@ fn all_instruments_and_samples() {
         tracks: 4,
         ..Info::default()
     };
-    gives(|library| (library.info)(&module), shown(info));
+    gives(|library| (library.info)(&module), success(info));
     let mut end = MOST;
     for number in (1..=COUNT).rev() {
         let instrument = Instrument {
@@ -269,14 +271,14 @@ fn all_instruments_and_samples() {
         };
         gives(
             |library| (library.instrument)(&module, number),
-            shown(instrument),
+            success(instrument),
         );
         let length = frames(number) * width(number);
         let part = Frames {
             offset: (end - length) as u64,
             length: length as u64,
         };
-        gives(|library| (library.frames)(&module, number), shown(part));
+        gives(|library| (library.frames)(&module, number), success(part));
         let expected = i16::from_be_bytes([number as u8; 2]);
         let expected = if width(number) == 1 {
             expected & -256
@@ -285,7 +287,7 @@ fn all_instruments_and_samples() {
         };
         gives(
             |library| (library.frame)(&module, number, frames(number) - 1),
-            shown(expected),
+            success(expected),
         );
         end -= length + 8;
     }
@@ -295,7 +297,7 @@ fn all_instruments_and_samples() {
     }
 }
 
-/// 65,535 volume envelopes, and as many panning envelopes as there is room for beside them.
+/// 65,535 volume envelopes, and as many panning envelopes as fit beside them.
 #[test]
 fn all_envelopes() {
     let volume = |number: u16| draft::Envelope {
@@ -317,10 +319,13 @@ fn all_envelopes() {
         ..Tune::default()
     };
     let module = filled_up(tune.draft(), MOST);
-    gives(|library| (library.volume_envelopes)(&module), shown(65_535));
+    gives(
+        |library| (library.volume_envelopes)(&module),
+        success(65_535),
+    );
     gives(
         |library| (library.panning_envelopes)(&module),
-        shown(57_000),
+        success(57_000),
     );
     for number in [0, 255, 256, 32_768, 65_534] {
         let mut expected = Envelope {
@@ -331,11 +336,11 @@ fn all_envelopes() {
         expected.values[0] = 64;
         gives(
             |library| (library.volume_envelope)(&module, number),
-            shown(expected),
+            success(expected),
         );
     }
     for number in [0, 255, 256, 32_768, 56_999] {
-        // 32 to 63 are shown as 0 to 124.
+        // 32 to 63 are returned as 0 to 124.
         let mut values = [0; 32];
         for (value, point) in values.iter_mut().zip(0..) {
             *value = 4 * point;
@@ -349,7 +354,7 @@ fn all_envelopes() {
         };
         gives(
             |library| (library.panning_envelope)(&module, number),
-            shown(expected),
+            success(expected),
         );
     }
     gives(
@@ -362,11 +367,11 @@ fn all_envelopes() {
     );
 }
 
-/// One byte more than a module may have.
+/// One byte more than the maximum length of a module.
 #[test]
 fn one_byte_too_many() {
     let mut module = filled_up(Tune::default().draft(), MOST);
-    gives(|library| (library.name)(&module), shown(Name::default()));
+    gives(|library| (library.name)(&module), success(Name::default()));
     module.push(0);
     gives(|library| (library.name)(&module), refused(1, 0));
     gives(|library| (library.song)(&module, 0), refused(1, 0));

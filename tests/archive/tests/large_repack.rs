@@ -1,11 +1,11 @@
-//! Modules as large as they may be, repacked. What becomes of them is typed by hand too.
+//! Repacking modules of the maximum length. The expected modules are also typed by hand.
 
 use archive::large::{filled_up, with_last, MOST};
 use archive::repacking::REPACK;
 use reference::draft::{Chunk, Draft, Pattern, Sample, Tune};
 use reference::generate::Random;
 
-/// The module becomes this one, which becomes itself and shows the same.
+/// The module is repacked to this one, which repacks to itself and returns the same answers.
 #[track_caller]
 fn becomes(module: &[u8], expected: &[u8]) {
     REPACK.gives(module, expected);
@@ -27,8 +27,8 @@ fn row(tracks: impl Iterator<Item = u8>) -> Vec<u8> {
         .collect()
 }
 
-/// 1,024 patterns of 8 rows of 254 full tracks, which descend: the same length, and other bytes. A chunk before all others fills the
-/// module, and one of a few bytes stands behind PATT.
+/// 1,024 patterns of 8 rows of 254 full tracks in descending order: the result has the same length and other bytes. A chunk before all
+/// others fills the module, and one of a few bytes follows PATT.
 #[test]
 fn all_patterns() {
     let of_rows = |row: &[u8]| vec![Pattern::new(8, &row.repeat(8)); 1_024];
@@ -44,8 +44,8 @@ fn all_patterns() {
     becomes(&module, &filled_up(packed, MOST));
 }
 
-/// One pattern of 65,535 rows whose stream has over 16 million bytes. In each row an entry is there 31 times, the last one counts, and
-/// the first row begins with some thousands of entries that name nothing. Of each row 8 bytes and the row end stay.
+/// One pattern of 65,535 rows whose stream has over 16 million bytes. Each row has 31 entries for the same track, of which the last is
+/// effective. The first row begins with some thousands of entries without fields. Each row is repacked to 8 bytes and the row end.
 #[test]
 fn a_long_pattern() {
     const ROWS: usize = 65_535;
@@ -77,7 +77,7 @@ fn a_long_pattern() {
     becomes(&module, &tune.bytes());
 }
 
-/// Few bytes of PATT, and some 8 million before and behind it, which move by two.
+/// A short PATT, with about 8 million bytes before it and after it, which move by two.
 #[test]
 fn long_chunks_around_patt() {
     let data: Vec<u8> = (0..8_000_000)

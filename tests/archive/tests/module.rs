@@ -1,5 +1,5 @@
-//! libdbm0.a against the reference. DBM0_CASES and DBM0_SEED say how many random cases there are, and which. The modules that are
-//! as large as they may be stand in large/mod.rs.
+//! libdbm0.a against the reference. DBM0_CASES is the number of random cases and DBM0_SEED the first seed. Modules of the maximum length
+//! are in large/mod.rs.
 
 mod large;
 
@@ -31,7 +31,7 @@ fn accepted(module: &[u8]) -> Result<(), String> {
     }
 }
 
-/// All eight covered chunks and two others, each list with two blocks or more.
+/// All eight covered chunks and two others. Each list has at least two blocks.
 fn everything() -> Draft {
     let song = |name: &[u8], playlist: &[u16]| Song {
         name: name.to_vec(),
@@ -91,7 +91,7 @@ fn everything() -> Draft {
     draft
 }
 
-/// Every list has one block, and the envelopes one section.
+/// Every list has one block, and the envelopes have one section.
 fn small(version: u8, sample: Sample) -> Vec<u8> {
     let envelope = |points: [(u16, i16); 2]| Envelope {
         instrument: 1,
@@ -158,7 +158,7 @@ fn damaged_bytes() {
     modules::damaged_bytes(agrees, 50_000, 10);
 }
 
-/// Chunks in any order and number, most of them as they should be where all counts are 0.
+/// Chunks in any order and number. Limits are valid if all counts are 0.
 #[test]
 fn heaps_of_chunks() {
     const OTHER: [Name; 4] = [*b"DSPE", *b"AAAA", *b"ZZZZ", *b"IN O"];
@@ -198,7 +198,7 @@ fn any_bytes() {
     modules::any_bytes(agrees, 20_000);
 }
 
-/// Every beginning of a module with all chunks, in two orders of the chunks; and the module without each byte, and with one more.
+/// Every prefix of a module with all chunks, in two orders of the chunks; the module without each byte, and with an extra byte.
 #[test]
 fn every_cut() {
     let reversed = everything().ordered(&[
@@ -211,7 +211,7 @@ fn every_cut() {
     }
 }
 
-/// Every byte of a small module of each version, changed to every value.
+/// A small module of each version, with each byte changed to every value.
 #[test]
 fn every_change_of_a_byte() {
     for version in [2, 3] {
@@ -221,7 +221,7 @@ fn every_change_of_a_byte() {
     }
 }
 
-/// The four bytes from every place on, as a number that is moved by so much that a sum or product of 32 bits would wrap.
+/// The four bytes at every place, as a number increased so far that a sum or product of 32 bits would wrap.
 #[test]
 fn wild_numbers() {
     for width in [1, 2, 4] {
@@ -243,7 +243,7 @@ fn wild_numbers() {
     }
 }
 
-/// Every loop from a list of starts and lengths, on samples of few frames and on none.
+/// Every loop from a list of starts and lengths, on samples of few frames and of none.
 #[test]
 fn every_loop() {
     const HALF: u32 = 1 << 31;
@@ -275,7 +275,7 @@ fn every_loop() {
     }
 }
 
-/// INST stands behind INFO and an empty SONG: 8 + 18 + 8, and its first block 8 further.
+/// INST follows INFO and an empty SONG at 8 + 18 + 8. Its first block is 8 bytes further.
 fn one_loop(module: &[u8], is_sound: bool) {
     let expected = if is_sound {
         ACCEPTED
@@ -289,7 +289,7 @@ fn one_loop(module: &[u8], is_sound: bool) {
     compare::module(ARCHIVE, module).unwrap();
 }
 
-/// Every number of two bytes that may stand in the fields of INFO, with all counts 0 and no blocks.
+/// Every two-byte number in the fields of INFO, with all counts 0 and no blocks.
 #[test]
 fn every_number_of_info() {
     let mut module = Tune::default().bytes();
@@ -313,7 +313,7 @@ fn no_bytes() {
     assert_eq!(interface::check_module(&[]), refused);
 }
 
-/// The module may stand anywhere, and what stands before and behind it does not count.
+/// The module can be at any address, and the bytes before and after it have no effect.
 #[test]
 fn modules_at_every_alignment() {
     modules::at_every_alignment(&everything().bytes(), |module, _| {

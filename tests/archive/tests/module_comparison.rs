@@ -1,5 +1,4 @@
-//! The comparison of modules itself: it finds nothing between the reference and the reference, and it notices each of these wrong
-//! checks.
+//! Tests of the comparison of modules: it finds no difference between the reference and itself, and it detects each of these wrong checks.
 
 use archive::compare::{self, Library, REFERENCE};
 use interface::ModuleAnswer;
@@ -12,7 +11,7 @@ const ACCEPTED: ModuleAnswer = ModuleAnswer {
     place: 0,
 };
 
-/// How many modules of the corpus differ.
+/// The number of modules of the corpus that differ.
 fn differences(check_module: fn(&[u8]) -> ModuleAnswer) -> usize {
     let library = Library {
         check_module,
@@ -47,7 +46,7 @@ fn a_check_that_refuses_everything() {
     assert!(differences(refused) > 300);
 }
 
-/// Every number counts: without it, with its neighbour, and with another place.
+/// Every number is covered: without it, replaced by its neighbour, and with another place.
 #[test]
 fn one_number_given_wrongly() {
     fn forgets<const NUMBER: u64>(module: &[u8]) -> ModuleAnswer {
@@ -103,7 +102,7 @@ fn a_place_without_a_refusal() {
     assert!(differences(check_module) > 50);
 }
 
-/// It is told apart from a place that is only another one.
+/// The message differs from that of a place which is only another one.
 #[test]
 fn a_place_past_the_end() {
     let library = Library {
@@ -126,7 +125,7 @@ fn a_check_that_looks_at_no_block() {
     assert!(differences(check_module) > 100);
 }
 
-/// The loop's start and length, at 38 and 42 of the instrument's block, added at 32 bits.
+/// The loop's start and length, at 38 and 42 of the instrument's block, added with 32 bits.
 #[test]
 fn a_check_that_adds_at_32_bits() {
     let check_module = |module: &[u8]| {
@@ -145,7 +144,7 @@ fn a_check_that_adds_at_32_bits() {
     assert!(differences(check_module) >= 1);
 }
 
-/// The word behind the revision is not examined.
+/// The word after the revision is not examined.
 #[test]
 fn a_check_that_examines_the_reserved_word() {
     let check_module = |module: &[u8]| {
@@ -161,7 +160,7 @@ fn a_check_that_examines_the_reserved_word() {
     assert!(differences(check_module) >= 1);
 }
 
-/// A limit that is one byte off shows at just that length.
+/// A limit that is wrong by one byte is detected at exactly that length.
 #[test]
 fn another_limit() {
     let mut draft = Tune::default().draft();

@@ -1,4 +1,4 @@
-//! libpattern.a against the reference. DBM0_CASES and DBM0_SEED say how many random cases there are, and which.
+//! libpattern.a against the reference. DBM0_CASES is the number of random cases and DBM0_SEED the first seed.
 
 use archive::compare::{self, answer, ARCHIVE, REFERENCE};
 use archive::seeds::for_seeds;
@@ -7,7 +7,7 @@ use reference::corpus::{pattern_cases, Case};
 use reference::generate::{bytes, cells, damaged, likely_bytes, sound_stream, Random};
 use reference::pattern::{check, pack, repack, unpack};
 
-/// Rows and tracks, mostly small ones.
+/// Rows and tracks, mostly small numbers.
 fn shape(random: &mut Random) -> (u64, u64) {
     let rows = if random.chance(5) {
         random.below(300)
@@ -22,7 +22,7 @@ fn shape(random: &mut Random) -> (u64, u64) {
     (rows, tracks)
 }
 
-/// Room around what is needed: mostly just enough, and little less or more.
+/// An output length near the needed one: mostly exactly enough, sometimes a little less or more.
 fn room(random: &mut Random, needed: u64) -> usize {
     let room = match random.below(8) {
         0 => needed.saturating_sub(1),
@@ -35,8 +35,8 @@ fn room(random: &mut Random, needed: u64) -> usize {
     room as usize
 }
 
-/// Rows and tracks as they are asked for: now and then other ones than the stream's.
-fn asked(random: &mut Random, rows: u64, tracks: u64) -> (u64, u64) {
+/// The rows and tracks to pass. Sometimes they differ from those of the stream.
+fn passed_shape(random: &mut Random, rows: u64, tracks: u64) -> (u64, u64) {
     match random.below(20) {
         0 => (rows + 1, tracks),
         1 => (rows.saturating_sub(1), tracks),
@@ -49,7 +49,7 @@ fn asked(random: &mut Random, rows: u64, tracks: u64) -> (u64, u64) {
     }
 }
 
-/// What the cells need, where that is a length to make; else a small one.
+/// The length of the cells if that is not too long to allocate, else a small length.
 fn needed(rows: u64, tracks: u64) -> u64 {
     let bytes = rows
         .checked_mul(tracks)
@@ -63,12 +63,12 @@ fn compare_stream(
     rows: u64,
     tracks: u64,
 ) -> Result<(), String> {
-    let (rows, tracks) = asked(random, rows, tracks);
+    let (rows, tracks) = passed_shape(random, rows, tracks);
     let room = room(random, needed(rows, tracks));
     compare::stream(ARCHIVE, stream, rows, tracks, room)
 }
 
-/// Each case with its own room, and streams also with just enough.
+/// Each case with its own output length, and streams also with exactly the needed length.
 #[test]
 fn the_corpus() {
     let cases = pattern_cases();
@@ -132,7 +132,7 @@ fn random_bytes() {
         };
         let tracks = 4 + 2 * random.below(126);
         let tracks = random.pick(&[4, 4, tracks, 254]);
-        // The rows with which the bytes are a sound stream, if they are one.
+        // The number of rows for which the bytes are a valid stream, if there is one.
         let sound = (0..=length).find(|&rows| check(&stream, rows, tracks).is_ok());
         let rows = sound.unwrap_or(random.below(12));
         compare_stream(random, &stream, rows, tracks)
@@ -151,14 +151,14 @@ fn random_cells() {
         compare::round_trip(ARCHIVE, &cells, rows, tracks)?;
         let length = answer(pack(&cells, rows, tracks, &mut [])).place;
         let room = room(random, length);
-        // Now and then the cells are too few or too many.
+        // Sometimes there are too few or too many cells.
         match random.below(12) {
             0 => drop(cells.pop()),
             1 => cells.push(random.byte()),
             2 => cells.truncate(random.below(cells.len() as u64 + 1) as usize),
             _ => (),
         }
-        let (rows, tracks) = asked(random, rows, tracks);
+        let (rows, tracks) = passed_shape(random, rows, tracks);
         compare::cells(ARCHIVE, &cells, rows, tracks, room)
     });
 }
@@ -177,7 +177,7 @@ fn cells_with_one_or_two_bytes() {
     }
 }
 
-/// Every pair of a track and a mask byte, before a row end and before nothing.
+/// Every pair of a track and a mask byte, before a row end and at the end of the stream.
 #[test]
 fn every_track_and_mask() {
     for track in 0..=255 {
@@ -194,7 +194,7 @@ fn every_track_and_mask() {
     }
 }
 
-/// 65,535 rows of 254 tracks, about 100 MB of cells, some of them filled.
+/// 65,535 rows of 254 tracks, about 100 MB of cells, some of them not empty.
 #[test]
 fn the_largest_pattern() {
     const ROWS: u64 = 65_535;
@@ -211,8 +211,8 @@ fn the_largest_pattern() {
 
     let needed = answer(pack(&cells, ROWS, TRACKS, &mut [])).place as usize;
     let (mut expected, mut is) = (vec![0xAA; needed + 1], vec![0xAA; needed + 1]);
-    let told = answer(pack(&cells, ROWS, TRACKS, &mut expected));
-    assert_eq!(told.length as usize, needed);
+    let expected_answer = answer(pack(&cells, ROWS, TRACKS, &mut expected));
+    assert_eq!(expected_answer.length as usize, needed);
     assert_eq!(
         interface::pack_pattern(&cells, ROWS, TRACKS, &mut is[..needed - 1]),
         answer(pack(&cells, ROWS, TRACKS, &mut [])),
@@ -221,7 +221,10 @@ fn the_largest_pattern() {
         is.iter().all(|&byte| byte == 0xAA),
         "a refusal changes the output"
     );
-    assert_eq!(interface::pack_pattern(&cells, ROWS, TRACKS, &mut is), told);
+    assert_eq!(
+        interface::pack_pattern(&cells, ROWS, TRACKS, &mut is),
+        expected_answer
+    );
     assert!(is == expected, "the packed streams differ");
     let short = &cells[..CELLS - 1];
     assert_eq!(
@@ -246,7 +249,7 @@ fn the_largest_pattern() {
             17
         );
     }
-    // Without its last byte, row ends lack: told at the length. With one more, that one is left over.
+    // Without its last byte a row end is missing, which is reported at the length. With an extra byte, that byte is left over.
     for (stream, place) in [(&stream[..needed - 1], needed - 1), (&left_over, needed)] {
         let is = interface::unpack_pattern(stream, ROWS, TRACKS, &mut out);
         assert_eq!((is.number, is.place as usize, is.length), (15, place, 0));
@@ -295,10 +298,10 @@ fn outputs_of_every_length_and_alignment() {
     let stream = [1, 0x3F, 1, 2, 3, 4, 5, 6, 4, 0x21, 7, 8, 0, 2, 0x02, 9, 0];
     let mut cells = [0; 48];
     unpack(&stream, 2, 4, &mut cells).unwrap();
-    writes(&cells, |lent| {
-        interface::unpack_pattern(&stream, 2, 4, lent.out())
+    writes(&cells, |output| {
+        interface::unpack_pattern(&stream, 2, 4, output.slice())
     });
-    writes(&stream, |lent| {
-        interface::pack_pattern(&cells, 2, 4, lent.out())
+    writes(&stream, |output| {
+        interface::pack_pattern(&cells, 2, 4, output.slice())
     });
 }

@@ -1,5 +1,5 @@
-//! The queries of libdbm0.a against the reference. DBM0_CASES and DBM0_SEED say how many random cases there are, and which. The
-//! modules that are as large as they may be stand in large_records.rs.
+//! The queries of libdbm0.a against the reference. DBM0_CASES is the number of random cases and DBM0_SEED the first seed. Modules of the
+//! maximum length are in large_records.rs.
 
 use archive::modules::{self, at_every_alignment, every_change, file};
 use archive::queries::ARCHIVE;
@@ -38,7 +38,7 @@ fn damaged_bytes() {
     modules::damaged_bytes(agrees, 4_000, 2);
 }
 
-/// Every beginning of a module.
+/// Every prefix of a module.
 #[test]
 fn every_cut() {
     let module = file("old.dbm");
@@ -47,7 +47,7 @@ fn every_cut() {
     }
 }
 
-/// Every byte of a module of each version, changed: it shows where it should, and nowhere else.
+/// A module of each version, with each byte changed: the change is visible where it should be, and nowhere else.
 #[test]
 fn every_change_of_a_byte() {
     for version in [2, 3] {
@@ -65,18 +65,20 @@ fn modules_at_every_alignment() {
 #[test]
 fn outputs_of_every_length_and_alignment() {
     let module = file("carousel.dbm");
-    writes(&[0, 0, 0, 1, 0, 0, 0, 2], |lent| {
-        interface::playlist(&module, 0, lent.out())
+    writes(&[0, 0, 0, 1, 0, 0, 0, 2], |output| {
+        interface::playlist(&module, 0, output.slice())
     });
     // 6 rows of 4 tracks.
     let mut bytes = [0; 144];
     records::unpack(&module, 2, &mut bytes).expect("it is there");
-    writes(&bytes, |lent| interface::cells(&module, 2, lent.out()));
+    writes(&bytes, |output| {
+        interface::cells(&module, 2, output.slice())
+    });
     for (sample, frames) in [(1, 48), (2, 64), (3, 24)] {
         let mut bytes = vec![0; 2 * frames];
         records::all_frames(&module, sample, &mut bytes).expect("it is there");
-        writes(&bytes, |lent| {
-            interface::all_frames(&module, sample as usize, lent.out())
+        writes(&bytes, |output| {
+            interface::all_frames(&module, sample as usize, output.slice())
         });
     }
 }

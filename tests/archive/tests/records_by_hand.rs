@@ -1,19 +1,19 @@
-//! The queries of libdbm0.a: what they should show is typed by hand.
+//! The queries of libdbm0.a, compared with answers typed by hand.
 
 use std::mem::{offset_of, size_of};
 
-use archive::queries::{refused, shown};
+use archive::queries::{refused, success};
 use interface::{
-    Answer, Cell, Envelope, Frames, Info, Instrument, Name, Sample, Song, Told, Version,
+    Answer, Cell, Envelope, Frames, Info, Instrument, Name, RecordAnswer, Sample, Song, Version,
 };
 use reference::draft::{self, Tune};
 
-/// The answer for what is not there.
-fn not_there<Record: Default>() -> Told<Record> {
+/// The answer for an item that does not exist.
+fn not_there<Record: Default>() -> RecordAnswer<Record> {
     refused(18, 0)
 }
 
-/// A name with zeros behind it.
+/// A name padded with zeros.
 fn padded<const LENGTH: usize>(text: &[u8]) -> [u8; LENGTH] {
     let mut name = [0; LENGTH];
     name[..text.len()].copy_from_slice(text);
@@ -26,7 +26,7 @@ fn numbers(list: &[u16]) -> Vec<u8> {
         .collect()
 }
 
-/// An envelope with these points at the front and $FFFF in all others.
+/// An envelope that begins with these points. All other points have $FFFF.
 fn envelope(points: &[(u16, i16)]) -> draft::Envelope {
     let mut all = points.to_vec();
     all.resize(32, (0xFFFF, -1));
@@ -38,7 +38,7 @@ fn envelope(points: &[(u16, i16)]) -> draft::Envelope {
     }
 }
 
-/// The points that an envelope shows: positions and values, and zeros behind them.
+/// The points in an answer: positions and values, followed by zeros.
 fn points(points: &[(u16, i32)]) -> ([u16; 32], [i32; 32]) {
     let (mut positions, mut values) = ([0; 32], [0; 32]);
     for (index, &(position, value)) in points.iter().enumerate() {
@@ -48,9 +48,9 @@ fn points(points: &[(u16, i32)]) -> ([u16; 32], [i32; 32]) {
     (positions, values)
 }
 
-fn shown_points(told: Told<Envelope>) -> ([u16; 32], [i32; 32]) {
-    assert_eq!((told.number, told.place), (0, 0));
-    (told.record.positions, told.record.values)
+fn shown_points(answer: RecordAnswer<Envelope>) -> ([u16; 32], [i32; 32]) {
+    assert_eq!((answer.number, answer.place), (0, 0));
+    (answer.record.positions, answer.record.values)
 }
 
 /// A module with one sample.
@@ -72,10 +72,10 @@ fn all_frames(module: &[u8]) -> Vec<i16> {
     out.chunks(2).map(frame).collect()
 }
 
-/// Two of each thing, or three.
+/// Two or three of each item.
 ///
-/// NAME stands at 8, INFO at 60 with the tracks at 76, VENV at 78, SONG at 360 with the first entry at 414, INST at 466 with its first
-/// block at 474, PATT at 574 with its first block at 582. SMPL stands last, and its frames end the module.
+/// NAME is at 8, INFO at 60 with the tracks at 76, VENV at 78, SONG at 360 with the first entry at 414, INST at 466 with its first block at
+/// 474, PATT at 574 with its first block at 582. SMPL is last, and its frames end the module.
 fn tune(version: u8) -> Tune {
     Tune {
         version,
@@ -116,7 +116,7 @@ fn tune(version: u8) -> Tune {
             },
         ],
         patterns: vec![
-            // Row 0: track 6 in full, track 2 in two entries. Row 1: an unknown note, and the second command. A filler follows.
+            // Row 0: track 6 with all fields, track 2 in two entries. Row 1: an unknown note, and the second command. A filler follows.
             draft::Pattern {
                 rows: 2,
                 stream: vec![
@@ -142,7 +142,7 @@ fn tune(version: u8) -> Tune {
                 second_sustain: 1,
                 ..envelope(&[(0, 64), (0x1234, 0)])
             },
-            // Without their bits the four numbers may be anything.
+            // If their bits are not set, the four numbers can have any value.
             draft::Envelope {
                 instrument: 2,
                 flags: 1,
@@ -164,10 +164,10 @@ fn header_name_and_info() {
         let revision = 0x21;
         assert_eq!(
             interface::version(&module),
-            shown(Version { version, revision })
+            success(Version { version, revision })
         );
         let name = Name(padded(b"\xFFA name\x00and more \x80"));
-        assert_eq!(interface::name(&module), shown(name));
+        assert_eq!(interface::name(&module), success(name));
         let info = Info {
             instruments: 2,
             samples: 3,
@@ -175,14 +175,14 @@ fn header_name_and_info() {
             patterns: 3,
             tracks: 6,
         };
-        assert_eq!(interface::info(&module), shown(info));
+        assert_eq!(interface::info(&module), success(info));
     }
 }
 
 #[test]
 fn a_missing_name() {
     let module = Tune::default().bytes();
-    assert_eq!(interface::name(&module), shown(Name([0; 44])));
+    assert_eq!(interface::name(&module), success(Name([0; 44])));
 }
 
 #[test]
@@ -196,13 +196,13 @@ fn songs_from_0() {
         name: Name([0xFE; 44]),
         length: 0,
     };
-    assert_eq!(interface::song(&module, 0), shown(first));
-    assert_eq!(interface::song(&module, 1), shown(second));
+    assert_eq!(interface::song(&module, 0), success(first));
+    assert_eq!(interface::song(&module, 1), success(second));
     assert_eq!(interface::song(&module, 2), not_there());
     let entry = |song, entry| interface::entry(&module, song, entry);
     assert_eq!(
         [entry(0, 0), entry(0, 1), entry(0, 2)],
-        [shown(1), shown(0), shown(1)]
+        [success(1), success(0), success(1)]
     );
     assert_eq!([entry(0, 3), entry(1, 0), entry(2, 0)], [not_there(); 3]);
     let mut out = [0xAA; 8];
@@ -237,8 +237,8 @@ fn instruments_from_1() {
             loop_length: 0xFEDC_BA98,
         };
         assert_eq!(interface::instrument(&module, 0), not_there());
-        assert_eq!(interface::instrument(&module, 1), shown(first));
-        assert_eq!(interface::instrument(&module, 2), shown(second));
+        assert_eq!(interface::instrument(&module, 1), success(first));
+        assert_eq!(interface::instrument(&module, 2), success(second));
         assert_eq!(interface::instrument(&module, 3), not_there());
     }
 }
@@ -255,8 +255,8 @@ fn every_panning_of_an_instrument() {
                 }],
                 ..Tune::default()
             };
-            let told = interface::instrument(&module.bytes(), 1);
-            assert_eq!((told.number, told.record.panning), (0, panning));
+            let answer = interface::instrument(&module.bytes(), 1);
+            assert_eq!((answer.number, answer.record.panning), (0, panning));
         }
     }
 }
@@ -289,17 +289,17 @@ fn volume_envelopes_from_0() {
             positions,
             values,
         };
-        assert_eq!(interface::volume_envelopes(&module), shown(2));
-        assert_eq!(interface::volume_envelope(&module, 0), shown(first));
-        assert_eq!(interface::volume_envelope(&module, 1), shown(second));
+        assert_eq!(interface::volume_envelopes(&module), success(2));
+        assert_eq!(interface::volume_envelope(&module, 0), success(first));
+        assert_eq!(interface::volume_envelope(&module, 1), success(second));
         assert_eq!(interface::volume_envelope(&module, 2), not_there());
         // There is no PENV.
-        assert_eq!(interface::panning_envelopes(&module), shown(0));
+        assert_eq!(interface::panning_envelopes(&module), success(0));
         assert_eq!(interface::panning_envelope(&module, 0), not_there());
     }
 }
 
-/// P11: in version 2 a stored v is shown as 4v - 128, and a point that is not in use as 0, whatever it holds.
+/// P11: in version 2 a stored v is returned as 4v - 128. A point that is not in use is returned as 0.
 #[test]
 fn panning_of_both_versions() {
     let panning = |version, stored: &[(u16, i16)]| {
@@ -330,7 +330,7 @@ fn panning_of_both_versions() {
     }
 }
 
-/// The values of volume are not scaled.
+/// Volume values are not scaled.
 #[test]
 fn every_volume_of_a_point() {
     for version in [2, 3] {
@@ -351,7 +351,7 @@ fn every_volume_of_a_point() {
     }
 }
 
-/// How many points are shown: one more than there are sections.
+/// The number of points: one more than the number of sections.
 #[test]
 fn every_number_of_sections() {
     for sections in 0..32 {
@@ -377,9 +377,9 @@ fn every_number_of_sections() {
 #[test]
 fn patterns_and_rows_from_0_tracks_from_1() {
     let module = tune(3).bytes();
-    assert_eq!(interface::rows(&module, 0), shown(2));
-    assert_eq!(interface::rows(&module, 1), shown(0));
-    assert_eq!(interface::rows(&module, 2), shown(1));
+    assert_eq!(interface::rows(&module, 0), success(2));
+    assert_eq!(interface::rows(&module, 1), success(0));
+    assert_eq!(interface::rows(&module, 2), success(1));
     assert_eq!(interface::rows(&module, 3), not_there());
     let cell = |pattern, row, track| interface::cell(&module, pattern, row, track);
     let key_off = Cell {
@@ -405,11 +405,11 @@ fn patterns_and_rows_from_0_tracks_from_1() {
         parameter2: 77,
         ..Cell::default()
     };
-    assert_eq!(cell(0, 0, 6), shown(key_off));
-    assert_eq!(cell(0, 0, 2), shown(pitch));
-    assert_eq!(cell(0, 1, 1), shown(unknown));
-    assert_eq!(cell(0, 0, 1), shown(Cell::default()));
-    assert_eq!(cell(0, 1, 6), shown(Cell::default()));
+    assert_eq!(cell(0, 0, 6), success(key_off));
+    assert_eq!(cell(0, 0, 2), success(pitch));
+    assert_eq!(cell(0, 1, 1), success(unknown));
+    assert_eq!(cell(0, 0, 1), success(Cell::default()));
+    assert_eq!(cell(0, 1, 6), success(Cell::default()));
     let outside = [
         (0, 0, 0),
         (0, 0, 7),
@@ -460,11 +460,11 @@ fn every_note() {
                 ..Cell::default()
             },
         };
-        assert_eq!(interface::cell(&tune.bytes(), 0, 0, 3), shown(expected));
+        assert_eq!(interface::cell(&tune.bytes(), 0, 0, 3), success(expected));
     }
 }
 
-/// The frames stand at the module's end: 3, 6 and 8 bytes, and 8 bytes before each.
+/// The frames are at the module's end: 3, 6 and 8 bytes, with 8 bytes before each.
 #[test]
 fn samples_from_1() {
     let module = tune(3).bytes();
@@ -472,12 +472,12 @@ fn samples_from_1() {
     for (number, (width, frames, from_end, length)) in (1..).zip(expected) {
         assert_eq!(
             interface::sample(&module, number),
-            shown(Sample { width, frames })
+            success(Sample { width, frames })
         );
         let offset = module.len() as u64 - from_end;
         assert_eq!(
             interface::frames(&module, number),
-            shown(Frames { offset, length })
+            success(Frames { offset, length })
         );
     }
     for number in [0, 4] {
@@ -486,13 +486,13 @@ fn samples_from_1() {
         assert_eq!(interface::frame(&module, number, 0), not_there());
     }
     let frame = |sample, frame| interface::frame(&module, sample, frame);
-    assert_eq!([frame(1, 0), frame(1, 2)], [shown(-32_768), shown(256)]);
-    assert_eq!([frame(2, 1), frame(2, 2)], [shown(-2), shown(32_767)]);
-    assert_eq!([frame(3, 0), frame(3, 1)], [shown(-1), shown(-1)]);
+    assert_eq!([frame(1, 0), frame(1, 2)], [success(-32_768), success(256)]);
+    assert_eq!([frame(2, 1), frame(2, 2)], [success(-2), success(32_767)]);
+    assert_eq!([frame(3, 0), frame(3, 1)], [success(-1), success(-1)]);
     assert_eq!([frame(1, 3), frame(2, 3), frame(3, 2)], [not_there(); 3]);
 }
 
-/// P12, and the numbers around it: 32 bits are divided by 65,536 and rounded down.
+/// P12, and nearby numbers: 32 bits are divided by 65,536 and rounded down.
 #[test]
 fn frames_of_32_bits() {
     const EXPECTED: [(u32, i16); 12] = [
@@ -515,7 +515,7 @@ fn frames_of_32_bits() {
         .collect();
     let module = sampled(4, &data);
     for (index, (_, expected)) in EXPECTED.iter().enumerate() {
-        assert_eq!(interface::frame(&module, 1, index), shown(*expected));
+        assert_eq!(interface::frame(&module, 1, index), success(*expected));
     }
     assert_eq!(all_frames(&module), EXPECTED.map(|(_, expected)| expected));
 }
@@ -528,13 +528,13 @@ fn frames_of_8_bits() {
     let expected: Vec<i16> = (0..128).chain(-128..0).map(|frame| frame * 256).collect();
     assert_eq!(all_frames(&module), expected);
     for (index, &frame) in expected.iter().enumerate() {
-        assert_eq!(interface::frame(&module, 1, index), shown(frame));
+        assert_eq!(interface::frame(&module, 1, index), success(frame));
     }
     assert_eq!(expected[0x80], -32_768);
     assert_eq!(expected[0xFF], -256);
 }
 
-/// Every number of 16 bits, as it is; and as the upper half of 32 bits, whatever the lower half.
+/// Every number of 16 bits, unchanged; and as the upper half of 32 bits with any lower half.
 #[test]
 fn frames_of_16_bits_and_upper_halves() {
     let expected: Vec<i16> = (0..=32_767).chain(-32_768..=-1).collect();
@@ -542,7 +542,7 @@ fn frames_of_16_bits_and_upper_halves() {
     let module = sampled(2, &numbers(&every));
     assert_eq!(all_frames(&module), expected);
     for (index, &frame) in expected.iter().enumerate() {
-        assert_eq!(interface::frame(&module, 1, index), shown(frame));
+        assert_eq!(interface::frame(&module, 1, index), success(frame));
     }
     for lower in [0, 1, 0x7FFF, 0x8000, 0xFFFF] {
         let data: Vec<u8> = every
@@ -557,69 +557,66 @@ fn frames_of_16_bits_and_upper_halves() {
 fn a_sample_without_frames() {
     for width in [1, 2, 4] {
         let module = sampled(width, &[]);
-        let told = interface::sample(&module, 1);
-        assert_eq!(told.record.width, 8 * width as u8);
-        assert_eq!(told.record.frames, 0);
-        let told = interface::frames(&module, 1);
-        assert_eq!((told.number, told.place, told.record.length), (0, 0, 0));
+        let answer = interface::sample(&module, 1);
+        assert_eq!(answer.record.width, 8 * width as u8);
+        assert_eq!(answer.record.frames, 0);
+        let answer = interface::frames(&module, 1);
+        assert_eq!(
+            (answer.number, answer.place, answer.record.length),
+            (0, 0, 0)
+        );
         assert_eq!(interface::frame(&module, 1, 0), not_there());
         let answer = interface::all_frames(&module, 1, &mut []);
         assert_eq!((answer.number, answer.length), (0, 0));
     }
 }
 
-/// Every query about a module, with these numbers for all that is asked for and an output of this length: each refuses so, shows
-/// zeros, and leaves the output alone.
-fn all_refuse(module: &[u8], asked: usize, room: usize, number: u64, place: u64) {
+/// Every query about a module, with this number for every item and an output of this length. Each returns this refusal and zeros, and does
+/// not change the output.
+fn all_refuse(module: &[u8], item: usize, room: usize, number: u64, place: u64) {
     let mut out = vec![0xAA; room];
     let refusal = Answer::refused(number, place as usize);
-    assert_eq!(interface::playlist(module, asked, &mut out), refusal);
-    assert_eq!(interface::cells(module, asked, &mut out), refusal);
-    assert_eq!(interface::all_frames(module, asked, &mut out), refusal);
+    assert_eq!(interface::playlist(module, item, &mut out), refusal);
+    assert_eq!(interface::cells(module, item, &mut out), refusal);
+    assert_eq!(interface::all_frames(module, item, &mut out), refusal);
     assert_eq!(out, vec![0xAA; room]);
-    assert_eq!(interface::song(module, asked), refused(number, place));
+    assert_eq!(interface::song(module, item), refused(number, place));
+    assert_eq!(interface::entry(module, item, item), refused(number, place));
+    assert_eq!(interface::instrument(module, item), refused(number, place));
     assert_eq!(
-        interface::entry(module, asked, asked),
-        refused(number, place)
-    );
-    assert_eq!(interface::instrument(module, asked), refused(number, place));
-    assert_eq!(
-        interface::volume_envelope(module, asked),
+        interface::volume_envelope(module, item),
         refused(number, place)
     );
     assert_eq!(
-        interface::panning_envelope(module, asked),
+        interface::panning_envelope(module, item),
         refused(number, place)
     );
-    assert_eq!(interface::rows(module, asked), refused(number, place));
+    assert_eq!(interface::rows(module, item), refused(number, place));
     assert_eq!(
-        interface::cell(module, asked, asked, asked),
+        interface::cell(module, item, item, item),
         refused(number, place)
     );
-    assert_eq!(interface::sample(module, asked), refused(number, place));
-    assert_eq!(interface::frames(module, asked), refused(number, place));
-    assert_eq!(
-        interface::frame(module, asked, asked),
-        refused(number, place)
-    );
+    assert_eq!(interface::sample(module, item), refused(number, place));
+    assert_eq!(interface::frames(module, item), refused(number, place));
+    assert_eq!(interface::frame(module, item, item), refused(number, place));
 }
 
-/// 18 comes before 17.
+/// 18 has priority over 17.
 #[test]
 fn what_is_not_there() {
-    for (module, asked) in [
+    for (module, item) in [
         (Tune::default().bytes(), [0, 1, 4_294_967_296, usize::MAX]),
         (tune(2).bytes(), [4, 257, 4_294_967_297, usize::MAX]),
     ] {
-        for asked in asked {
+        for item in item {
             for room in [0, 200] {
-                all_refuse(&module, asked, room, 18, 0);
+                all_refuse(&module, item, room, 18, 0);
             }
         }
     }
 }
 
-/// The module's own refusal comes before 18 and 17.
+/// The module's own refusal has priority over 18 and 17.
 #[test]
 fn refused_modules() {
     let sound = tune(3);
@@ -646,9 +643,9 @@ fn refused_modules() {
             interface::panning_envelopes(&module),
             refused(number, place)
         );
-        for asked in [0, 1, usize::MAX] {
+        for item in [0, 1, usize::MAX] {
             for room in [0, 200] {
-                all_refuse(&module, asked, room, number, place);
+                all_refuse(&module, item, room, number, place);
             }
         }
     }
@@ -657,28 +654,28 @@ fn refused_modules() {
 /// The structs of dbm0.h, as C lays them out.
 #[test]
 fn layouts() {
-    assert_eq!(size_of::<Told<Version>>(), 24);
-    assert_eq!(offset_of!(Told<Version>, record.revision), 17);
-    assert_eq!(size_of::<Told<Name>>(), 64);
-    assert_eq!(size_of::<Told<Info>>(), 32);
-    assert_eq!(offset_of!(Told<Info>, record.tracks), 24);
-    assert_eq!(size_of::<Told<Song>>(), 64);
-    assert_eq!(offset_of!(Told<Song>, record.length), 60);
-    assert_eq!(size_of::<Told<u16>>(), 24);
+    assert_eq!(size_of::<RecordAnswer<Version>>(), 24);
+    assert_eq!(offset_of!(RecordAnswer<Version>, record.revision), 17);
+    assert_eq!(size_of::<RecordAnswer<Name>>(), 64);
+    assert_eq!(size_of::<RecordAnswer<Info>>(), 32);
+    assert_eq!(offset_of!(RecordAnswer<Info>, record.tracks), 24);
+    assert_eq!(size_of::<RecordAnswer<Song>>(), 64);
+    assert_eq!(offset_of!(RecordAnswer<Song>, record.length), 60);
+    assert_eq!(size_of::<RecordAnswer<u16>>(), 24);
     assert_eq!(size_of::<Answer>(), 24);
-    assert_eq!(size_of::<Told<Instrument>>(), 72);
-    assert_eq!(offset_of!(Told<Instrument>, record.sample), 46);
-    assert_eq!(offset_of!(Told<Instrument>, record.flags), 52);
-    assert_eq!(offset_of!(Told<Instrument>, record.rate), 56);
-    assert_eq!(offset_of!(Told<Instrument>, record.loop_length), 64);
-    assert_eq!(size_of::<Told<Envelope>>(), 216);
-    assert_eq!(offset_of!(Told<Envelope>, record.positions), 24);
-    assert_eq!(offset_of!(Told<Envelope>, record.values), 88);
-    assert_eq!(size_of::<Told<Cell>>(), 32);
-    assert_eq!(offset_of!(Told<Cell>, record.parameter2), 24);
-    assert_eq!(size_of::<Told<Sample>>(), 24);
-    assert_eq!(offset_of!(Told<Sample>, record.frames), 20);
-    assert_eq!(size_of::<Told<Frames>>(), 32);
-    assert_eq!(offset_of!(Told<Frames>, record.length), 24);
-    assert_eq!(size_of::<Told<i16>>(), 24);
+    assert_eq!(size_of::<RecordAnswer<Instrument>>(), 72);
+    assert_eq!(offset_of!(RecordAnswer<Instrument>, record.sample), 46);
+    assert_eq!(offset_of!(RecordAnswer<Instrument>, record.flags), 52);
+    assert_eq!(offset_of!(RecordAnswer<Instrument>, record.rate), 56);
+    assert_eq!(offset_of!(RecordAnswer<Instrument>, record.loop_length), 64);
+    assert_eq!(size_of::<RecordAnswer<Envelope>>(), 216);
+    assert_eq!(offset_of!(RecordAnswer<Envelope>, record.positions), 24);
+    assert_eq!(offset_of!(RecordAnswer<Envelope>, record.values), 88);
+    assert_eq!(size_of::<RecordAnswer<Cell>>(), 32);
+    assert_eq!(offset_of!(RecordAnswer<Cell>, record.parameter2), 24);
+    assert_eq!(size_of::<RecordAnswer<Sample>>(), 24);
+    assert_eq!(offset_of!(RecordAnswer<Sample>, record.frames), 20);
+    assert_eq!(size_of::<RecordAnswer<Frames>>(), 32);
+    assert_eq!(offset_of!(RecordAnswer<Frames>, record.length), 24);
+    assert_eq!(size_of::<RecordAnswer<i16>>(), 24);
 }

@@ -1,15 +1,15 @@
-//! The comparison of the queries itself: it finds nothing between the reference and the reference, and it notices each of these
-//! wrong queries.
+//! Tests of the comparison of the queries: it finds no difference between the reference and itself, and it detects each of these wrong
+//! queries.
 
-use archive::compare::Lent;
+use archive::compare::GuardedOutput;
 use archive::modules;
-use archive::queries::{refused, shown, Queries, REFERENCE};
+use archive::queries::{refused, success, Queries, REFERENCE};
 use archive::records::all;
-use interface::{Answer, Envelope, Told};
+use interface::{Answer, Envelope, RecordAnswer};
 use reference::draft::{Sample, Tune};
 use reference::generate::Random;
 
-/// How many of these modules show a difference.
+/// The number of modules with a difference.
 fn differences(library: Queries) -> usize {
     modules::some(60)
         .iter()
@@ -28,13 +28,13 @@ fn nothing_between_the_reference_and_itself() {
     assert_eq!(differences(REFERENCE), 0);
 }
 
-/// A query that refuses everything, and one that shows a record of zeros for everything.
+/// A query that refuses everything, and one that returns a record of zeros for everything.
 #[test]
 fn one_record_for_everything() {
     macro_rules! always {
         ($query:ident, |$($asked:tt),*|) => {
             noticed(Queries { $query: |$($asked),*| refused(18, 0), ..REFERENCE });
-            noticed(Queries { $query: |$($asked),*| shown(Default::default()), ..REFERENCE });
+            noticed(Queries { $query: |$($asked),*| success(Default::default()), ..REFERENCE });
         };
     }
     always!(version, |_|);
@@ -54,21 +54,23 @@ fn one_record_for_everything() {
     always!(frame, |_, _, _|);
 }
 
-type Filling = fn(&[u8], usize, &mut Lent) -> Answer;
+type Filling = fn(&[u8], usize, &mut GuardedOutput) -> Answer;
 
-/// Each of the three queries that fill an output, done wrongly in the same way.
+/// Each of the three queries that fill an output, with the same fault.
 macro_rules! noticed_in_outputs {
     ($wrong:ident) => {
         noticed(Queries {
-            playlist: |module, song, lent| $wrong(REFERENCE.playlist, module, song, lent),
+            playlist: |module, song, output| $wrong(REFERENCE.playlist, module, song, output),
             ..REFERENCE
         });
         noticed(Queries {
-            cells: |module, pattern, lent| $wrong(REFERENCE.cells, module, pattern, lent),
+            cells: |module, pattern, output| $wrong(REFERENCE.cells, module, pattern, output),
             ..REFERENCE
         });
         noticed(Queries {
-            all_frames: |module, sample, lent| $wrong(REFERENCE.all_frames, module, sample, lent),
+            all_frames: |module, sample, output| {
+                $wrong(REFERENCE.all_frames, module, sample, output)
+            },
             ..REFERENCE
         });
     };
@@ -76,18 +78,18 @@ macro_rules! noticed_in_outputs {
 
 #[test]
 fn outputs_with_nothing_written() {
-    fn wrong(right: Filling, module: &[u8], number: usize, lent: &mut Lent) -> Answer {
-        let room = lent.out().len();
-        right(module, number, &mut Lent::new(room))
+    fn wrong(right: Filling, module: &[u8], number: usize, output: &mut GuardedOutput) -> Answer {
+        let room = output.slice().len();
+        right(module, number, &mut GuardedOutput::new(room))
     }
     noticed_in_outputs!(wrong);
 }
 
 #[test]
 fn outputs_with_the_first_bytes_only() {
-    fn wrong(right: Filling, module: &[u8], number: usize, lent: &mut Lent) -> Answer {
-        let answer = right(module, number, lent);
-        lent.out()[..answer.length as usize]
+    fn wrong(right: Filling, module: &[u8], number: usize, output: &mut GuardedOutput) -> Answer {
+        let answer = right(module, number, output);
+        output.slice()[..answer.length as usize]
             .iter_mut()
             .skip(2)
             .for_each(|byte| *byte = 0);
@@ -97,10 +99,10 @@ fn outputs_with_the_first_bytes_only() {
 }
 
 #[test]
-fn outputs_with_a_byte_behind() {
-    fn wrong(right: Filling, module: &[u8], number: usize, lent: &mut Lent) -> Answer {
-        let answer = right(module, number, lent);
-        if let Some(byte) = lent.out().get_mut(answer.length as usize) {
+fn outputs_with_an_extra_byte() {
+    fn wrong(right: Filling, module: &[u8], number: usize, output: &mut GuardedOutput) -> Answer {
+        let answer = right(module, number, output);
+        if let Some(byte) = output.slice().get_mut(answer.length as usize) {
             *byte ^= 1;
         }
         answer
@@ -108,47 +110,57 @@ fn outputs_with_a_byte_behind() {
     noticed_in_outputs!(wrong);
 }
 
-/// The guards stand before and behind what is lent.
+/// The guards are before and after the output.
 #[test]
 fn outputs_with_a_byte_outside() {
-    fn before(right: Filling, module: &[u8], number: usize, lent: &mut Lent) -> Answer {
-        lent.bytes[63] ^= 1;
-        right(module, number, lent)
+    fn before(right: Filling, module: &[u8], number: usize, output: &mut GuardedOutput) -> Answer {
+        output.bytes[63] ^= 1;
+        right(module, number, output)
     }
-    fn behind(right: Filling, module: &[u8], number: usize, lent: &mut Lent) -> Answer {
-        let end = 64 + lent.out().len();
-        lent.bytes[end] ^= 1;
-        right(module, number, lent)
+    fn after(right: Filling, module: &[u8], number: usize, output: &mut GuardedOutput) -> Answer {
+        let end = 64 + output.slice().len();
+        output.bytes[end] ^= 1;
+        right(module, number, output)
     }
     noticed_in_outputs!(before);
-    noticed_in_outputs!(behind);
+    noticed_in_outputs!(after);
 }
 
 #[test]
 fn outputs_cleared_on_a_refusal() {
-    fn wrong(right: Filling, module: &[u8], number: usize, lent: &mut Lent) -> Answer {
-        let answer = right(module, number, lent);
+    fn wrong(right: Filling, module: &[u8], number: usize, output: &mut GuardedOutput) -> Answer {
+        let answer = right(module, number, output);
         if answer.number == 17 {
-            lent.out().fill(0);
+            output.slice().fill(0);
         }
         answer
     }
     noticed_in_outputs!(wrong);
 }
 
-/// The length of the lent output instead of the needed one, or one byte more.
+/// The length of the output instead of the needed length, or one byte more.
 #[test]
 fn another_needed_length() {
-    fn lent_one(right: Filling, module: &[u8], number: usize, lent: &mut Lent) -> Answer {
-        let answer = right(module, number, lent);
+    fn lent_one(
+        right: Filling,
+        module: &[u8],
+        number: usize,
+        output: &mut GuardedOutput,
+    ) -> Answer {
+        let answer = right(module, number, output);
         let place = match answer.number {
-            17 => lent.out().len() as u64,
+            17 => output.slice().len() as u64,
             _ => answer.place,
         };
         Answer { place, ..answer }
     }
-    fn one_more(right: Filling, module: &[u8], number: usize, lent: &mut Lent) -> Answer {
-        let answer = right(module, number, lent);
+    fn one_more(
+        right: Filling,
+        module: &[u8],
+        number: usize,
+        output: &mut GuardedOutput,
+    ) -> Answer {
+        let answer = right(module, number, output);
         let place = answer.place + u64::from(answer.number == 17);
         Answer { place, ..answer }
     }
@@ -158,9 +170,9 @@ fn another_needed_length() {
 
 #[test]
 fn outputs_that_give_17_before_18() {
-    fn wrong(right: Filling, module: &[u8], number: usize, lent: &mut Lent) -> Answer {
-        let answer = right(module, number, lent);
-        if answer.number == 18 && lent.out().is_empty() {
+    fn wrong(right: Filling, module: &[u8], number: usize, output: &mut GuardedOutput) -> Answer {
+        let answer = right(module, number, output);
+        if answer.number == 18 && output.slice().is_empty() {
             return Answer::refused(17, 2);
         }
         answer
@@ -168,7 +180,7 @@ fn outputs_that_give_17_before_18() {
     noticed_in_outputs!(wrong);
 }
 
-/// What is not there in a refused module is still the module's refusal.
+/// A query for an item that does not exist in a refused module still returns the module's refusal.
 #[test]
 fn a_query_that_gives_18_first() {
     noticed(Queries {
@@ -184,27 +196,27 @@ fn a_query_that_gives_18_first() {
 fn a_record_beside_a_refusal() {
     noticed(Queries {
         instrument: |module, number| {
-            let mut told = (REFERENCE.instrument)(module, number);
-            if told.number != 0 {
-                told.record.flags = 1;
+            let mut answer = (REFERENCE.instrument)(module, number);
+            if answer.number != 0 {
+                answer.record.flags = 1;
             }
-            told
+            answer
         },
         ..REFERENCE
     });
     noticed(Queries {
         frames: |module, number| {
-            let mut told = (REFERENCE.frames)(module, number);
-            if told.number != 0 {
-                told.record.offset = 8;
+            let mut answer = (REFERENCE.frames)(module, number);
+            if answer.number != 0 {
+                answer.record.offset = 8;
             }
-            told
+            answer
         },
         ..REFERENCE
     });
 }
 
-/// Instruments, samples and tracks are counted from 1, all else from 0.
+/// Instruments, samples and tracks are counted from 1, everything else from 0.
 #[test]
 fn numbers_counted_from_elsewhere() {
     noticed(Queries {
@@ -231,7 +243,7 @@ fn numbers_counted_from_elsewhere() {
     });
 }
 
-/// A number is taken as it is, not as its last bits.
+/// A number is not truncated to fewer bits.
 #[test]
 fn numbers_cut_to_few_bits() {
     noticed(Queries {
@@ -252,28 +264,28 @@ fn numbers_cut_to_few_bits() {
 fn panning_of_an_instrument_scaled_in_version_2() {
     noticed(Queries {
         instrument: |module, number| {
-            let mut told = (REFERENCE.instrument)(module, number);
-            if told.number == 0 && module[4] == 2 {
-                told.record.panning = told.record.panning.wrapping_mul(4) - 128;
+            let mut answer = (REFERENCE.instrument)(module, number);
+            if answer.number == 0 && module[4] == 2 {
+                answer.record.panning = answer.record.panning.wrapping_mul(4) - 128;
             }
-            told
+            answer
         },
         ..REFERENCE
     });
 }
 
-/// A panning envelope with its points changed, in version 2 only.
+/// A panning envelope with changed points, in version 2 only.
 fn panning_of_version_2(
     module: &[u8],
     number: usize,
     change: fn(&mut Envelope, usize),
-) -> Told<Envelope> {
-    let mut told = (REFERENCE.panning_envelope)(module, number);
-    if told.number == 0 && module[4] == 2 {
-        let in_use = usize::from(told.record.sections) + 1;
-        change(&mut told.record, in_use);
+) -> RecordAnswer<Envelope> {
+    let mut answer = (REFERENCE.panning_envelope)(module, number);
+    if answer.number == 0 && module[4] == 2 {
+        let in_use = usize::from(answer.record.sections) + 1;
+        change(&mut answer.record, in_use);
     }
-    told
+    answer
 }
 
 #[test]
@@ -306,11 +318,11 @@ fn points_that_are_not_in_use_scaled_too() {
 fn one_point_too_few() {
     noticed(Queries {
         volume_envelope: |module, number| {
-            let mut told = (REFERENCE.volume_envelope)(module, number);
-            let last = usize::from(told.record.sections);
-            told.record.positions[last] = 0;
-            told.record.values[last] = 0;
-            told
+            let mut answer = (REFERENCE.volume_envelope)(module, number);
+            let last = usize::from(answer.record.sections);
+            answer.record.positions[last] = 0;
+            answer.record.values[last] = 0;
+            answer
         },
         ..REFERENCE
     });
@@ -328,37 +340,37 @@ fn a_kind_of_envelopes_for_the_other() {
     });
 }
 
-/// 32-bit frames divided and rounded towards 0. The frame is found in the module itself.
+/// 32-bit frames divided and rounded towards 0. The frame is read from the module itself.
 #[test]
 fn frames_rounded_to_zero() {
     noticed(Queries {
         frame: |module, sample, frame| {
-            let mut told = (REFERENCE.frame)(module, sample, frame);
+            let mut answer = (REFERENCE.frame)(module, sample, frame);
             let part = (REFERENCE.frames)(module, sample).record;
-            if told.number == 0 && (REFERENCE.sample)(module, sample).record.width == 32 {
+            if answer.number == 0 && (REFERENCE.sample)(module, sample).record.width == 32 {
                 let place = part.offset as usize + 4 * frame;
                 let stored = module[place..place + 4].try_into().expect("four bytes");
-                told.record = (i32::from_be_bytes(stored) / 65_536) as i16;
+                answer.record = (i32::from_be_bytes(stored) / 65_536) as i16;
             }
-            told
+            answer
         },
         ..REFERENCE
     });
 }
 
 #[test]
-fn frames_with_what_stands_before_them() {
+fn frames_with_the_bytes_before_them() {
     noticed(Queries {
         frames: |module, sample| {
-            let mut told = (REFERENCE.frames)(module, sample);
-            told.record.offset = told.record.offset.saturating_sub(8);
-            told
+            let mut answer = (REFERENCE.frames)(module, sample);
+            answer.record.offset = answer.record.offset.saturating_sub(8);
+            answer
         },
         ..REFERENCE
     });
 }
 
-/// Where there are no frames, they may stand anywhere in the module, but not outside.
+/// If there are no frames, their place can be anywhere inside the module, but not outside.
 #[test]
 fn no_frames_elsewhere() {
     let tune = Tune {
@@ -368,22 +380,22 @@ fn no_frames_elsewhere() {
     let module = tune.bytes();
     let elsewhere = Queries {
         frames: |module, sample| {
-            let mut told = (REFERENCE.frames)(module, sample);
-            if told.number == 0 && told.record.length == 0 {
-                told.record.offset = 3;
+            let mut answer = (REFERENCE.frames)(module, sample);
+            if answer.number == 0 && answer.record.length == 0 {
+                answer.record.offset = 3;
             }
-            told
+            answer
         },
         ..REFERENCE
     };
     assert_eq!(all(&elsewhere, &module, &mut Random::new(1)), Ok(()));
     let outside = Queries {
         frames: |module, sample| {
-            let mut told = (REFERENCE.frames)(module, sample);
-            if told.number == 0 && told.record.length == 0 {
-                told.record.offset = module.len() as u64 + 1;
+            let mut answer = (REFERENCE.frames)(module, sample);
+            if answer.number == 0 && answer.record.length == 0 {
+                answer.record.offset = module.len() as u64 + 1;
             }
-            told
+            answer
         },
         ..REFERENCE
     };

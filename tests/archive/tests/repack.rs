@@ -1,14 +1,14 @@
-//! Repacking a whole module: libdbm0.a against the reference, and what holds of it alone. DBM0_CASES and DBM0_SEED say how many random
-//! cases there are, and which. The modules that are as large as they may be stand in large_repack.rs.
+//! Repacking a whole module: libdbm0.a against the reference, and its own properties. DBM0_CASES is the number of random cases and
+//! DBM0_SEED the first seed. Modules of the maximum length are in large_repack.rs.
 
 use archive::modules::{all_values, every_change};
 use archive::repacking::REPACK;
 use archive::seeds::for_seeds;
 use reference::draft::{Chunk, Pattern, Sample, Song, Tune};
-use reference::generate::{damaged, module, tune, Most, Random};
+use reference::generate::{damaged, module, tune, Limits, Random};
 use reference::module::check;
 
-/// P2, a filler beside the packer's own stream, tracks that descend; chunks before and behind PATT. INFO at 8, PATT at 26, PNAM at
+/// P2, a filler in the packer's own stream, tracks in descending order; chunks before and after PATT. INFO is at 8, PATT at 26, PNAM at
 /// 106.
 const BEFORE: &[u8; 116] = b"DBM0\x02\x21\xDE\xAD\
     INFO\x00\x00\x00\x0A\x00\x00\x00\x01\x00\x00\x00\x03\x00\x06\
@@ -20,7 +20,7 @@ const BEFORE: &[u8; 116] = b"DBM0\x02\x21\xDE\xAD\
     SMPL\x00\x00\x00\x0C\x00\x00\x00\x02\x00\x00\x00\x02PATT\
     PNAM\x00\x00\x00\x02\x80\x81";
 
-/// With P1 in the place of P2.
+/// The same with P1 instead of P2.
 const AFTER: &[u8; 114] = b"DBM0\x02\x21\xDE\xAD\
     INFO\x00\x00\x00\x0A\x00\x00\x00\x01\x00\x00\x00\x03\x00\x06\
     PATT\x00\x00\x00\x22\
@@ -41,11 +41,11 @@ archive::tests_of_a_call! {
     damaged modules: 10_000,
 }
 
-/// Streams with faults in blocks that fit them; some of them leave the stream sound.
+/// Streams with faults, in blocks of the right length. Some of the streams remain valid.
 #[test]
 fn damaged_streams() {
     for_seeds(10_000, |random| {
-        let mut tune = tune(random, &Most::SMALL);
+        let mut tune = tune(random, &Limits::SMALL);
         for pattern in &mut tune.patterns {
             if random.chance(60) {
                 pattern.stream = damaged(random, &pattern.stream);
@@ -59,33 +59,33 @@ fn damaged_streams() {
 /// Patterns of many tracks and rows.
 #[test]
 fn wide_patterns() {
-    let most = Most {
+    let most = Limits {
         patterns: 4,
         rows: 20,
         row_entries: 300,
         tracks: 254,
-        ..Most::SMALL
+        ..Limits::SMALL
     };
     for_seeds(100, |random| agrees(&module(random, &most).bytes(), random));
 }
 
-/// As many chunks and patterns as one likes, and only a few bytes of streams.
+/// Many chunks and patterns, and only a few bytes of streams.
 #[test]
 fn many_chunks_and_patterns() {
-    let most = Most {
+    let most = Limits {
         patterns: 1_024,
         rows: 2,
         row_entries: 2,
         others: 200,
         other_bytes: 9,
-        ..Most::SMALL
+        ..Limits::SMALL
     };
     for_seeds(50, |random| {
         REPACK.compare(&module(random, &most).bytes(), random)
     });
 }
 
-/// Every byte of a module, changed to every value.
+/// A module with each byte changed to every value.
 #[test]
 fn every_change_of_a_byte() {
     every_change(BEFORE, all_values, |module, _| {
@@ -95,7 +95,7 @@ fn every_change_of_a_byte() {
     });
 }
 
-/// PATT at each place behind INFO, with an empty chunk and one of one byte around it.
+/// PATT at each place after INFO, with an empty chunk and one of one byte around it.
 #[test]
 fn patt_at_every_place() {
     let patterns = vec![

@@ -1,7 +1,7 @@
-//! The comparison of repacked modules itself: it finds nothing between the reference and the reference, and it notices each of these
-//! wrong repackers.
+//! Tests of the comparison of repacked modules: it finds no difference between the reference and itself, and it detects each of these wrong
+//! repackers.
 
-use archive::compare::Lent;
+use archive::compare::GuardedOutput;
 use archive::repacking::REPACK;
 use archive::writing::writing;
 use interface::Answer;
@@ -17,13 +17,13 @@ fn patt(module: &[u8]) -> usize {
     place
 }
 
-/// The number of four bytes at a place.
+/// The four-byte number at a place.
 fn number(module: &[u8], place: usize) -> usize {
     let bytes = module[place..place + 4].try_into();
     u32::from_be_bytes(bytes.expect("four bytes were taken")) as usize
 }
 
-/// Where the packed bytes of each pattern begin and end.
+/// The begin and the end of the packed bytes of each pattern.
 fn streams(module: &[u8]) -> Vec<(usize, usize)> {
     let header = patt(module);
     let mut place = header + 8;
@@ -40,12 +40,12 @@ fn streams(module: &[u8]) -> Vec<(usize, usize)> {
 /// Nothing is repacked: the module is copied.
 #[test]
 fn a_copy() {
-    REPACK.notices_beside_the_reference(&|module, lent| {
-        let answer = (REPACK.reference)(module, lent);
-        if answer.number != 0 || lent.out().len() < module.len() {
+    REPACK.notices_beside_the_reference(&|module, output| {
+        let answer = (REPACK.reference)(module, output);
+        if answer.number != 0 || output.slice().len() < module.len() {
             return answer;
         }
-        lent.out()[..module.len()].copy_from_slice(module);
+        output.slice()[..module.len()].copy_from_slice(module);
         Answer::written(module.len())
     });
 }
@@ -58,7 +58,7 @@ fn the_length_of_patt_as_it_was() {
     }));
 }
 
-/// Beside streams of the same length.
+/// Fillers keep their value, in streams of the same length.
 #[test]
 fn fillers_as_they_were() {
     REPACK.notices_beside_the_reference(&REPACK.changed(|module, out| {
@@ -70,18 +70,18 @@ fn fillers_as_they_were() {
     }));
 }
 
-/// What stands behind PATT one byte further on, where something was left out.
+/// The bytes after PATT are moved by one byte if PATT has become shorter.
 #[test]
-fn chunks_behind_patt_shifted() {
+fn chunks_after_patt_shifted() {
     REPACK.notices(&REPACK.changed(|module, out| {
-        let behind = patt(out) + 8 + number(out, patt(out) + 4);
-        if out.len() < module.len() && behind < out.len() {
-            out[behind..].rotate_right(1);
+        let end = patt(out) + 8 + number(out, patt(out) + 4);
+        if out.len() < module.len() && end < out.len() {
+            out[end..].rotate_right(1);
         }
     }));
 }
 
-/// The first two entries of a pattern in the other order: as long, and accepted.
+/// The first two entries of a pattern are swapped: the module has the same length and is accepted.
 #[test]
 fn tracks_that_descend() {
     REPACK.notices_beside_the_reference(&REPACK.changed(|_, out| {
@@ -100,18 +100,18 @@ fn tracks_that_descend() {
     }));
 }
 
-/// All patterns but the first as they were.
+/// All patterns except the first are unchanged.
 #[test]
 fn the_first_pattern_only() {
-    REPACK.notices_beside_the_reference(&|module, lent| {
-        let mut whole = Lent::new(module.len());
+    REPACK.notices_beside_the_reference(&|module, output| {
+        let mut whole = GuardedOutput::new(module.len());
         let answer = (REPACK.reference)(module, &mut whole);
         if answer.number != 0 || streams(module).len() < 2 {
-            return (REPACK.reference)(module, lent);
+            return (REPACK.reference)(module, output);
         }
         let header = patt(module);
         let end = header + 8 + number(module, header + 4);
-        let out = whole.out();
+        let out = whole.slice();
         let first = &out[header + 8..streams(out)[1].0 - 6];
         let others = &module[streams(module)[1].0 - 6..end];
         let length = (first.len() + others.len()) as u32;
@@ -123,7 +123,7 @@ fn the_first_pattern_only() {
             &module[end..],
         ]
         .concat();
-        writing(&made, lent)
+        writing(&made, output)
     });
 }
 
@@ -143,7 +143,7 @@ fn rows_and_cells_that_differ() {
     }));
 }
 
-/// The reserved word, which is shown by no query, and the version.
+/// The reserved word, which no query returns, and the version.
 #[test]
 fn another_header() {
     REPACK.notices_beside_the_reference(&REPACK.changed(|_, out| out[6..8].fill(0)));

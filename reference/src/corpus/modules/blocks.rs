@@ -1,13 +1,13 @@
-//! Modules whose songs, instruments, patterns or samples are the matter.
+//! Cases for songs, instruments, patterns and samples.
 
 use super::envelopes::{enveloped, plain_envelope};
-use super::{small, Made};
+use super::{small, CaseBuilder};
 use crate::chunks::Name;
 use crate::draft::{Instrument, Pattern, Sample, Song, Tune};
 
-impl Made {
-    /// The data of SONG and INST cut around the ends of their fields, those of PATT and SMPL at every byte, and all with more behind
-    /// them; the chunk's length follows.
+impl CaseBuilder {
+    /// The data of SONG and INST cut around the ends of their fields, the data of PATT and SMPL cut at every byte, and all of them
+    /// extended. The chunk's length is adjusted.
     pub(super) fn chunk_ends(&mut self) {
         let songs = Tune {
             songs: vec![
@@ -53,14 +53,14 @@ impl Made {
         }
     }
 
-    /// A chunk's data cut to each of these lengths, or filled up with zeros.
+    /// A chunk's data cut to each of these lengths, or extended with zeros.
     fn with_lengths(&mut self, name: &Name, tune: &Tune, lengths: impl IntoIterator<Item = usize>) {
         for length in lengths {
             self.draft(tune, |draft| draft.chunk(name).data.resize(length, 0));
         }
     }
 
-    /// Lengths inside blocks that are far too big, also such as would fit if something wrapped.
+    /// Lengths in blocks that are far too large, including ones that would fit after an overflow.
     pub(super) fn wild_blocks(&mut self) {
         let small = small();
         let song = Tune {
@@ -76,7 +76,7 @@ impl Made {
             patterns: small.patterns,
             ..Tune::default()
         };
-        // Six bytes and one of these, with or without a filler, are 2^32 or nearly so.
+        // Six bytes and one of these, with or without a filler, are 2^32 or almost.
         let wild = [!0, !1, !3, !4, !5, !6, !7, 1 << 31, (1 << 31) - 1];
         for length in [0_u32, 2, 3, 0x0100, 0x10001].into_iter().chain(wild) {
             self.draft(&pattern, |draft| {
@@ -87,7 +87,7 @@ impl Made {
         self.wild_envelope_counts();
     }
 
-    /// Frames of so many bytes, on data of so many bytes.
+    /// Frames of different widths on data of different lengths.
     fn wild_frames(&mut self) {
         for (flags, data, frames) in [
             (1, 2, 0x01000002),
@@ -167,7 +167,7 @@ impl Made {
         for tune in tunes {
             self.module(&tune.bytes());
         }
-        // A whole playlist of 200 entries, and its last one wrong.
+        // A playlist of 200 entries, valid and with an invalid last entry.
         for last in [1, 2] {
             let mut playlist = [0, 1].repeat(100);
             playlist[199] = last;
@@ -219,7 +219,7 @@ impl Made {
         self.second_instruments();
     }
 
-    /// Faults in the second of two instruments, alone and beside one in the first.
+    /// Faults in the second of two instruments, alone and together with one in the first.
     fn second_instruments(&mut self) {
         let two = Tune {
             instruments: vec![Instrument::default(); 2],
@@ -240,7 +240,7 @@ impl Made {
         }
     }
 
-    /// Loops on samples of 4 frames of each width, with each kind of loop; on no sample; on another sample than the first.
+    /// Loops on samples of 4 frames of each width, with each kind of loop; on no sample; and on a sample other than the first.
     pub(super) fn loops(&mut self) {
         let looped = |frame_bytes: u32, sample, start, length, flags| Tune {
             samples: vec![Sample::new(frame_bytes, &vec![1; 4 * frame_bytes as usize])],
@@ -277,7 +277,7 @@ impl Made {
                 self.module(&looped(1, 0, start, length, flags).bytes());
             }
         }
-        // As many frames as would be bytes.
+        // The loop is inside the sample if bytes are counted instead of frames.
         for frame_bytes in [2, 4] {
             self.module(&looped(frame_bytes, 1, 0, 4 * frame_bytes, 1).bytes());
             self.module(&looped(frame_bytes, 1, 4, 1, 2).bytes());
@@ -304,7 +304,7 @@ impl Made {
         }
     }
 
-    /// Three instruments on three samples of 1, 2 and 3 frames; loops of 1 to 3 frames.
+    /// Three instruments on three samples of 1, 2 and 3 frames, with loops of 1 to 3 frames.
     fn several_loops(&mut self) {
         let mut tune = Tune {
             samples: (1..=3)
@@ -334,7 +334,7 @@ impl Made {
         }
     }
 
-    /// Sound and broken streams, rows that do not fit them, and fillers.
+    /// Valid and broken streams, row counts that do not match them, and fillers.
     pub(super) fn patterns(&mut self) {
         let streams: [(u16, u16, &[u8]); 26] = [
             (4, 0, &[]),
@@ -366,7 +366,7 @@ impl Made {
         ];
         for (tracks, rows, stream) in streams {
             for filler in [0, 0x01, 0xFF] {
-                // A filler stands only behind an odd stream.
+                // A filler follows only an odd stream.
                 if filler == 0 || stream.len() % 2 == 1 {
                     let pattern = Pattern {
                         rows,
@@ -386,7 +386,7 @@ impl Made {
         self.several_patterns();
     }
 
-    /// A row more than the stream has row ends: the filler is none. A packed length that counts the filler: it is left over.
+    /// One row more than the stream has row ends: the filler is not a row end. A packed length that includes the filler: it is left over.
     fn fillers(&mut self) {
         for filler in [0, 1] {
             let two = Pattern {
@@ -415,7 +415,7 @@ impl Made {
         });
     }
 
-    /// A broken stream in each of three patterns, and in two of them; and beside it a loop that is outside.
+    /// A broken stream in each of three patterns, and in two of them; and together with a loop outside its sample.
     fn several_patterns(&mut self) {
         let sound = Pattern::new(2, &[0x02, 0x03, 0x47, 0x01, 0x00, 0x00]);
         let broken = Pattern::new(2, &[0x02, 0x43, 0x47, 0x01, 0x00, 0x00]);
@@ -440,7 +440,7 @@ impl Made {
         }
     }
 
-    /// Flags that are a width and flags that are none, of the only, first and last sample.
+    /// Valid and invalid flags, of the only, the first and the last sample.
     pub(super) fn samples(&mut self) {
         let sample = |flags, frames| Sample {
             flags,

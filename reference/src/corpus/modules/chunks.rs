@@ -1,13 +1,13 @@
-//! Modules whose header, chunks or INFO are the matter.
+//! Cases for the header, the chunks and INFO.
 
-use super::{rich, small, Made, REVERSED};
+use super::{rich, small, CaseBuilder, REVERSED};
 use crate::chunks::{Name, COVERED};
 use crate::draft::{Chunk, Draft, Tune};
 
-/// The chunks that stand in the smallest module, in its order.
+/// The chunks of the smallest module, in its order.
 const MANDATORY: [Name; 5] = [*b"INFO", *b"SONG", *b"INST", *b"PATT", *b"SMPL"];
 
-/// All orders of some things.
+/// All orders of some names.
 fn permutations(of: &[Name]) -> Vec<Vec<Name>> {
     let Some((&first, rest)) = of.split_first() else {
         return vec![vec![]];
@@ -23,8 +23,8 @@ fn permutations(of: &[Name]) -> Vec<Vec<Name>> {
     all
 }
 
-impl Made {
-    /// Short ones, other letters, versions and revisions, and reserved words of any kind.
+impl CaseBuilder {
+    /// Short headers, other letters, versions and revisions, and any reserved word.
     pub(super) fn headers(&mut self) {
         let smallest = Tune::default();
         for length in 0..=8 {
@@ -53,7 +53,7 @@ impl Made {
         self.tune(&smallest, |tune| (tune.version, tune.revision) = (4, 0xAA));
     }
 
-    /// One to nine bytes behind the last chunk.
+    /// One to nine bytes after the last chunk.
     pub(super) fn tails(&mut self) {
         let smallest = Tune::default();
         for length in 1..=9 {
@@ -68,7 +68,7 @@ impl Made {
         }
     }
 
-    /// Identifiers that are not four letters A to Z, in each place.
+    /// Identifiers that are not four letters A to Z, with a fault at each position.
     pub(super) fn identifiers(&mut self) {
         let smallest = Tune::default();
         for place in 0..4 {
@@ -103,10 +103,10 @@ impl Made {
             };
             let place = before.bytes().len() as u32;
             let end = draft.bytes().len() as u32;
-            let due = draft.chunks[index].data.len() as u32;
-            let told = [
-                due.wrapping_sub(1),
-                due + 1,
+            let expected = draft.chunks[index].data.len() as u32;
+            let lengths = [
+                expected.wrapping_sub(1),
+                expected + 1,
                 end - place - 8,
                 end - place - 7,
                 1 << 31,
@@ -114,21 +114,22 @@ impl Made {
                 0xFFFFFFF0,
                 0xFFFFFFF8,
                 0xFFFFFFFF,
-                // With sums of 32 bits the next chunk would start at 0, at 8 and at this one; with 24 bits where it should.
+                // With 32-bit sums the next chunk would start at 0, at 8 and at this chunk; with 24 bits it would start at the correct
+                // place.
                 0u32.wrapping_sub(place + 8),
                 8u32.wrapping_sub(place + 8),
                 0u32.wrapping_sub(8),
-                due.wrapping_add(1 << 24),
+                expected.wrapping_add(1 << 24),
             ];
-            for told in told {
+            for stored_length in lengths {
                 let mut draft = draft.clone();
-                draft.chunks[index].told = Some(told);
+                draft.chunks[index].stored_length = Some(stored_length);
                 self.module(&draft.bytes());
             }
         }
     }
 
-    /// Each covered chunk a second time, at once, at the end and with other data; other chunks many times.
+    /// Each covered chunk a second time: immediately, at the end, and with other data. Other chunks many times.
     pub(super) fn repeats(&mut self) {
         let full = Tune {
             name: Some(vec![]),
@@ -143,7 +144,7 @@ impl Made {
             });
             self.draft(&full, |draft| draft.chunks.push(chunk));
             self.draft(&full, |draft| draft.chunks.push(Chunk::new(&name, vec![7])));
-            // The second and a cut end: the chunk in front decides.
+            // A second chunk and a cut end: the first fault decides.
             self.draft(&full, |draft| {
                 draft.chunks.push(Chunk::new(&name, vec![]));
                 draft.tail = vec![0];
@@ -176,7 +177,7 @@ impl Made {
         }
     }
 
-    /// All orders of the five mandatory chunks with a block in each, and the optional chunks in many places.
+    /// All orders of the five mandatory chunks with a block in each, and the optional chunks at many positions.
     pub(super) fn orders(&mut self) {
         let small = small();
         for order in permutations(&MANDATORY) {
@@ -203,7 +204,7 @@ impl Made {
         self.module(&backwards.bytes());
     }
 
-    /// NAME and INFO of other lengths than theirs.
+    /// NAME and INFO of other lengths.
     pub(super) fn fixed_lengths(&mut self) {
         let named = Tune {
             name: Some(b"any name".to_vec()),
@@ -218,12 +219,16 @@ impl Made {
         for length in [0, 1, 8, 9, 10, 11, 12, 20, 44] {
             self.draft(&named, |draft| draft.chunk(b"INFO").data.resize(length, 0));
         }
-        // Told lengths that take from the next chunk or leave something for it.
-        for told in [0, 36, 43, 45, 52, 62] {
-            self.draft(&named, |draft| draft.chunk(b"NAME").told = Some(told));
+        // Header lengths that include bytes of the next chunk or exclude bytes of their own.
+        for stored_length in [0, 36, 43, 45, 52, 62] {
+            self.draft(&named, |draft| {
+                draft.chunk(b"NAME").stored_length = Some(stored_length)
+            });
         }
-        for told in [0, 2, 9, 11, 18] {
-            self.draft(&named, |draft| draft.chunk(b"INFO").told = Some(told));
+        for stored_length in [0, 2, 9, 11, 18] {
+            self.draft(&named, |draft| {
+                draft.chunk(b"INFO").stored_length = Some(stored_length)
+            });
         }
     }
 
@@ -254,7 +259,7 @@ impl Made {
         }
     }
 
-    /// Counts that do not fit the blocks.
+    /// Counts that do not match the blocks.
     pub(super) fn counts(&mut self) {
         let small = small();
         for index in 0..4 {
@@ -264,7 +269,7 @@ impl Made {
                 });
             }
         }
-        // Two counts change places, and all are one more.
+        // Two counts are swapped, and all are increased by one.
         self.draft(&small, |draft| draft.put(b"INFO", 0, &[0, 2, 0, 0]));
         self.draft(&small, |draft| draft.put(b"INFO", 4, &[0, 0, 0, 2]));
         self.draft(&small, |draft| {
@@ -272,7 +277,7 @@ impl Made {
         });
     }
 
-    /// A module that has every chunk, cut at every byte; one with blocks in all of them, cut at every nineteenth.
+    /// A module that has every chunk, cut at every byte; and one with blocks in all of them, cut at every nineteenth byte.
     pub(super) fn cuts(&mut self) {
         let mut every = Tune {
             name: Some(b"cut".to_vec()),

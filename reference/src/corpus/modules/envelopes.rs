@@ -1,10 +1,10 @@
-//! Modules whose envelopes are the matter.
+//! Cases for envelopes.
 
-use super::Made;
+use super::CaseBuilder;
 use crate::chunks::Name;
 use crate::draft::{Envelope, Instrument, Tune};
 
-/// A module of one instrument and some envelopes of a kind.
+/// A module of one instrument and some envelopes of one kind.
 pub(super) fn enveloped(version: u8, kind: &Name, envelopes: &[Envelope]) -> Tune {
     let envelopes = |name: &Name| (name == kind).then(|| envelopes.to_vec());
     Tune {
@@ -16,7 +16,7 @@ pub(super) fn enveloped(version: u8, kind: &Name, envelopes: &[Envelope]) -> Tun
     }
 }
 
-/// An envelope for instrument 1 of four points in use, with nothing switched on.
+/// An envelope for instrument 1 with four points in use and no flags.
 pub(super) fn plain_envelope() -> Envelope {
     Envelope {
         instrument: 1,
@@ -37,8 +37,8 @@ fn set_point(envelope: &mut Envelope, index: usize, value: u8) {
     *points[index] = value;
 }
 
-impl Made {
-    /// A case of a plain envelope of a kind with something changed.
+impl CaseBuilder {
+    /// A case of a plain envelope with a change.
     fn envelope(&mut self, kind: &Name, change: impl FnOnce(&mut Envelope)) {
         let mut envelope = plain_envelope();
         change(&mut envelope);
@@ -54,7 +54,7 @@ impl Made {
         }
     }
 
-    /// S1, L1, L2 and S2 in range and out of it, with their bit set and with all others set; L1 over L2.
+    /// S1, L1, L2 and S2 in range and out of range, with their bit set and with all others set; and L1 greater than L2.
     fn named_points(&mut self, kind: &Name) {
         for (index, bit) in [1, 2, 2, 3].into_iter().enumerate() {
             for (value, flags) in [
@@ -99,7 +99,7 @@ impl Made {
         for sections in [0, 31, 32, 0xFF] {
             self.envelope(kind, |envelope| envelope.sections = sections);
         }
-        // The envelope's instrument is one more than there are, and the last.
+        // The envelope's instrument is one more than the number of instruments, and the last.
         let mut tune = enveloped(3, kind, &[plain_envelope()]);
         tune.instruments.clear();
         self.module(&tune.bytes());
@@ -110,7 +110,7 @@ impl Made {
         self.module(&tune.bytes());
     }
 
-    /// A fault in the last point in use, and one just past it; also where the envelope is off, and in positions.
+    /// A fault in the last point in use, and one in the next point; also if the envelope is off, and in positions.
     fn points_in_use(&mut self, kind: &Name) {
         for sections in [0, 1, 30, 31] {
             for past in [0, 1] {
@@ -134,7 +134,7 @@ impl Made {
         });
     }
 
-    /// Two envelopes, the second one wrong or both; two of one instrument are allowed.
+    /// Two envelopes, the second or both invalid. Two envelopes for one instrument are allowed.
     fn several_envelopes(&mut self, kind: &Name) {
         for wrong in 0..4 {
             let mut first = plain_envelope();
@@ -146,7 +146,7 @@ impl Made {
         }
     }
 
-    /// Values of both kinds in both versions. Volumes are the same in both; version 2 has panning values of 0 to 64.
+    /// Values of both kinds in both versions. Volumes are the same in both. In version 2 panning values are 0 to 64.
     pub(super) fn values(&mut self) {
         let old = [0, 32, 64, 65, 128, 256, -1, -128, -32768];
         let new = [

@@ -1,6 +1,6 @@
-//! Modules with several faults, of which the order of the checks chooses one.
+//! Modules with several faults. The order of the checks decides which one is reported.
 
-use super::{rich, Made, REVERSED};
+use super::{rich, CaseBuilder, REVERSED};
 use crate::chunks::Name;
 use crate::draft::{Chunk, Draft, Tune};
 
@@ -9,15 +9,15 @@ use crate::draft::{Chunk, Draft, Tune};
 enum Fault {
     /// A chunk is missing.
     Without(&'static Name),
-    /// A chunk's data have one byte more.
+    /// A chunk's data has one extra byte.
     More(&'static Name),
-    /// Other bytes stand at an offset of a chunk's data.
+    /// A chunk's data has other bytes at an offset.
     Put(&'static Name, usize, &'static [u8]),
 }
 
 use Fault::{More, Put, Without};
 
-/// The faults that are looked for when all chunks are known, in the order of the checks.
+/// The faults that are checked after all chunks are known, in the order of the checks.
 const LATE: [Fault; 32] = [
     Without(b"SMPL"),
     More(b"SONG"),
@@ -73,19 +73,19 @@ impl Fault {
     }
 }
 
-impl Made {
-    /// Two chunks with a fault each: the one in front decides, whatever its number.
+impl CaseBuilder {
+    /// Two chunks with one fault each: the first chunk decides, whatever its number.
     pub(super) fn walk_pairs(&mut self) {
         let info = |length, tracks| Chunk {
             name: *b"INFO",
             data: [&[0; 8][..], &[0, tracks]].concat(),
-            told: Some(length),
+            stored_length: Some(length),
         };
         let empty_envelopes = Chunk::new(b"VENV", vec![0, 0]);
         let far = Chunk {
             name: *b"XYZW",
             data: vec![],
-            told: Some(0xFFFFFF00),
+            stored_length: Some(0xFFFFFF00),
         };
         let faulty: [Vec<Chunk>; 8] = [
             vec![Chunk::new(b"XyZW", vec![])],
@@ -104,12 +104,12 @@ impl Made {
                     draft.chunks.splice(0..0, both);
                 });
             }
-            // Behind the mandatory chunks, and before a cut header.
+            // After the mandatory chunks, and before a cut header.
             self.draft(&Tune::default(), |draft| {
                 draft.chunks.extend(first.iter().cloned());
                 draft.tail = b"XY".to_vec();
             });
-            // With a chunk missing, and with a wrong header.
+            // With a chunk missing, and with an invalid header.
             self.draft(&Tune::default(), |draft| {
                 draft.chunks.pop();
                 draft.chunks.splice(0..0, first.iter().cloned());
@@ -121,27 +121,27 @@ impl Made {
         }
     }
 
-    /// Two faults of one chunk, or of the header: the order of the checks decides.
+    /// Two faults in one chunk, or in the header: the order of the checks decides.
     pub(super) fn same_chunk_pairs(&mut self) {
         let smallest = Tune::default();
         let past = |name: &Name| Chunk {
             name: *name,
             data: vec![1],
-            told: Some(2),
+            stored_length: Some(2),
         };
-        // Letters and version; a short header with other letters.
+        // Letters and version; and a short header with other letters.
         self.draft(&smallest, |draft| {
             draft.header[3..5].copy_from_slice(b"1\x04")
         });
         self.draft(&smallest, |draft| draft.header = b"XBM0\x07".to_vec());
-        // A second one whose data run past the end; one whose letters are wrong too; one before INFO.
+        // A second chunk whose data runs past the end; one whose letters are invalid too; and one before INFO.
         for name in [
             b"NAME", b"INFO", b"SONG", b"INST", b"PATT", b"SMPL", b"vENV",
         ] {
             self.draft(&smallest, |draft| draft.chunks.push(past(name)));
             self.draft(&smallest, |draft| draft.chunks = vec![past(name)]);
         }
-        // A second NAME or INFO of a wrong length; a second INFO with a wrong number.
+        // A second NAME or INFO of a wrong length, and a second INFO with a wrong number.
         for length in [9, 10, 11] {
             self.draft(&smallest, |draft| {
                 draft.chunks.push(Chunk::new(b"INFO", vec![0xFF; length]))
@@ -150,12 +150,12 @@ impl Made {
                 draft.chunks.push(Chunk::new(b"NAME", vec![0; 44]));
                 draft.chunks.push(Chunk::new(b"NAME", vec![0; length]));
             });
-            // A first one of a wrong length and with wrong numbers.
+            // A first INFO of a wrong length and with wrong numbers.
             self.draft(&smallest, |draft| {
                 draft.chunks[0] = Chunk::new(b"INFO", vec![0xFF; length]);
             });
         }
-        // No INFO at all: the first of the four is before it, else something is missing.
+        // No INFO: the first of the four is before it, else a chunk is missing.
         for kept in [b"SONG", b"INST", b"PATT", b"SMPL"] {
             self.draft(&smallest, |draft| {
                 draft.chunks.retain(|chunk| chunk.name == *kept);
@@ -164,11 +164,11 @@ impl Made {
         }
     }
 
-    /// Two faults that are looked for when all chunks are known: all that follow each other, and many others.
+    /// Two faults that are checked after all chunks are known: all consecutive pairs, and many others.
     pub(super) fn late_pairs(&mut self) {
         for (second, &other) in LATE.iter().enumerate() {
             for (first, &one) in LATE[..second].iter().enumerate() {
-                // Modules with envelopes are large, so that fewer of them are taken.
+                // Modules with envelopes are large, so fewer of them are used.
                 let envelopes = one.is_of_an_envelope() || other.is_of_an_envelope();
                 let one_in = if envelopes { 17 } else { 2 };
                 if second == first + 1 {
@@ -187,14 +187,14 @@ impl Made {
         }
     }
 
-    /// The small module with these faults, and with those envelopes that they are in.
+    /// The small module with these faults, and with the envelopes that they need.
     fn late_faults(&mut self, faults: &[Fault], reversed: bool) {
         let concerned = |name: &Name| faults.iter().any(|fault| fault.chunk() == name);
         let mut tune = rich();
         tune.volume_envelopes = tune.volume_envelopes.filter(|_| concerned(b"VENV"));
         tune.panning_envelopes = tune.panning_envelopes.filter(|_| concerned(b"PENV"));
         let mut draft = tune.draft();
-        // From behind, because the first may take a chunk away.
+        // In reverse order, because the first fault may remove a chunk.
         for fault in faults.iter().rev() {
             fault.make(&mut draft);
         }

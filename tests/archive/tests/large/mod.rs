@@ -1,11 +1,11 @@
-//! Modules as large as they may be, and larger ones. What the answers should be is typed by hand too.
+//! Modules of the maximum length, and longer ones. The expected answers are also typed by hand.
 
 use archive::compare::{self, ARCHIVE};
 use archive::large::{fill_playlists, filled_up, with_last, MOST};
 use interface::ModuleAnswer;
 use reference::draft::{Chunk, Envelope, Instrument, Pattern, Sample, Song, Tune};
 
-/// The archive agrees with the reference, and the answer is this one.
+/// The archive agrees with the reference, and this is the answer.
 #[track_caller]
 fn gives(module: &[u8], number: u64, place: usize) {
     if let Err(what) = compare::module(ARCHIVE, module) {
@@ -23,7 +23,7 @@ fn accepted(module: &[u8]) {
     gives(module, 0, 0);
 }
 
-/// The module with another byte at a place is refused; then it is as it was.
+/// The module is refused if the byte at this place is changed. The byte is restored afterwards.
 #[track_caller]
 fn refused_with(module: &mut [u8], place: usize, byte: u8, (number, at): (u64, usize)) {
     let stored = std::mem::replace(&mut module[place], byte);
@@ -37,11 +37,11 @@ fn a_long_other_chunk() {
         accepted(&filled_up(Tune::default().draft(), length));
     }
     let mut module = filled_up(Tune::default().draft(), MOST);
-    // The chunk stands at 8, and INFO, behind it, at 50 bytes before the end: its data end one byte sooner or later.
-    let told = module[15];
-    refused_with(&mut module, 15, told - 1, (5, MOST - 51));
-    refused_with(&mut module, 15, told + 1, (5, MOST - 49));
-    // Its length is as high as it can be told, just what is left, or one more.
+    // The chunk is at 8. INFO follows it, 50 bytes before the end. The chunk's data ends one byte sooner or later.
+    let stored = module[15];
+    refused_with(&mut module, 15, stored - 1, (5, MOST - 51));
+    refused_with(&mut module, 15, stored + 1, (5, MOST - 49));
+    // The length is the largest possible, exactly what is left, or one more.
     module[12..16].copy_from_slice(&[0xFF; 4]);
     gives(&module, 4, 8);
     module[12..16].copy_from_slice(&u32::to_be_bytes(MOST as u32 - 16));
@@ -61,7 +61,7 @@ fn one_byte_too_many() {
     gives(&vec![0xFF; 4 * MOST], 1, 0);
 }
 
-/// A sample that takes nearly the whole module, in frames of each width, with a loop to its end.
+/// A sample that takes nearly the whole module, with frames of each width and a loop to its end.
 #[test]
 fn a_long_sample() {
     for width in [1, 2, 4] {
@@ -78,7 +78,7 @@ fn a_long_sample() {
             ..Tune::default()
         };
         accepted(&filled_up(tune.draft(), MOST));
-        // SMPL stands last, so its header is 16 bytes before the frames, and the block 8.
+        // SMPL is the last chunk, so its header is 16 bytes before the frames, and the block 8 bytes.
         let mut module = tune.bytes();
         let smpl = module.len() - frames * width - 16;
         accepted(&module);
@@ -89,12 +89,12 @@ fn a_long_sample() {
             refused_with(&mut module, smpl + 11, wrong, (11, smpl));
         }
         tune.instruments[0].loop_length += 1;
-        // INST stands behind INFO and an empty SONG: 8 + 18 + 8, and its first block 8 further.
+        // INST follows INFO and an empty SONG at 8 + 18 + 8. Its first block is 8 bytes further.
         gives(&tune.bytes(), 14, 42);
     }
 }
 
-/// 32,767 songs, and playlists that fill the module: the longest have 65,535 entries.
+/// 32,767 songs, with playlists that fill the module. The longest have 65,535 entries.
 #[test]
 fn all_songs() {
     let mut tune = Tune {
@@ -106,7 +106,7 @@ fn all_songs() {
     let mut module = with_last(&tune, b"SONG").bytes();
     assert_eq!(module.len(), MOST);
     accepted(&module);
-    // The last song has 65,535 entries and stands at the end; its last entry is 1,022.
+    // The last song has 65,535 entries and is at the end. Its last entry is 1,022.
     let song = module.len() - 2 * 65_535 - 46;
     let header = MOST
         - tune
@@ -118,17 +118,17 @@ fn all_songs() {
     refused_with(&mut module, MOST - 2, 4, (12, MOST - 2));
     refused_with(&mut module, song + 45, 0xFE, (11, header));
     refused_with(&mut module, header + 3, b'H', (8, MOST));
-    // One song less in INFO, which stands at 8.
+    // One song less in INFO, which is at 8.
     refused_with(&mut module, 8 + 8 + 5, 0xFE, (11, header));
     refused_with(&mut module, 8 + 8 + 4, 0x80, (10, 8 + 8 + 4));
 }
 
-/// Counts of INFO as high as they may be, and no blocks.
+/// The maximum counts in INFO, and no blocks.
 #[test]
 fn counts_without_blocks() {
     let mut module = Tune::default().bytes();
     module[16..24].copy_from_slice(&[0, 255, 0, 255, 0x7F, 0xFF, 4, 0]);
-    // SONG is missing its blocks, and where it needs none INST, then PATT, then SMPL: 8 bytes each from 26 on.
+    // SONG has too few blocks. If it needs none, INST is at fault, then PATT, then SMPL: 8 bytes each, starting at 26.
     gives(&module, 11, 26);
     module[20..22].fill(0);
     gives(&module, 11, 34);
@@ -157,7 +157,7 @@ fn all_patterns() {
     accepted(&module);
     let block = pattern.bytes().len();
     let (first, last) = (MOST - 1_024 * block, MOST - block);
-    // The last row end, a track that is too high, a mask with bit 7; and the first pattern before the last.
+    // The last row end, a track that is too high, a mask with bit 7; and a fault in the first pattern comes before one in the last.
     refused_with(&mut module, MOST - 1, 1, (15, last));
     refused_with(&mut module, last + 6, 255, (15, last));
     refused_with(&mut module, last + 7, 0xBF, (15, last));
@@ -174,7 +174,7 @@ fn a_long_pattern() {
     let mut stream = [2, 0x3F, 1, 2, 3, 4, 5, 6].repeat(31);
     stream.push(0);
     let mut stream = stream.repeat(ROWS);
-    // Entries without fields, until the module is full; the length is odd, so a filler follows.
+    // Entries without fields until the module is full. The length is odd, so a filler follows.
     let mut first = [254, 0].repeat((MOST - 58 - 6 - 1 - stream.len()) / 2);
     first.append(&mut stream);
     assert_eq!(first.len() % 2, 1);
@@ -187,7 +187,7 @@ fn a_long_pattern() {
     assert_eq!(module.len(), MOST);
     accepted(&module);
     let block = MOST - 1 - first.len() - 6;
-    // The filler may be anything; the last row end is before it.
+    // The filler can have any value. The last row end is before it.
     for filler in [1, 0xFF] {
         module[MOST - 1] = filler;
         accepted(&module);
@@ -226,7 +226,7 @@ fn all_instruments_and_samples() {
     let first = MOST - COUNT * 50;
     for index in 0..COUNT {
         let block = first + 50 * index;
-        // The loop begins one frame later, and is no loop where the flags are 0.
+        // The loop begins one frame later. It is no loop if the flags are 0.
         let stored = module[block + 41];
         refused_with(&mut module, block + 41, stored + 1, (14, block));
         refused_with(&mut module, block + 38, 0xFF, (14, block));
@@ -242,7 +242,7 @@ fn all_instruments_and_samples() {
     accepted(&module);
 }
 
-/// 65,535 volume envelopes of one section, and as many panning envelopes of all sections as fit.
+/// 65,535 volume envelopes of one section, and as many panning envelopes of 31 sections as fit.
 #[test]
 fn all_envelopes() {
     let volume = Envelope {
@@ -272,14 +272,14 @@ fn all_envelopes() {
     let draft = with_last(&tune, b"PENV").ordered(&[*b"VENV"]);
     let mut module = filled_up(draft, MOST);
     accepted(&module);
-    // PENV ends the module: its last value, its last instrument, and its second sustain point.
+    // PENV is at the end of the module: its last value, its last instrument, and its second sustain point.
     let last = MOST - 136;
     refused_with(&mut module, MOST - 2, 0x7F, (13, MOST - 2));
     refused_with(&mut module, MOST - 1, 0x7F, (13, MOST - 2));
     refused_with(&mut module, last, 1, (12, last));
     refused_with(&mut module, last + 7, 32, (13, last + 7));
     refused_with(&mut module, last + 3, 30, (13, last + 4));
-    // VENV stands behind the chunk that fills up. The third value of its last envelope is not in use, the second is.
+    // VENV follows the filling chunk. The third value of its last envelope is not in use, the second is.
     let venv = module
         .windows(4)
         .position(|name| name == b"VENV")
@@ -292,12 +292,12 @@ fn all_envelopes() {
     refused_with(&mut module, venv + 9, 0xFE, (11, venv));
 }
 
-/// As many chunks as there is room for, all of them empty.
+/// As many empty chunks as fit.
 #[test]
 fn as_many_chunks_as_fit() {
     let mut module = b"DBM0\x03\x00\x00\x00".to_vec();
     let rest = &Tune::default().bytes()[8..];
-    // INFO has 10 bytes, so six bytes of data bring the rest to a multiple of 8.
+    // INFO has 10 bytes, so six more bytes of data make the rest a multiple of 8.
     let padded = Chunk::new(b"SIXB", vec![0; 6]).bytes();
     while module.len() < MOST - rest.len() - padded.len() {
         module.extend(b"ABCD\0\0\0\0");
@@ -306,7 +306,7 @@ fn as_many_chunks_as_fit() {
     module.extend(rest);
     assert_eq!(module.len(), MOST);
     accepted(&module);
-    // The last of them: another letter, data, and the name of INFO, which has other data and stands twice.
+    // The last of the chunks: another letter, data, and the name of INFO, which then occurs twice with other data.
     let chunk = MOST - rest.len() - 22;
     refused_with(&mut module, chunk + 3, b'd', (5, chunk));
     refused_with(&mut module, chunk + 7, 1, (5, chunk + 9));
