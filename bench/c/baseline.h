@@ -1,5 +1,5 @@
 /*
- * What both baselines share: the answers and the refusals.
+ * Shared by both baselines: the answers and the refusals.
  */
 
 #ifndef BASELINE_H
@@ -14,7 +14,7 @@ typedef struct {
     uint64_t length;
 } baseline_answer;
 
-/* Of the check of a module. Number 0: no refusal. */
+/* The answer of the check of a module. Number 0: no refusal. */
 typedef struct {
     uint64_t number;
     uint64_t place;

@@ -2,8 +2,8 @@
  * Packed rows in C tuned for speed on baseline x86-64 (SSE2, no later
  * instructions).
  *
- * check: in expert_check.h.
- * unpack: the check's table of lengths moves the cursor.
+ * check: see expert_check.h.
+ * unpack: the cursor advances by the check's table of lengths.
  * The rest is in expert_rows.h.
  */
 
@@ -13,7 +13,7 @@
 #include <string.h>
 
 /* The stream has been checked. */
-static void carry_out(
+static void apply_entries(
     const uint8_t *restrict stream, size_t length, uint64_t tracks,
     uint8_t *restrict cells)
 {
@@ -67,7 +67,7 @@ baseline_answer expert_unpack_pattern(
         return answer;
     if (needed > 0)
         memset(out, 0, needed);
-    carry_out(stream, stream_length, tracks, out);
+    apply_entries(stream, stream_length, tracks, out);
     return written(needed);
 }
 

@@ -2,8 +2,8 @@
  * The check of a packed stream in C tuned for speed. Rows and tracks are in
  * range.
  *
- * One table gives an entry's length and whether its mask is sound; while 8
- * bytes are left no entry can be cut, so nothing else is tested.
+ * One table has an entry's length and whether its mask is valid. While 8 bytes
+ * are left no entry can be cut, so nothing else is tested.
  */
 
 #ifndef EXPERT_CHECK_H

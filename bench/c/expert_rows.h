@@ -2,10 +2,10 @@
  * Storing entries, reading one row and packing in C tuned for speed. Rows and
  * tracks are in range, and streams have been checked.
  *
- * read: the check's table of lengths moves the cursor; the fields are stored by
- *       a table of their places, without a branch on each bit.
- * pack: the needed length is counted with SSE2; each row first lists its
- *       non-empty cells without a branch, then writes these, two fields at a
+ * read: the cursor advances by the check's table of lengths. The fields are
+ *       stored by a table of their places, without a branch on each bit.
+ * pack: the needed length is counted with SSE2. Each row first lists its
+ *       non-empty cells without a branch, then writes them, two fields at a
  *       time.
  */
 
@@ -19,7 +19,7 @@
 
 /*
  * For a mask: the field of the first, second, .. stored byte of an entry.
- * Past the number of named fields the last one is repeated.
+ * After the last field of the mask, that field is repeated.
  */
 static const uint8_t named_field[64][8] = {
     {0, 0, 0, 0, 0, 0}, {0, 0, 0, 0, 0, 0}, {1, 1, 1, 1, 1, 1}, {0, 1, 1, 1, 1, 1},
@@ -41,9 +41,10 @@ static const uint8_t named_field[64][8] = {
 };
 
 /*
- * For the mask of a cell's first four fields: where the first pair of fields
- * begins in the cell, and the second (past a zero before a non-zero); where the
- * second pair goes in the entry; where the first four fields end in it.
+ * For the mask of a cell's first four fields: the place in the cell of the
+ * first pair of fields and of the second (after a zero before a non-zero), the
+ * place of the second pair in the entry, and the end of the first four fields
+ * in it.
  */
 static const uint8_t pairs[16][4] = {
     {0, 2, 2, 2}, {0, 2, 3, 3}, {1, 2, 3, 3}, {0, 2, 4, 4},
@@ -80,15 +81,15 @@ static void store_fields(const uint8_t *fields, unsigned mask, uint8_t *cell)
             cell[field] = *fields++;
 }
 
-/* The same where six bytes can be read. */
+/* The same if six bytes can be read. */
 static inline __attribute__((always_inline)) void store_roomy(
     const uint8_t *restrict fields, size_t mask, uint8_t *restrict cell)
 {
     if (mask == 0)
         return;
     /*
-     * Backwards: what does not belong to the entry goes to the last named
-     * field first, and is overwritten by the byte that belongs there.
+     * In reverse order: bytes after the entry are stored in the last field of
+     * the mask first, and are overwritten by the byte that belongs there.
      */
     const uint8_t *place = named_field[mask];
     if (mask >= 16) {
@@ -102,8 +103,8 @@ static inline __attribute__((always_inline)) void store_roomy(
 }
 
 /*
- * The entries of one row, carried out in cells of zeros. The stream ends at
- * `end`. Returns where the row ends.
+ * Applies the entries of one row to cells of zeros. The stream ends at `end`.
+ * Returns the end of the row.
  */
 static inline const uint8_t *expert_load_row(
     const uint8_t *restrict at, const uint8_t *end, uint8_t *restrict row)
@@ -186,7 +187,7 @@ static size_t expert_packed_length(const uint8_t *cells, uint64_t rows, uint64_t
     return length;
 }
 
-/* One entry, no byte past it written. Returns where it ends. */
+/* Writes one entry, and no byte after it. Returns its end. */
 static uint8_t *write_exactly(const uint8_t *cell, unsigned track, uint8_t *out)
 {
     unsigned mask = 0;
@@ -200,7 +201,7 @@ static uint8_t *write_exactly(const uint8_t *cell, unsigned track, uint8_t *out)
     return out;
 }
 
-/* One entry where there is room for 8 bytes. Returns where it ends. */
+/* Writes one entry if there are 8 bytes of output. Returns its end. */
 static uint8_t *write_roomy(const uint8_t *cell, unsigned track, uint8_t *out)
 {
     uint32_t four = load_4(cell);
@@ -225,8 +226,8 @@ static uint8_t *write_roomy(const uint8_t *cell, unsigned track, uint8_t *out)
 }
 
 /*
- * Bytes behind the stream, up to `needed`, may be overwritten. Returns where
- * the stream ends.
+ * Bytes after the stream, up to `needed`, may be overwritten. Returns the end
+ * of the stream.
  */
 static uint8_t *expert_write_rows(
     const uint8_t *restrict cells, uint64_t rows, uint64_t tracks,

@@ -1,13 +1,13 @@
 /*
  * The check of a whole module in C written for speed on baseline x86-64, once
- * with the stream check of plain.c and once with that of expert.c. It leaves
- * where the chunks stand.
+ * with the stream check of plain.c and once with that of expert.c. It returns
+ * the places of the chunks.
  *
- * One pass over the chunks notes where the covered ones stand. Then the blocks
- * are gone over, each compared with the end of its chunk once (a song twice);
- * what a later rule needs is noted on the way: the first wrong playlist entry,
- * the frames of the samples, the first loop outside its sample. A number is one
- * load and a byte swap. The data of samples and of other chunks are not read.
+ * One pass over the chunks records the places of the covered ones. A pass over
+ * the blocks compares each with the end of its chunk once (a song twice). It
+ * also records what later rules need: the first invalid playlist entry, the
+ * frames of the samples, the first loop outside its sample. A number is one
+ * load and a byte swap. The data of samples and of other chunks is not read.
  *
  * plain:  playlists and values are compared one by one.
  * expert: they are compared 8 and 4 at a time with SSE2.
@@ -27,8 +27,8 @@
 enum { NAME, INFO, SONG, INST, PATT, SMPL, VENV, PENV, OTHER };
 
 #define BIT(kind) (1u << (kind))
-#define BEHIND_INFO (BIT(SONG) | BIT(INST) | BIT(PATT) | BIT(SMPL))
-#define MANDATORY (BIT(INFO) | BEHIND_INFO)
+#define AFTER_INFO (BIT(SONG) | BIT(INST) | BIT(PATT) | BIT(SMPL))
+#define MANDATORY (BIT(INFO) | AFTER_INFO)
 
 enum {
     MOST_BYTES = 16777216,
@@ -61,7 +61,7 @@ typedef struct {
     const uint8_t *wrong_loop;
 } layout;
 
-/* Values of envelopes: from -bias to most - bias, as numbers of 16 bits. */
+/* Allowed values of envelopes: from -bias to most - bias, as 16-bit numbers. */
 typedef struct {
     uint16_t bias;
     uint16_t most;
@@ -73,7 +73,7 @@ static const range pannings = {128, 256};
 typedef baseline_answer stream_check(
     const uint8_t *stream, size_t length, uint64_t rows, uint64_t tracks);
 
-/* The index of the first wrong one, or the count if there is none. */
+/* The index of the first invalid entry, or the count if there is none. */
 typedef size_t entries_check(
     const uint8_t *entries, size_t count, unsigned patterns);
 typedef size_t values_check(const uint8_t *points, size_t count, range allowed);
@@ -108,13 +108,13 @@ INLINE baseline_verdict refused(
     return (baseline_verdict){number, (uint64_t)(at - found->module)};
 }
 
-/* Where the header of a covered chunk stands. */
+/* The header of a covered chunk. */
 INLINE const uint8_t *header(const layout *found, unsigned kind)
 {
     return found->chunks[kind].data - 8;
 }
 
-/* All four bytes at once: bit 7 of each tells whether it is no letter. */
+/* All four bytes at once: bit 7 of each is set if the byte is not a letter. */
 INLINE int four_letters(uint32_t identifier)
 {
     uint32_t low = identifier & 0x7F7F7F7F;
@@ -133,7 +133,7 @@ static const uint32_t identifiers[OTHER] = {
     IDENTIFIER('V', 'E', 'N', 'V'), IDENTIFIER('P', 'E', 'N', 'V'),
 };
 
-/* Always all eight, without a branch: which one comes is hard to foretell. */
+/* Always compares all eight, without a branch, since the kind is hard to predict. */
 INLINE unsigned kind_of(uint32_t identifier)
 {
     unsigned kind = OTHER;
@@ -163,13 +163,13 @@ static baseline_verdict read_info(layout *found, const uint8_t *data)
     return accepted();
 }
 
-/* 6, 7, 9 and 10 of the covered chunk whose header stands at a place. */
-static baseline_verdict note_chunk(
+/* 6, 7, 9 and 10 for the covered chunk whose header is at a place. */
+static baseline_verdict record_chunk(
     layout *found, unsigned kind, const uint8_t *at, uint32_t length)
 {
     if (found->present & BIT(kind))
         return refused(6, found, at);
-    if ((BEHIND_INFO & BIT(kind)) && !(found->present & BIT(INFO)))
+    if ((AFTER_INFO & BIT(kind)) && !(found->present & BIT(INFO)))
         return refused(7, found, at);
     if ((kind == NAME && length != NAME_BYTES) || (kind == INFO && length != INFO_BYTES))
         return refused(9, found, at);
@@ -205,7 +205,7 @@ INLINE baseline_verdict read_chunks(
             return refused(4, found, at);
         unsigned kind = kind_of(identifier);
         if (kind != OTHER) {
-            baseline_verdict verdict = note_chunk(found, kind, at, (uint32_t)bytes);
+            baseline_verdict verdict = record_chunk(found, kind, at, (uint32_t)bytes);
             if (verdict.number != 0)
                 return verdict;
         }
@@ -219,7 +219,7 @@ INLINE baseline_verdict read_chunks(
     return accepted();
 }
 
-/* Whether the songs fill their chunk; notes the first wrong playlist entry. */
+/* Whether the songs fill their chunk. Records the first invalid playlist entry. */
 INLINE int songs_fill(layout *found, entries_check *first_wrong)
 {
     const uint8_t *at = found->chunks[SONG].data;
@@ -244,7 +244,7 @@ INLINE int songs_fill(layout *found, entries_check *first_wrong)
     return left == 0;
 }
 
-/* A block may end past its chunk; then the next one, or the end, tells. */
+/* A block may end past its chunk. The next block, or the end, detects this. */
 static int patterns_fill(const layout *found)
 {
     const uint8_t *data = found->chunks[PATT].data;
@@ -259,7 +259,7 @@ static int patterns_fill(const layout *found)
     return at == length;
 }
 
-/* Whether the samples fill their chunk; notes their frames. */
+/* Whether the samples fill their chunk. Records their frames. */
 static int samples_fill(layout *found)
 {
     const uint8_t *data = found->chunks[SMPL].data;
@@ -301,7 +301,7 @@ INLINE baseline_verdict check_blocks(layout *found, entries_check *first_wrong)
     return accepted();
 }
 
-/* 12 and 13 of the instruments; notes the first wrong loop. */
+/* 12 and 13 for the instruments. Records the first invalid loop. */
 static baseline_verdict check_instruments(layout *found)
 {
     const uint8_t *at = found->chunks[INST].data;
@@ -326,7 +326,7 @@ static baseline_verdict check_instruments(layout *found)
     return accepted();
 }
 
-/* 12 and 13 of the envelopes of a chunk. */
+/* 12 and 13 for the envelopes of a chunk. */
 INLINE baseline_verdict check_envelopes(
     const layout *found, unsigned kind, range allowed, values_check *first_wrong)
 {
@@ -346,7 +346,7 @@ INLINE baseline_verdict check_envelopes(
             return refused(13, found, at + 2);
         if (sections > 31)
             return refused(13, found, at + 3);
-        /* Flags are hard to foretell, their rules being broken is not. */
+        /* Flags are hard to predict. A broken rule is not. */
         if (sustained & (at[4] > sections))
             return refused(13, found, at + 4);
         if (looped & (at[5] > sections))
@@ -432,7 +432,7 @@ INLINE int all_zeros(__m128i bytes)
     return _mm_movemask_epi8(zeros) == 0xFFFF;
 }
 
-/* Only where one is wrong are they looked at one by one, from the front. */
+/* Entries are compared one by one, from the first, only if one is invalid. */
 INLINE size_t expert_entries(
     const uint8_t *entries, size_t count, unsigned patterns)
 {
@@ -449,7 +449,7 @@ INLINE size_t expert_entries(
     return whole + plain_entries(entries + 2 * whole, count - whole, patterns);
 }
 
-/* Positions, which may be any, stand in the lower half of each point. */
+/* Positions can have any value. They are in the lower half of each point. */
 INLINE size_t expert_values(const uint8_t *points, size_t count, range allowed)
 {
     const __m128i bias = _mm_set1_epi32((int)((uint32_t)allowed.bias << 16));

@@ -1,5 +1,5 @@
 /*
- * Packed rows in plain C: what one writes from the rules of the format.
+ * Packed rows in plain C, written directly from the rules of the format.
  */
 
 #include "plain_check.h"

@@ -9,7 +9,7 @@
 #include <stddef.h>
 #include <stdint.h>
 
-/* The entries of one row, carried out in cells of zeros. Returns where the row ends. */
+/* Applies the entries of one row to cells of zeros. Returns the end of the row. */
 static inline const uint8_t *plain_load_row(const uint8_t *at, uint8_t *row)
 {
     uint8_t track;
@@ -36,7 +36,7 @@ static size_t plain_packed_length(const uint8_t *cells, uint64_t rows, uint64_t 
     return length;
 }
 
-/* Returns where the stream ends. */
+/* Returns the end of the stream. */
 static uint8_t *plain_write_rows(
     const uint8_t *cells, uint64_t rows, uint64_t tracks, uint8_t *out)
 {

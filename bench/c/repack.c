@@ -1,14 +1,14 @@
 /*
  * Repacking a whole module, once as plain and once as expert C.
  *
- * The module is checked. Where the output is shorter than the module, one pass
- * over the patterns counts how long they become; they never become longer.
- * Another pass writes them. Each takes a pattern row by row, in memory for one
- * row. All else is copied, in one piece before PATT's length and one behind its
- * data.
+ * The module is checked. If the output is shorter than the module, one pass
+ * over the patterns computes their repacked length, which is never longer.
+ * Another pass writes them. Each pass processes a pattern row by row, in memory
+ * for one row. Everything else is copied, in one piece before PATT's length and
+ * one after its data.
  *
  * plain:  rows are read and packed as in plain.c.
- * expert: rows are read and packed as in expert.c. The row stands before
+ * expert: rows are read and packed as in expert.c. The row is followed by
  *         zeros, so that its cells are counted in whole groups of 8.
  */
 
@@ -16,14 +16,14 @@
 #include "module_check.h"
 #include "plain_rows.h"
 
-/* Of the most tracks, rounded up to a multiple of 8, and one cell more. */
+/* For the maximum number of tracks, rounded up to a multiple of 8, and one extra cell. */
 enum { ROW_BYTES = (256 + 1) * 6 };
 
-/* The cells of a row. Returns where it ends in its stream, which ends at `end`. */
+/* Loads the cells of a row. Returns the end of the row in its stream, which ends at `end`. */
 typedef const uint8_t *row_load(
     const uint8_t *at, const uint8_t *end, unsigned tracks, uint8_t *row);
 typedef size_t row_length(const uint8_t *row, unsigned tracks);
-/* Bytes up to `end` may be overwritten. Returns where the row ends in the output. */
+/* Bytes up to `end` may be overwritten. Returns the end of the row in the output. */
 typedef uint8_t *row_write(
     const uint8_t *row, unsigned tracks, uint8_t *out, const uint8_t *end);
 
@@ -33,7 +33,7 @@ INLINE void store_4(uint8_t *to, uint32_t value)
     memcpy(to, &word, 4);
 }
 
-/* How many bytes the data of PATT become. */
+/* The repacked length of the data of PATT. */
 INLINE size_t patterns_length(
     const layout *found, row_load *load, row_length *packed_length)
 {
@@ -57,8 +57,8 @@ INLINE size_t patterns_length(
 }
 
 /*
- * Behind the patterns `rest` bytes will be copied, and bytes up to `out_end`
- * may be overwritten anyway. Returns where the patterns end.
+ * After the patterns `rest` bytes are copied later, so bytes up to `out_end` may
+ * be overwritten. Returns the end of the patterns.
  */
 INLINE uint8_t *write_patterns(
     const layout *found, row_load *load, row_write *write,
@@ -87,7 +87,7 @@ INLINE uint8_t *write_patterns(
     return out;
 }
 
-/* 17 of a module that was accepted. */
+/* 17 for an accepted module. */
 INLINE baseline_answer repack(
     const layout *found, size_t length, uint8_t *out, size_t out_length,
     row_load *load, row_length *packed_length, row_write *write)
@@ -95,8 +95,8 @@ INLINE baseline_answer repack(
     const uint8_t *module = found->module;
     chunk patt = found->chunks[PATT];
     size_t start = (size_t)(patt.data - module);
-    size_t behind = start + patt.length;
-    size_t rest = length - behind;
+    size_t end = start + patt.length;
+    size_t rest = length - end;
     const uint8_t *out_end = out;
     if (out_length < length) {
         size_t needed = start + patterns_length(found, load, packed_length) + rest;
@@ -107,7 +107,7 @@ INLINE baseline_answer repack(
     memcpy(out, module, start - 4);
     uint8_t *data_end = write_patterns(found, load, write, out + start, rest, out_end);
     store_4(out + start - 4, (uint32_t)(data_end - (out + start)));
-    memcpy(data_end, module + behind, rest);
+    memcpy(data_end, module + end, rest);
     return written((size_t)(data_end - out) + rest);
 }
 
@@ -131,7 +131,7 @@ INLINE uint8_t *plain_row_write(
     return plain_write_rows(row, 1, tracks, out);
 }
 
-/* A multiple of 8 and one more. */
+/* A multiple of 8, and one more. */
 INLINE size_t counted_cells(unsigned tracks)
 {
     return ((tracks + 7) & ~(size_t)7) + 1;
@@ -144,7 +144,7 @@ INLINE const uint8_t *expert_row(
     return expert_load_row(at, end, row);
 }
 
-/* The cells of zeros behind the row add nothing. */
+/* The cells of zeros after the row add nothing. */
 INLINE size_t expert_row_length(const uint8_t *row, unsigned tracks)
 {
     return expert_packed_length(row, 1, counted_cells(tracks));

@@ -1,9 +1,9 @@
 /*
- * All records of a module at once with libdbm0.a, called from C: expectations
- * typed by hand.
+ * All records of a module from libdbm0.a, called from C, with expectations typed
+ * by hand.
  *
- * Prints one line for each expectation that fails and, last, how many passed
- * and failed. The exit status is 1 if any failed.
+ * Prints one line for each expectation that fails. The last line has the numbers
+ * of passed and failed expectations. The exit status is 1 if any failed.
  */
 
 #define _DEFAULT_SOURCE /* for MAP_ANONYMOUS */
@@ -28,7 +28,7 @@
     "\x03\0" NO_NAME "\0\0\0\0\0\0\0\0\0\x04" "\0\0" "\0\0"
 
 /*
- * Records of all kinds, the chunks in an order of their own.
+ * Records of all kinds, with the chunks in an unusual order.
  *
  *      0 the version, revision $21
  *      8 VENV   16 count, 18 the envelope
@@ -53,7 +53,7 @@
 #define UNUSED "\x12\x34\x56\x78"
 #define UNUSED_28 TIMES_11(UNUSED) TIMES_11(UNUSED) TIMES_4(UNUSED) UNUSED UNUSED
 #define ZEROS_28 TIMES_11(ZEROS_4) TIMES_11(ZEROS_4) TIMES_4(ZEROS_4) ZEROS_4 ZEROS_4
-/* Four points are in use; the last stands at $FFFF. */
+/* Four points are in use. The last has position $FFFF. */
 #define VOLUME "\0\x01" "\x0F\x03" "\x03\x01\x02\0" \
     "\0\0\0\0" "\0\x01\0\x40" "\0\x02\0\x21" "\xFF\xFF\0\x40"
 
@@ -70,7 +70,7 @@
     "SMPL" "\0\0\0\x1E" "\0\0\0\x01" "\0\0\0\x04" "PATT" "\0\0\0\x02" "\0\0\0\x01" "\x80\0" \
     "\0\0\0\x04" "\0\0\0\0"
 
-/* 60 bytes, the songs, the instrument, the rows of two patterns, three samples, two envelopes: 502. */
+/* 60 bytes, the songs, the instrument, the rows of two patterns, three samples, two envelopes: 502 bytes. */
 #define FULL_RECORDS(version, panning) \
     version "\x21" NAME INFO "\0\x01" "\0\x01" \
     SONGS INSTRUMENT \
@@ -79,7 +79,7 @@
     VOLUME ZEROS_28 \
     panning
 
-/* One point in use, or all: in version 3 signed and as stored, in version 2 4v - 128. S1, L1, L2 and S2 are as stored. */
+/* One point in use, or all: signed and as stored in version 3, 4v - 128 in version 2. S1, L1, L2 and S2 are as stored. */
 #define ONE_POINT "\0\x01" "\0\0" "\x20\x21\x22\x23"
 #define ALL_POINTS "\0\x01" "\x01\x1F" "\xFF\0\0\xFF"
 #define FULL_3 FULL("\x03", ONE_POINT "\0\x07\xFF\x80" UNUSED UNUSED UNUSED UNUSED_28)
@@ -111,20 +111,20 @@ static void modules(void)
     WRITES(FULL("\x02", ALL_POINTS TIMES_4(EIGHT_2)), FULL_RECORDS("\x02", ALL_POINTS TIMES_4(EIGHT_2_SHOWN)));
 }
 
-/* A name, and envelopes of which there are none. */
-static void behind_the_others(void)
+/* A name, and chunks of no envelopes, after the other chunks. */
+static void after_the_others(void)
 {
     WRITES(SMALLEST "VENV" "\0\0\0\x02" "\0\0" "PENV" "\0\0\0\x02" "\0\0", SMALLEST_RECORDS);
     WRITES(SMALLEST "NAME" "\0\0\0\x2C" NAME,
           "\x03\0" NAME "\0\0\0\0\0\0\0\0\0\x04" "\0\0" "\0\0");
-    /* Bytes of NAME that are zeros stay where they are. */
+    /* Zero bytes inside NAME are kept. */
     WRITES(SMALLEST "NAME" "\0\0\0\x2C" "\0\xFF" TIMES_4("\0 \0 ") TIMES_4("\0\0\0\0\0\0") "\x80\0",
           "\x03\0" "\0\xFF" TIMES_4("\0 \0 ") TIMES_4("\0\0\0\0\0\0") "\x80\0" "\0\0\0\0\0\0\0\0\0\x04" "\0\0" "\0\0");
 }
 
 static void refused_modules(void)
 {
-    LEND(FULL_3);
+    LOAD(FULL_3);
     CHANGED(0, 'X', DBM0_MODULE_NOT_DBM0, 0);
     CHANGED(4, 4, DBM0_MODULE_VERSION, 4);
     CHANGED(578, 0x1F, DBM0_MODULE_CHUNK_CUT, 571);
@@ -139,7 +139,7 @@ static void refused_modules(void)
     CHANGED(244, 1, DBM0_MODULE_FIELD_RANGE, 244);
     CHANGED(529, 4, DBM0_MODULE_LOOP, 484);
     CHANGED(558, 0x47, DBM0_MODULE_STREAM_BROKEN, 551);
-    /* Two faults: the first in the order of the checks. */
+    /* Two faults: the first in the order of the checks is reported. */
     module[558] = 0x47;
     CHANGED(529, 4, DBM0_MODULE_LOOP, 484);
     module[558] = 0x03;
@@ -156,14 +156,14 @@ static void refused_modules(void)
     refused(DBM0_MODULE_CHUNK_CUT, 571, 700, __LINE__);
 }
 
-/* What is written is what the queries answer. */
+/* The bytes equal the answers of the queries. */
 static void queries(void)
 {
     uint8_t *out;
     dbm0_envelope_answer envelope;
     size_t point;
 
-    LEND(FULL_2);
+    LOAD(FULL_2);
     out = output(502);
     HOLDS(dbm0_records(module, length, out, 502).length == 502);
     HOLDS(dbm0_version(module, length).version == out[0] && dbm0_version(module, length).revision == out[1]);
@@ -191,7 +191,7 @@ int main(void)
     if (!ready())
         return 1;
     modules();
-    behind_the_others();
+    after_the_others();
     refused_modules();
     queries();
     NOTHING(FULL_3, 502);

@@ -1,4 +1,4 @@
-/* Expectations: each is counted, and one that fails is printed with its line. */
+/* Expectations are counted. One that fails is printed with its line. */
 
 #ifndef EXPECT_H
 #define EXPECT_H
@@ -19,7 +19,7 @@ static void count(int holds, int line, const char *what)
 
 #define HOLDS(what) count((what), __LINE__, "does not hold: " #what)
 
-/* Prints the counts. Gives the exit status. */
+/* Prints the counts. Returns the exit status. */
 static int counted(void)
 {
     printf("%u passed, %u failed\n", passed, failed);

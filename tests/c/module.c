@@ -1,8 +1,9 @@
 /*
- * libdbm0.a beside libpattern.a, called from C: expectations typed by hand.
+ * libdbm0.a together with libpattern.a, called from C, with expectations typed
+ * by hand.
  *
- * Prints one line for each expectation that fails and, last, how many passed
- * and failed. The exit status is 1 if any failed.
+ * Prints one line for each expectation that fails. The last line has the numbers
+ * of passed and failed expectations. The exit status is 1 if any failed.
  */
 
 #define _DEFAULT_SOURCE /* for MAP_ANONYMOUS */
@@ -36,17 +37,17 @@ static int make_memory(void)
     return memory != MAP_FAILED && mprotect(memory + PAGES * PAGE, PAGE, PROT_NONE) == 0;
 }
 
-/* The module stands just before the end of the memory. */
+/* The module ends at the end of the memory. */
 static void check(int line, const char *module, size_t length, uint64_t number, uint64_t place)
 {
-    uint8_t *lent = memory + PAGES * PAGE - length;
-    memcpy(lent, module, length);
-    compare(dbm0_check_module(lent, length), number, place, line);
-    if (memcmp(lent, module, length) != 0)
+    uint8_t *given = memory + PAGES * PAGE - length;
+    memcpy(given, module, length);
+    compare(dbm0_check_module(given, length), number, place, line);
+    if (memcmp(given, module, length) != 0)
         count(0, line, "the module is changed");
 }
 
-/* A module that is written as one string of bytes. */
+/* A module that is written as one string literal. */
 #define CHECK(module, number, place) \
     check(__LINE__, (module), sizeof(module) - 1, (number), (place))
 #define ACCEPTS(module) CHECK(module, 0, 0)
@@ -66,7 +67,7 @@ static void check(int line, const char *module, size_t length, uint64_t number, 
 #define SMPL_0 "SMPL" ZEROS_4
 #define SMALLEST HEADER INFO_0 SONG_0 INST_0 PATT_0 SMPL_0
 
-/* A module with nothing but patterns, or one. PATT stands at 42, and its first block at 50. */
+/* A module with only patterns, or with one. PATT is at 42, and its first block at 50. */
 #define PATTERNS(number, tracks, length, blocks) \
     HEADER "INFO" "\0\0\0\x0A" "\0\0\0\0\0\0" number tracks \
     SONG_0 INST_0 "PATT" length blocks SMPL_0
@@ -109,8 +110,8 @@ static void check(int line, const char *module, size_t length, uint64_t number, 
 #define WHOLE HEADER INFO_1 SONG_1 INST_1 PATT_1 SMPL_1 VENV_1 PENV_1 NAME_1 DSPE_1
 
 /*
- * The whole module with some bytes changed: PUT as often as needed, then
- * GIVES, which sees what the check says of it and begins anew.
+ * The whole module with some bytes changed: PUT as often as needed, then GIVES,
+ * which compares the answer of the check and restores the module.
  */
 static char edited[sizeof(WHOLE)] = WHOLE;
 
@@ -150,7 +151,7 @@ static void accepted(void)
     ACCEPTS(SMALLEST "VENV" "\0\0\0\x02" "\0\0" "PENV" "\0\0\0\x02" "\0\0");
 }
 
-/* 1: over 16,777,216 bytes. */
+/* 1: more than 16,777,216 bytes. */
 static void too_long(void)
 {
     static uint8_t large[16777217];
@@ -164,7 +165,7 @@ static void too_long(void)
     compare(dbm0_check_module(large, 16777217), 1, 0, __LINE__);
 }
 
-/* 2: under 8 bytes, or not DBM0. */
+/* 2: fewer than 8 bytes, or not DBM0. */
 static void no_module(void)
 {
     compare(dbm0_check_module(NULL, 0), 2, 0, __LINE__);
@@ -175,7 +176,7 @@ static void no_module(void)
     CHECK("dbm0" "\x03\0\0\0", 2, 0);
     PUT(0, "\0"), GIVES(2, 0);
     PUT(3, "O"), GIVES(2, 0);
-    /* Before 3. */
+    /* Has priority over 3. */
     CHECK("DBM1" "\x07\0\0\0", 2, 0);
 }
 
@@ -190,17 +191,17 @@ static void unknown_version(void)
     PUT(5, "\x0A"), GIVES(3, 4);
     PUT(5, "\xA0"), GIVES(3, 4);
     PUT(5, "\xFF"), GIVES(3, 4);
-    /* Before 4. */
+    /* Has priority over 4. */
     CHECK("DBM0" "\x01\0\0\0" "I", 3, 4);
 }
 
-/* 4: the header or the data of a chunk are cut. */
+/* 4: the header or the data of a chunk is cut. */
 static void cut_chunk(void)
 {
     CHECK(SMALLEST "A", 4, 58);
     CHECK(SMALLEST "ABCD", 4, 58);
     CHECK(SMALLEST "ABCD" "\0\0\0", 4, 58);
-    /* Whatever the letters. */
+    /* Whatever the letters are. */
     CHECK(SMALLEST "\0", 4, 58);
     CHECK(SMALLEST "abcdefg", 4, 58);
     CHECK(SMALLEST "ABCD" "\0\0\0\x01", 4, 58);
@@ -209,9 +210,9 @@ static void cut_chunk(void)
     check(__LINE__, WHOLE, 626, 4, 616);
     check(__LINE__, WHOLE, 623, 4, 616);
     check(__LINE__, WHOLE, 81, 4, 26);
-    /* A length that leads to a header with too few bytes behind it. */
+    /* A length that leads to a header that is followed by too few bytes. */
     PUT(623, "\x02"), GIVES(4, 626);
-    /* Before 6 and 7. */
+    /* Has priority over 6 and 7. */
     CHECK(SMALLEST "INFO" "\0\0\0\x01", 4, 58);
     CHECK(HEADER "SONG" "\0\0\0\x01", 4, 8);
 }
@@ -227,13 +228,13 @@ static void no_letters(void)
     CHECK(SMALLEST "ABC\xC1" ZEROS_4, 5, 58);
     ACCEPTS(SMALLEST "AZZA" ZEROS_4);
     PUT(8, "Info"), GIVES(5, 8);
-    /* Also where the data run past the end. */
+    /* Also if the data runs past the end. */
     CHECK(SMALLEST "ABC1" "\xFF\xFF\xFF\xFF", 5, 58);
-    /* An earlier chunk's fault comes before a later one's. */
+    /* A fault in an earlier chunk has priority over one in a later chunk. */
     CHECK(HEADER SONG_0 "inst" ZEROS_4, 7, 8);
 }
 
-/* 6: a covered chunk stands a second time. */
+/* 6: a covered chunk occurs a second time. */
 static void repeated(void)
 {
     CHECK(SMALLEST NAME_1 NAME_1, 6, 110);
@@ -245,7 +246,7 @@ static void repeated(void)
     CHECK(WHOLE VENV_1, 6, 627);
     CHECK(WHOLE PENV_1, 6, 627);
     ACCEPTS(WHOLE DSPE_1);
-    /* Before 9 and before the fault of a later chunk. */
+    /* Has priority over 9 and over the fault of a later chunk. */
     CHECK(SMALLEST "INFO" ZEROS_4, 6, 58);
     CHECK(SMALLEST SONG_0 "song" ZEROS_4, 6, 58);
 }
@@ -258,7 +259,7 @@ static void before_info(void)
     CHECK(HEADER PATT_0 INFO_0 SONG_0 INST_0 SMPL_0, 7, 8);
     CHECK(HEADER SMPL_0 INFO_0 SONG_0 INST_0 PATT_0, 7, 8);
     CHECK(HEADER NAME_1 SMPL_0, 7, 60);
-    /* Also where no INFO ever comes. */
+    /* Also if there is no INFO at all. */
     CHECK(HEADER SONG_0, 7, 8);
 }
 
@@ -272,7 +273,7 @@ static void missing_chunk(void)
     CHECK(HEADER INFO_0 SONG_0 PATT_0 SMPL_0, 8, 50);
     CHECK(HEADER INFO_0 SONG_0 INST_0 SMPL_0, 8, 50);
     CHECK(HEADER INFO_0 SONG_0 INST_0 PATT_0, 8, 50);
-    /* Before 11: INFO tells of a song. */
+    /* Has priority over 11: INFO has a song. */
     CHECK(HEADER INFO_1 SONG_0 INST_0 PATT_0, 8, 50);
 }
 
@@ -285,7 +286,7 @@ static void wrong_length(void)
     CHECK(HEADER "INFO" "\0\0\0\x09" "\0\0\0\0\0\0\0\0\x04", 9, 8);
     CHECK(HEADER "INFO" "\0\0\0\x0B" "\0\0\0\0\0\0\0\0\0\x04\0" SONG_0 INST_0 PATT_0 SMPL_0, 9, 8);
     CHECK(HEADER "INFO" ZEROS_4, 9, 8);
-    /* Before 10. */
+    /* Has priority over 10. */
     CHECK(HEADER "INFO" "\0\0\0\x0B" "\xFF\xFF\xFF\xFF\xFF\xFF\xFF\xFF\xFF\xFF\xFF", 9, 8);
 }
 
@@ -305,20 +306,20 @@ static void wrong_info(void)
     /* The lowest offset first. */
     PUT(16, "\xFF\xFF\xFF\xFF\xFF\xFF\xFF\xFF\xFF\xFF"), GIVES(10, 16);
     PUT(20, "\xFF\xFF\xFF\xFF\xFF\xFF"), GIVES(10, 20);
-    /* As high as they may be: then the blocks are missing. */
+    /* At the upper limits: then the blocks are missing. */
     PUT(16, "\0\xFF"), GIVES(11, 82);
     PUT(18, "\0\xFF"), GIVES(11, 156);
     PUT(20, "\x7F\xFF"), GIVES(11, 26);
     PUT(22, "\x04\0"), GIVES(11, 140);
-    /* The fault of an earlier chunk comes before it, that of a later one does not. */
+    /* A fault in an earlier chunk has priority, one in a later chunk does not. */
     CHECK(HEADER "info" ZEROS_4 "INFO" "\0\0\0\x0A" ZEROS_4 ZEROS_4 "\0\0", 5, 8);
     CHECK(HEADER "INFO" "\0\0\0\x0A" ZEROS_4 ZEROS_4 "\0\0" "info" ZEROS_4, 10, 24);
 }
 
-/* 11: the blocks do not fill the chunk, or a sample's flags. */
+/* 11: the blocks do not fill the chunk, or a sample's flags are invalid. */
 static void wrong_blocks(void)
 {
-    /* Too many, and too few. */
+    /* Too many blocks, and too few. */
     PUT(16, "\0\0"), GIVES(11, 82);
     PUT(16, "\0\x02"), GIVES(11, 82);
     PUT(18, "\0\0"), GIVES(11, 156);
@@ -352,17 +353,17 @@ static void wrong_blocks(void)
     CHECK(SMALLEST "VENV" ZEROS_4, 11, 58);
     CHECK(SMALLEST "PENV" "\0\0\0\x01" "\0", 11, 58);
     CHECK(SMALLEST "VENV" "\0\0\0\x03" "\0\0\0", 11, 58);
-    /* The filler lacks. */
+    /* The filler is missing. */
     CHECK(PATTERN("\0\x04", "\0\0\0\x07", "\0\x01" "\0\0\0\x01" "\0"), 11, 42);
     ACCEPTS(PATTERN("\0\x04", "\0\0\0\x08", "\0\x01" "\0\0\0\x01" "\0" "\0"));
-    /* SONG, INST, PATT, SMPL, VENV, PENV, wherever they stand: PENV at 8, VENV at 16. */
+    /* SONG, INST, PATT, SMPL, VENV, PENV in this order, wherever they are: PENV at 8, VENV at 16. */
     CHECK(HEADER "PENV" ZEROS_4 "VENV" ZEROS_4 INFO_1 SMPL_0 PATT_0 INST_0 SONG_0, 11, 66);
     CHECK(HEADER "PENV" ZEROS_4 "VENV" ZEROS_4 INFO_1 SMPL_0 PATT_0 INST_0 SONG_1, 11, 58);
     CHECK(HEADER "PENV" ZEROS_4 "VENV" ZEROS_4 INFO_1 SMPL_0 PATT_0 INST_1 SONG_1, 11, 50);
     CHECK(HEADER "PENV" ZEROS_4 "VENV" ZEROS_4 INFO_1 SMPL_0 PATT_1 INST_1 SONG_1, 11, 42);
     CHECK(HEADER "PENV" ZEROS_4 "VENV" ZEROS_4 INFO_1 SMPL_1 PATT_1 INST_1 SONG_1, 11, 16);
     CHECK(HEADER "PENV" ZEROS_4 INFO_1 SMPL_1 PATT_1 INST_1 SONG_1, 11, 8);
-    /* Before 12. */
+    /* Has priority over 12. */
     PUT(80, "\0\x01"), PUT(426, "\0\0"), GIVES(11, 418);
 }
 
@@ -378,14 +379,14 @@ static void dangling(void)
     PUT(282, "\0\x02"), GIVES(12, 282);
     PUT(428, "\0\0"), GIVES(12, 428);
     PUT(428, "\x01\x01"), GIVES(12, 428);
-    /* By field, and 13 among them: SONG, INST, VENV, PENV. */
+    /* By field, together with 13: SONG, INST, VENV, PENV. */
     PUT(80, "\0\x01"), PUT(122, "\0\x41"), PUT(428, "\0\0"), GIVES(12, 80);
     PUT(122, "\0\x41"), PUT(282, "\0\0"), GIVES(13, 122);
     PUT(284, "\xFF"), PUT(428, "\0\0"), GIVES(13, 284);
-    /* The order of the chunks does not count: VENV stands at 8, INST at 318, SONG at 376. */
+    /* The order of the chunks has no effect: VENV is at 8, INST at 318, SONG at 376. */
     CHECK(HEADER VENV_OF("\0\x02") PENV_1 INFO_1 INST_1 SONG_1 PATT_1 SMPL_1, 12, 18);
     CHECK(HEADER VENV_OF("\0\x02") PENV_1 INFO_1 INST_1 SONG_OF("\0\x01") PATT_1 SMPL_1, 12, 430);
-    /* Before 14. */
+    /* Has priority over 14. */
     PUT(132, "\0\0\0\x65"), PUT(138, "\0\x01"), PUT(428, "\0\0"), GIVES(12, 428);
 }
 
@@ -412,7 +413,7 @@ static void wrong_field(void)
     PUT(285, "\x1F"), GIVES(0, 0);
     PUT(285, "\x20"), GIVES(13, 285);
     PUT(285, "\xFF"), GIVES(13, 285);
-    /* S1, L1, L2 and S2 of one section, each only where its bit is set. */
+    /* S1, L1, L2 and S2 with one section, each checked only if its bit is set. */
     PUT(286, "\xFF\xFF\xFF\xFF"), GIVES(0, 0);
     PUT(284, "\x01"), PUT(286, "\xFF\xFF\xFF\xFF"), GIVES(0, 0);
     PUT(284, "\x0F"), PUT(286, "\x01\x01\x01\x01"), GIVES(0, 0);
@@ -424,7 +425,7 @@ static void wrong_field(void)
     PUT(430, "\x0F"), PUT(432, "\x03\x03\x03\x03"), GIVES(13, 432);
     PUT(430, "\x0D"), PUT(432, "\x03\x02\x01\x03"), GIVES(13, 434);
     PUT(430, "\x08"), PUT(432, "\x03\x03\x03\x03"), GIVES(13, 435);
-    /* Values of the points in use, sections + 1, also where the envelope is off. */
+    /* Values of the points in use, sections + 1, also if the envelope is off. */
     PUT(292, "\0\x41"), GIVES(13, 292);
     PUT(296, "\0\x41"), GIVES(13, 296);
     PUT(296, "\xFF\xFF"), GIVES(13, 296);
@@ -445,12 +446,12 @@ static void wrong_field(void)
     PUT(4, "\x02"), PUT(446, "\0\x41"), GIVES(13, 446);
     PUT(4, "\x02"), PUT(442, "\xFF\xFF"), GIVES(13, 442);
     PUT(4, "\x02"), PUT(450, "\0\x41"), GIVES(0, 0);
-    /* Before 14 and 15. */
+    /* Has priority over 14 and 15. */
     PUT(132, "\0\0\0\x65"), PUT(138, "\0\x01"), PUT(446, "\x01\0"), GIVES(13, 446);
     PUT(154, "\x01"), PUT(446, "\x01\0"), GIVES(13, 446);
 }
 
-/* 14: a loop lies outside its sample, which has 100 frames. */
+/* 14: a loop is outside its sample, which has 100 frames. */
 static void loop_outside(void)
 {
     /* P10: 90 + 10, 90 + 11, 4,294,967,295 + 2. */
@@ -469,9 +470,9 @@ static void loop_outside(void)
     /* Frames, not bytes: 25 frames of 32 bits. */
     PUT(164, "\0\0\0\x04\0\0\0\x19"), PUT(132, "\0\0\0\x19"), PUT(138, "\0\x01"), GIVES(0, 0);
     PUT(164, "\0\0\0\x04\0\0\0\x19"), PUT(132, "\0\0\0\x1A"), PUT(138, "\0\x01"), GIVES(14, 90);
-    /* A looped instrument without a sample. */
+    /* An instrument with a loop but without a sample. */
     PUT(120, "\0\0"), PUT(132, "\0\0\0\x01"), PUT(138, "\0\x01"), GIVES(14, 90);
-    /* Before 15. */
+    /* Has priority over 15. */
     PUT(132, "\0\0\0\x65"), PUT(138, "\0\x01"), PUT(154, "\x01"), GIVES(14, 90);
 }
 
@@ -487,16 +488,16 @@ static void broken_stream(void)
     /* P6: 0 rows, no bytes. */
     ACCEPTS(PATTERN("\0\x04", "\0\0\0\x06", "\0\0" ZEROS_4));
     CHECK(PATTERN("\0\x04", "\0\0\0\x08", "\0\0" "\0\0\0\x01" "\0" "\0"), 15, 50);
-    /* P7: with 4 tracks, and with 6. The place in the stream is told for the stream alone. */
+    /* P7: with 4 tracks, and with 6. The place in the stream is reported only for the stream alone. */
     CHECK(PATTERN("\0\x04", "\0\0\0\x0A", "\0\x01" "\0\0\0\x04" "\x05\x01\x47\0"), 15, 50);
     ACCEPTS(PATTERN("\0\x06", "\0\0\0\x0A", "\0\x01" "\0\0\0\x04" "\x05\x01\x47\0"));
     HOLDS(alone.number == 15 && alone.place == 0);
     /* P8: a mask with bit 6. P9: 2 rows, one row end. */
     CHECK(PATTERN("\0\x04", "\0\0\0\x0A", "\0\x01" "\0\0\0\x04" "\x01\x41\x47\0"), 15, 50);
     CHECK(PATTERN("\0\x04", "\0\0\0\x08", "\0\x02" "\0\0\0\x01" "\0" "\0"), 15, 50);
-    /* The filler is no row end, and the packed length does not count it. */
+    /* The filler is not a row end, and the packed length does not include it. */
     CHECK(PATTERN("\0\x04", "\0\0\0\x08", "\0\x01" "\0\0\0\x02" "\0" "\0"), 15, 50);
-    /* The first broken one of three: blocks at 50, 58 and 66. */
+    /* The first broken stream of three: blocks at 50, 58 and 66. */
     ACCEPTS(PATTERNS("\0\x03", "\0\x04", "\0\0\0\x18", "\0\x01" "\0\0\0\x01" "\0" "\x01"
                      "\0\x02" "\0\0\0\x02" "\0" "\0" "\0\x01" "\0\0\0\x01" "\0" "\x02"));
     CHECK(PATTERNS("\0\x03", "\0\x04", "\0\0\0\x18", "\0\x01" "\0\0\0\x01" "\0" "\x01"
@@ -506,9 +507,9 @@ static void broken_stream(void)
 }
 
 /*
- * The data of samples and of other chunks are not read: here they are memory
- * that cannot be. DSPE fills three pages; its data leave out the first 16
- * bytes. Behind it stand 108 bytes, and frames up to the memory's end.
+ * The data of samples and of other chunks is not read: here it is memory that
+ * cannot be read. DSPE fills three pages, and its data begins after the first
+ * 16 bytes. It is followed by 108 bytes, and by frames up to the memory's end.
  */
 static void not_read(void)
 {
@@ -525,7 +526,7 @@ static void not_read(void)
     HOLDS(mprotect(memory + PAGE, 2 * PAGE, PROT_NONE) == 0);
     HOLDS(mprotect(memory + 4 * PAGE, 4 * PAGE, PROT_NONE) == 0);
     compare(dbm0_check_module(memory, 8 * PAGE), 0, 0, __LINE__);
-    /* One frame more in the loop, whose instrument stands at 12,288 + 18 + 8 + 8. */
+    /* The loop is one frame longer. Its instrument is at 12,288 + 18 + 8 + 8. */
     memory[3 * PAGE + 34 + 45]++;
     compare(dbm0_check_module(memory, 8 * PAGE), 14, 12322, __LINE__);
 }

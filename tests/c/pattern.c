@@ -1,8 +1,8 @@
 /*
- * libpattern.a alone, called from C: expectations typed by hand.
+ * libpattern.a alone, called from C, with expectations typed by hand.
  *
- * Prints one line for each expectation that fails and, last, how many passed
- * and failed. The exit status is 1 if any failed.
+ * Prints one line for each expectation that fails. The last line has the numbers
+ * of passed and failed expectations. The exit status is 1 if any failed.
  */
 
 #include "dbm0_pattern.h"
@@ -28,7 +28,7 @@ static void compare(dbm0_pattern_answer is, uint64_t number, uint64_t place, uin
     count(is.number == number && is.place == place && is.length == length, line, what);
 }
 
-/* The output of each call: the lent part stands between two guards. */
+/* The output of each call is between two guards. */
 static uint8_t memory[16 + 4096 + 16];
 static uint8_t *const out = memory + 16;
 
@@ -37,7 +37,7 @@ static void fill(void)
     memset(memory, FILL, sizeof memory);
 }
 
-/* All bytes but the first `length` of the output are as they were filled. */
+/* All bytes except the first `length` of the output have their preset value. */
 static int rest_is_filled(size_t length)
 {
     size_t at;
@@ -72,7 +72,7 @@ static void refuses_pack(int line, const uint8_t *cells, size_t cells_length, ui
     count(rest_is_filled(0), line, "pack refuses, but changes its output");
 }
 
-/* Into just enough room, and into more: the rest stays. One byte less is 17. */
+/* Into an output of exactly the needed length, and into longer ones, whose rest is unchanged. One byte less is 17. */
 static void unpacks(int line, const uint8_t *stream, size_t stream_length, uint64_t rows,
                     uint64_t tracks, const uint8_t *cells, size_t cells_length)
 {
@@ -111,7 +111,7 @@ static void packs(int line, const uint8_t *cells, size_t cells_length, uint64_t 
     }
 }
 
-/* A broken stream, for the check and for an unpacker with enough room. */
+/* A broken stream, for the check and for unpacking into a long enough output. */
 static void broken(int line, const uint8_t *stream, size_t stream_length, uint64_t rows,
                    uint64_t tracks, uint64_t place)
 {
@@ -168,11 +168,11 @@ static void register_samples(void)
 
 static void carrying_out(void)
 {
-    /* Fields that an entry does not name stay; a new row begins with zeros. */
+    /* Fields whose mask bit is not set are unchanged. A new row begins with zeros. */
     unpacks(__LINE__, BYTES(1, 0x3F, 1, 2, 3, 4, 5, 6, 1, 0x14, 7, 8, 0, 1, 0x02, 9, 0), 2, 4,
             BYTES(1, 2, 7, 4, 8, 6, 0, 0, 0, 0, 0, 0, 0, 0, 0, 0, 0, 0, 0, 0, 0, 0, 0, 0, /**/
                   0, 9, 0, 0, 0, 0, 0, 0, 0, 0, 0, 0, 0, 0, 0, 0, 0, 0, 0, 0, 0, 0, 0, 0));
-    /* Tracks descending and repeated, a mask of 0, a named 0. */
+    /* Descending and repeated tracks, a mask of 0, a stored 0. */
     unpacks(__LINE__, BYTES(4, 0x20, 0x44, 2, 0x01, 0x22, 2, 0x00, 2, 0x09, 0x00, 0x55, 0), 1, 4,
             BYTES(0, 0, 0, 0, 0, 0, 0, 0, 0, 0x55, 0, 0, 0, 0, 0, 0, 0, 0, 0, 0, 0, 0, 0, 0x44));
     packs(__LINE__,
@@ -192,7 +192,7 @@ static void last_track(void)
 
 static void broken_streams(void)
 {
-    /* A track too high. */
+    /* A track that is too high. */
     broken(__LINE__, BYTES(5, 0, 0), 1, 4, 0);
     broken(__LINE__, BYTES(0, 1, 1, 0x47, 255, 0, 0), 2, 4, 4);
     /* Bits 6 and 7 of the mask. */
@@ -204,7 +204,7 @@ static void broken_streams(void)
     broken(__LINE__, BYTES(1, 0x01), 1, 4, 0);
     broken(__LINE__, BYTES(1, 0x3F, 1, 2, 3, 4, 5), 1, 4, 0);
     broken(__LINE__, BYTES(0, 1, 0x00, 4, 0x03, 0x00), 2, 4, 3);
-    /* Row ends lack. */
+    /* Missing row ends. */
     broken(__LINE__, NOTHING, 1, 4, 0);
     broken(__LINE__, BYTES(0, 0), 3, 4, 2);
     broken(__LINE__, BYTES(1, 0x01, 0x00), 1, 4, 3);

@@ -1,9 +1,9 @@
 /*
- * The queries of libdbm0.a, beside libpattern.a, called from C: expectations
- * typed by hand.
+ * The queries of libdbm0.a, together with libpattern.a, called from C, with
+ * expectations typed by hand.
  *
- * Prints one line for each expectation that fails and, last, how many passed
- * and failed. The exit status is 1 if any failed.
+ * Prints one line for each expectation that fails. The last line has the numbers
+ * of passed and failed expectations. The exit status is 1 if any failed.
  */
 
 #define _DEFAULT_SOURCE /* for MAP_ANONYMOUS */
@@ -11,7 +11,7 @@
 #include "dbm0.h"
 #include "dbm0_pattern.h"
 #include "expect.h"
-#include "lent.h"
+#include "guarded.h"
 
 #include <stdio.h>
 #include <string.h>
@@ -74,7 +74,7 @@ static int zeros(const void *bytes, size_t bytes_length)
 }
 
 /*
- * All records. The points that are not in use hold $FF.
+ * All records. The points that are not in use are $FF.
  *
  *      0 version 3, revision $21
  *      8 NAME   16 the name
@@ -129,9 +129,9 @@ static int zeros(const void *bytes, size_t bytes_length)
     "DBM0" "\x03\0\0\0" "INFO" "\0\0\0\x0A" "\0\0\0\0\0\0\0\0\0\x04" \
     "SONG" "\0\0\0\0" "INST" "\0\0\0\0" "PATT" "\0\0\0\0" "SMPL" "\0\0\0\0"
 
-#define LEND(bytes) lend((bytes), sizeof(bytes) - 1)
+#define LOAD(bytes) load_module((bytes), sizeof(bytes) - 1)
 
-/* The module is still what was lent. */
+/* The module is unchanged. */
 #define UNCHANGED(bytes) \
     count(memcmp(module, (bytes), sizeof(bytes) - 1) == 0, __LINE__, "the module is changed")
 
@@ -246,7 +246,7 @@ static void patterns(void)
     HOLDS(cell.unknown == 0 && zeros(&cell.instrument, 5));
     cell = dbm0_cell(module, length, 0, 0, 1);
     HOLDS(FOUND(cell) && cell.kind == DBM0_NOTE_NONE && zeros(&cell.octave, 8));
-    /* The note is at 317; as $4C it is no pitch. */
+    /* The note is at 317. $4C is not a pitch. */
     module[317] = 0x4C;
     cell = dbm0_cell(module, length, 0, 1, 2);
     HOLDS(FOUND(cell) && cell.kind == DBM0_NOTE_UNKNOWN && cell.unknown == 0x4C);
@@ -298,19 +298,19 @@ static void samples(void)
 /* The queries that fill an output have one type. */
 typedef dbm0_length_answer filling(const uint8_t *, size_t, size_t, uint8_t *, size_t);
 
-static void fills(int line, filling *query, size_t number, size_t room, dbm0_length_answer due,
+static void fills(int line, filling *query, size_t number, size_t room, dbm0_length_answer expected,
                   const char *bytes)
 {
     uint8_t *out = output(room);
     dbm0_length_answer is = query(module, length, number, out, room);
 
-    count(is.number == due.number && is.place == due.place && is.length == due.length, line,
+    count(is.number == expected.number && is.place == expected.place && is.length == expected.length, line,
           "another answer");
-    count(memcmp(out, bytes, due.length) == 0, line, "other bytes are written");
-    count(rest_is_filled(room, due.length), line, "more bytes are changed");
+    count(memcmp(out, bytes, expected.length) == 0, line, "other bytes are written");
+    count(rest_is_filled(room, expected.length), line, "more bytes are changed");
 }
 
-/* Into just enough room, and into more; one byte less and none are 17. */
+/* Into an output of exactly the needed length, and into longer ones. One byte less, and none, is 17. */
 static void writes(int line, filling *query, size_t number, const char *bytes, size_t needed)
 {
     const dbm0_length_answer written = {0, 0, needed}, short_of = {17, needed, 0};
@@ -319,9 +319,9 @@ static void writes(int line, filling *query, size_t number, const char *bytes, s
     fills(line, query, number, needed + 1, written, bytes);
     fills(line, query, number, needed + 100, written, bytes);
     if (needed > 0) {
-        dbm0_length_answer asked = query(module, length, number, NULL, 0);
-        count(asked.number == 17 && asked.place == needed && asked.length == 0, line,
-              "NULL does not tell the needed length");
+        dbm0_length_answer empty = query(module, length, number, NULL, 0);
+        count(empty.number == 17 && empty.place == needed && empty.length == 0, line,
+              "NULL does not report the needed length");
         fills(line, query, number, 0, short_of, bytes);
         fills(line, query, number, needed - 1, short_of, bytes);
     } else {
@@ -356,21 +356,21 @@ static void outputs(void)
 }
 
 /*
- * Every query that is asked for a number, with an output of so many bytes: it
- * gives this refusal, all else is 0, and the output stays.
+ * Every query that takes a number, with an output of `room` bytes: it returns
+ * this refusal, everything else is 0, and the output is unchanged.
  */
-static void refused(int line, size_t asked, size_t room, uint64_t number, uint64_t place)
+static void refused(int line, size_t item, size_t room, uint64_t number, uint64_t place)
 {
-    dbm0_song_answer song = dbm0_song(module, length, asked);
-    dbm0_entry_answer entry = dbm0_entry(module, length, asked, asked);
-    dbm0_instrument_answer instrument = dbm0_instrument(module, length, asked);
-    dbm0_envelope_answer volume = dbm0_volume_envelope(module, length, asked);
-    dbm0_envelope_answer panning = dbm0_panning_envelope(module, length, asked);
-    dbm0_rows_answer rows = dbm0_rows(module, length, asked);
-    dbm0_cell_answer cell = dbm0_cell(module, length, asked, asked, asked);
-    dbm0_sample_answer sample = dbm0_sample(module, length, asked);
-    dbm0_frames_answer frames = dbm0_frames(module, length, asked);
-    dbm0_frame_answer frame = dbm0_frame(module, length, asked, asked);
+    dbm0_song_answer song = dbm0_song(module, length, item);
+    dbm0_entry_answer entry = dbm0_entry(module, length, item, item);
+    dbm0_instrument_answer instrument = dbm0_instrument(module, length, item);
+    dbm0_envelope_answer volume = dbm0_volume_envelope(module, length, item);
+    dbm0_envelope_answer panning = dbm0_panning_envelope(module, length, item);
+    dbm0_rows_answer rows = dbm0_rows(module, length, item);
+    dbm0_cell_answer cell = dbm0_cell(module, length, item, item, item);
+    dbm0_sample_answer sample = dbm0_sample(module, length, item);
+    dbm0_frames_answer frames = dbm0_frames(module, length, item);
+    dbm0_frame_answer frame = dbm0_frame(module, length, item, item);
     const dbm0_length_answer refusal = {number, place, 0};
 
 #define REFUSED(answer, rest_is_0) \
@@ -387,12 +387,12 @@ static void refused(int line, size_t asked, size_t room, uint64_t number, uint64
     REFUSED(sample, sample.width == 0 && sample.frames == 0);
     REFUSED(frames, frames.offset == 0 && frames.length == 0);
     REFUSED(frame, frame.frame == 0);
-    fills(line, dbm0_playlist, asked, room, refusal, "");
-    fills(line, dbm0_cells, asked, room, refusal, "");
-    fills(line, dbm0_all_frames, asked, room, refusal, "");
+    fills(line, dbm0_playlist, item, room, refusal, "");
+    fills(line, dbm0_cells, item, room, refusal, "");
+    fills(line, dbm0_all_frames, item, room, refusal, "");
 }
 
-/* The same of a refused module: also the queries that are asked for no number. */
+/* The same for a refused module, including the queries without a number. */
 static void refused_module(int line, uint64_t number, uint64_t place)
 {
     dbm0_module_answer check = dbm0_check_module(module, length);
@@ -415,36 +415,36 @@ static void refused_module(int line, uint64_t number, uint64_t place)
 }
 #undef REFUSED
 
-/* 18: what is not there; before 17. */
+/* 18: the item does not exist. Has priority over 17. */
 static void not_there(void)
 {
-    LEND(WHOLE);
+    LOAD(WHOLE);
     refused(__LINE__, 5, 0, 18, 0);
     refused(__LINE__, 5, 100, 18, 0);
     refused(__LINE__, SIZE_MAX, 0, 18, 0);
-    /* 1 in a number that is too small for it. */
+    /* 1 if truncated to fewer bits. */
     refused(__LINE__, (size_t)0x100 + 1, 100, 18, 0);
     refused(__LINE__, (size_t)0x10000 + 1, 100, 18, 0);
     refused(__LINE__, (size_t)0x100000000 + 1, 100, 18, 0);
     refused(__LINE__, (size_t)0x8000000000000000 + 1, 100, 18, 0);
-    /* From 1 on. */
+    /* Counted from 1. */
     HOLDS(dbm0_instrument(module, length, 0).number == 18);
     HOLDS(dbm0_instrument(module, length, 3).number == 18);
     HOLDS(dbm0_sample(module, length, 0).number == 18);
     HOLDS(dbm0_frames(module, length, 0).number == 18);
     HOLDS(dbm0_all_frames(module, length, 0, NULL, 0).number == 18);
-    /* From 0 on. */
+    /* Counted from 0. */
     HOLDS(dbm0_song(module, length, 2).number == 18);
     HOLDS(dbm0_rows(module, length, 3).number == 18);
     HOLDS(dbm0_volume_envelope(module, length, 2).number == 18);
     HOLDS(dbm0_panning_envelope(module, length, 1).number == 18);
     UNCHANGED(WHOLE);
-    LEND(SMALLEST);
+    LOAD(SMALLEST);
     refused(__LINE__, 0, 100, 18, 0);
     refused(__LINE__, 1, 0, 18, 0);
 }
 
-/* What the smallest module shows. */
+/* The answers for the smallest module. */
 static void nothing_there(void)
 {
     dbm0_version_answer version;
@@ -452,7 +452,7 @@ static void nothing_there(void)
     dbm0_info_answer info;
     dbm0_count_answer volume, panning;
 
-    LEND(SMALLEST);
+    LOAD(SMALLEST);
     version = dbm0_version(module, length);
     HOLDS(FOUND(version) && version.version == 3 && version.revision == 0);
     name = dbm0_name(module, length);
@@ -465,36 +465,37 @@ static void nothing_there(void)
     HOLDS(FOUND(panning) && panning.count == 0);
 }
 
-/* The module's own refusal comes first. */
+/* The module's own refusal has priority. */
 static void refused_modules(void)
 {
     module = NULL, length = 0;
     refused_module(__LINE__, 2, 0);
-    lend(WHOLE, 7);
+    load_module(WHOLE, 7);
     refused_module(__LINE__, 2, 0);
-    lend(WHOLE, 60);
+    load_module(WHOLE, 60);
     refused_module(__LINE__, 8, 60);
-    lend(WHOLE, sizeof(WHOLE) - 2);
+    load_module(WHOLE, sizeof(WHOLE) - 2);
     refused_module(__LINE__, 4, 825);
-    LEND(WHOLE), module[4] = 4;
+    LOAD(WHOLE), module[4] = 4;
     refused_module(__LINE__, 3, 4);
-    LEND(WHOLE), module[77] = 5;
+    LOAD(WHOLE), module[77] = 5;
     refused_module(__LINE__, 10, 76);
-    LEND(WHOLE), module[345] = 3;
+    LOAD(WHOLE), module[345] = 3;
     refused_module(__LINE__, 11, 334);
-    LEND(WHOLE), module[135] = 3;
+    LOAD(WHOLE), module[135] = 3;
     refused_module(__LINE__, 12, 134);
-    LEND(WHOLE), module[225] = 65;
+    LOAD(WHOLE), module[225] = 65;
     refused_module(__LINE__, 13, 224);
-    LEND(WHOLE), module[237] = 4;
+    LOAD(WHOLE), module[237] = 4;
     refused_module(__LINE__, 14, 192);
-    LEND(WHOLE), module[306] = 5;
+    LOAD(WHOLE), module[306] = 5;
     refused_module(__LINE__, 15, 300);
 }
 
 /*
- * Frames are not read where they are only told: here they are memory that
- * cannot be. Before them stand 66 bytes, of which 58 and 8 are the block's.
+ * Frames are not read if only their place is returned: here they are memory that
+ * cannot be read. They are preceded by 66 bytes, the last 8 of which belong to
+ * the block.
  */
 static void frames_not_read(void)
 {
@@ -533,7 +534,7 @@ int main(void)
         return 1;
     HOLDS(sizeof(WHOLE) - 1 == 836);
     HOLDS(sizeof(SMALLEST) - 1 == 58);
-    LEND(WHOLE);
+    LOAD(WHOLE);
     HOLDS(FOUND(dbm0_check_module(module, length)));
     header_name_and_info();
     songs();
@@ -544,7 +545,7 @@ int main(void)
     samples();
     outputs();
     UNCHANGED(WHOLE);
-    /* P11: in version 2 the values of panning are shown as 4v - 128; nothing else is another. */
+    /* P11: in version 2 panning values are returned as 4v - 128. Everything else is the same. */
     module[4] = 2;
     HOLDS(dbm0_version(module, length).version == 2);
     instruments();

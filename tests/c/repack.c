@@ -1,9 +1,9 @@
 /*
- * Repacking a whole module with libdbm0.a, beside libpattern.a, called from C:
- * expectations typed by hand.
+ * Repacking a whole module with libdbm0.a, together with libpattern.a, called
+ * from C, with expectations typed by hand.
  *
- * Prints one line for each expectation that fails and, last, how many passed
- * and failed. The exit status is 1 if any failed.
+ * Prints one line for each expectation that fails. The last line has the numbers
+ * of passed and failed expectations. The exit status is 1 if any failed.
  */
 
 #define _DEFAULT_SOURCE /* for MAP_ANONYMOUS */
@@ -16,12 +16,12 @@
 #define CHANGED_ROOMS {0, 1, 299, 300, 304, 400}
 #include "writing.h"
 
-/* The module of `before` becomes that of `after`; that one is accepted, and becomes itself. */
+/* The module `before` is repacked to `after`, which is accepted and repacks to itself. */
 static void becomes(
     const char *before, size_t before_length, const char *after, size_t after_length, int line)
 {
     writes(before, before_length, after, after_length, line);
-    lend(after, after_length);
+    load_module(after, after_length);
     count(dbm0_check_module(module, length).number == 0, line, "the output is refused");
     written(after, after_length, after_length, line);
 }
@@ -55,10 +55,10 @@ static void streams(void)
     BECOMES(ONE(P6), ONE(P6));
     BECOMES(ONE(EMPTY_ROW), ONE(EMPTY_ROW));
     BECOMES(ONE(EMPTY_ROW_FILLED), ONE(EMPTY_ROW));
-    /* Tracks in another order: as long, and other bytes. */
+    /* Tracks in another order: the same length, and other bytes. */
     BECOMES(ONE("\0\0\0\x0E" "\0\x01" "\0\0\0\x07" "\x04\x20\x09\x01\x01\x05\0" "\xFF"),
             ONE("\0\0\0\x0E" "\0\x01" "\0\0\0\x07" "\x01\x01\x05\x04\x20\x09\0" "\0"));
-    /* From an even length to an odd one: a filler comes to stand there. */
+    /* From an even length to an odd one: a filler is added. */
     BECOMES(ONE("\0\0\0\x0E" "\0\x01" "\0\0\0\x08" "\x01\x03\x05\x06\x01\x01\x07\0"),
             ONE("\0\0\0\x0C" "\0\x01" "\0\0\0\x05" "\x01\x03\x07\x06\0" "\0"));
 }
@@ -117,7 +117,7 @@ static void modules(void)
     BECOMES(SMALLEST, SMALLEST);
     HOLDS(sizeof(BEFORE) - 1 == 304 && sizeof(AFTER) - 1 == 300);
     BECOMES(BEFORE, AFTER);
-    /* PATT first of the four, and the last chunk of the module. */
+    /* PATT first of the four, and as the last chunk of the module. */
     BECOMES("DBM0" "\x03\0\0\0" "INFO" "\0\0\0\x0A" "\0\0\0\0\0\0\0\x01\0\x04"
             "PATT" P3 "SONG" "\0\0\0\0" "INST" "\0\0\0\0" "SMPL" "\0\0\0\0",
             "DBM0" "\x03\0\0\0" "INFO" "\0\0\0\x0A" "\0\0\0\0\0\0\0\x01\0\x04"
@@ -136,7 +136,7 @@ static void modules(void)
 #define DESCENDING "\x04\x20\x09\x01\x01\x05\0"
 #define ASCENDING "\x01\x01\x05\x04\x20\x09\0"
 
-/* The module keeps its length, and each pattern counts. */
+/* The module keeps its length, and each pattern is repacked. */
 static void as_long_as_before(void)
 {
     HOLDS(sizeof(TWO(ASCENDING "\0", ASCENDING "\0")) - 1 == 86);
@@ -146,7 +146,7 @@ static void as_long_as_before(void)
     BECOMES(TWO(ASCENDING "\0", ASCENDING "\x01"), TWO(ASCENDING "\0", ASCENDING "\0"));
 }
 
-/* What is shown of the module before is shown of the module after. */
+/* The queries return the same for the module before and after. */
 static void shown(void)
 {
     static const uint8_t cells[48] = {[6] = 0x47, [7] = 0x01};
@@ -155,7 +155,7 @@ static void shown(void)
     size_t pattern;
     dbm0_length_answer answer;
 
-    LEND(BEFORE);
+    LOAD(BEFORE);
     answer = dbm0_repack(module, length, out, sizeof out);
     HOLDS(answer.number == 0 && answer.length == 300);
     HOLDS(dbm0_version(out, 300).version == 0x02 && dbm0_version(out, 300).revision == 0x99);
@@ -173,14 +173,14 @@ static void shown(void)
     }
     HOLDS(dbm0_frames(out, 300, 1).offset == 106 && dbm0_frames(out, 300, 1).length == 4);
     HOLDS(memcmp(out + 106, "PATT", 4) == 0);
-    /* A stream of the output is the one that the packer of libpattern.a writes. */
+    /* A stream of the output equals the result of libpattern.a's packer. */
     HOLDS(dbm0_pack_pattern(cells, sizeof cells, 2, 4, after, sizeof after).length == 6);
     HOLDS(memcmp(out + 132, after, 6) == 0 && memcmp(out + 144, after, 6) == 0);
 }
 
 static void refused_modules(void)
 {
-    LEND(BEFORE);
+    LOAD(BEFORE);
     CHANGED(0, 'X', DBM0_MODULE_NOT_DBM0, 0);
     CHANGED(4, 4, DBM0_MODULE_VERSION, 4);
     CHANGED(302, 2, DBM0_MODULE_CHUNK_CUT, 295);
@@ -194,7 +194,7 @@ static void refused_modules(void)
     CHANGED(278, 65, DBM0_MODULE_FIELD_RANGE, 277);
     CHANGED(290, 4, DBM0_MODULE_LOOP, 245);
     CHANGED(147, 0x47, DBM0_MODULE_STREAM_BROKEN, 140);
-    /* Two faults: the first in the order of the checks. */
+    /* Two faults: the first in the order of the checks is reported. */
     module[147] = 0x47;
     CHANGED(290, 4, DBM0_MODULE_LOOP, 245);
     module[147] = 0x07;

@@ -1,11 +1,11 @@
 /*
- * Memory for a module, and behind it memory for an output. Behind each stands
- * a page that can be neither read nor written. The test defines
- * _DEFAULT_SOURCE, for MAP_ANONYMOUS.
+ * Memory for a module, followed by memory for an output. Each is followed by a
+ * page that can be neither read nor written. The test defines _DEFAULT_SOURCE,
+ * for MAP_ANONYMOUS.
  */
 
-#ifndef LENT_H
-#define LENT_H
+#ifndef GUARDED_H
+#define GUARDED_H
 
 #include <stddef.h>
 #include <stdint.h>
@@ -27,7 +27,7 @@ static int make_memory(void)
         && mprotect(out_memory + OUT, PAGE, PROT_NONE) == 0;
 }
 
-/* Before the first expectation: lines are printed one by one, and there is memory. */
+/* Called before the first expectation: makes the output line-buffered and allocates the memory. */
 static int ready(void)
 {
     setvbuf(stdout, NULL, _IOLBF, 0);
@@ -37,18 +37,18 @@ static int ready(void)
     return 0;
 }
 
-/* The module that is lent. It stands just before the end of its memory. */
+/* The module that is passed to a call. It ends at the end of its memory. */
 static uint8_t *module;
 static size_t length;
 
-static void lend(const char *bytes, size_t bytes_length)
+static void load_module(const char *bytes, size_t bytes_length)
 {
     module = memory + MODULE - bytes_length;
     length = bytes_length;
     memcpy(module, bytes, bytes_length);
 }
 
-/* An output of so many bytes, at the end of its memory, which is filled with one byte. */
+/* An output of `room` bytes at the end of its memory. The whole memory is filled with one byte. */
 #define FILL 0xAA
 
 static uint8_t *output(size_t room)
@@ -57,7 +57,7 @@ static uint8_t *output(size_t room)
     return out_memory + OUT - room;
 }
 
-/* In the memory of an output of so many bytes only the first `written` of them are changed. */
+/* In the memory of an output of `room` bytes only the first `written` bytes are changed. */
 static int rest_is_filled(size_t room, size_t written)
 {
     size_t at;
