@@ -3,7 +3,9 @@
 
 use interface::{Answer, RecordAnswer, OUTPUT_TOO_SHORT};
 
-pub use interface::{Cell, Info, MOST_BYTES, NOTE_KEY_OFF, NOTE_NONE, NOTE_PITCH};
+pub use interface::{
+    Cell, Info, LIBRARY_VERSION, MOST_BYTES, NOTE_KEY_OFF, NOTE_NONE, NOTE_PITCH, PATTERN_VERSION,
+};
 
 /// The number of a refusal, and its place.
 #[derive(Clone, Copy, Debug, PartialEq, Eq)]

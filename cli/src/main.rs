@@ -26,6 +26,7 @@ use std::process::ExitCode;
 
 use args::Command;
 use fault::{Fault, EXIT_OK};
+use library::{LIBRARY_VERSION, PATTERN_VERSION};
 use output::Output;
 
 fn main() -> ExitCode {
@@ -37,6 +38,14 @@ fn main() -> ExitCode {
     ExitCode::from(status)
 }
 
+/// The version of the program, and those of the library's two interfaces.
+fn version() -> String {
+    format!(
+        "dbm0 {} (library {LIBRARY_VERSION}, packed rows {PATTERN_VERSION})",
+        env!("CARGO_PKG_VERSION")
+    )
+}
+
 fn run() -> Result<u8, Fault> {
     let out = &mut Output::new()?;
     let status = match args::parse(std::env::args_os().skip(1).collect())? {
@@ -45,7 +54,7 @@ fn run() -> Result<u8, Fault> {
             EXIT_OK
         }
         Command::Version => {
-            out.line(concat!("dbm0 ", env!("CARGO_PKG_VERSION")))?;
+            out.line(&version())?;
             EXIT_OK
         }
         Command::Check { files } => check::run(&files, out)?,

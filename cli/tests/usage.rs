@@ -3,7 +3,7 @@
 mod common;
 
 use std::ffi::OsStr;
-use std::fs::File;
+use std::fs::{self, File};
 use std::io::Read;
 use std::os::unix::ffi::OsStrExt;
 use std::process::{Command, Stdio};
@@ -48,11 +48,34 @@ fn help() {
     }
 }
 
+/// The version in a header: five digits, of which the first is major, two are minor and two are patch.
+fn header_version(header: &str, name: &str) -> String {
+    let path = format!("{}/../include/{header}", env!("CARGO_MANIFEST_DIR"));
+    let text = fs::read_to_string(path).expect("a header");
+    let words: Vec<&str> = text.split_whitespace().collect();
+    let define = words
+        .windows(3)
+        .find(|three| three[..2] == ["#define", name]);
+    let digits: Vec<u32> = define.expect("a version")[2]
+        .chars()
+        .map(|digit| digit.to_digit(10).expect("a digit"))
+        .collect();
+    let [major, a, b, c, d] = digits[..] else {
+        panic!("{header}: five digits are expected");
+    };
+    format!("{major}.{}.{}", 10 * a + b, 10 * c + d)
+}
+
 #[test]
 fn version() {
-    let line = concat!("dbm0 ", env!("CARGO_PKG_VERSION"), "\n");
-    run(&["--version"]).is(0, line, "");
-    run(&["-V"]).is(0, line, "");
+    let library = header_version("dbm0.h", "DBM0_VERSION");
+    let rows = header_version("dbm0_pattern.h", "DBM0_PATTERN_VERSION");
+    let line = format!(
+        "dbm0 {} (library {library}, packed rows {rows})\n",
+        env!("CARGO_PKG_VERSION")
+    );
+    run(&["--version"]).is(0, &line, "");
+    run(&["-V"]).is(0, &line, "");
 }
 
 #[test]

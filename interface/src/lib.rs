@@ -8,6 +8,12 @@ pub use answers::{
     Song, Version,
 };
 
+/// The version of the library's interface: `DBM0_VERSION` of include/dbm0.h.
+pub const LIBRARY_VERSION: &str = env!("DBM0_VERSION");
+
+/// The version of the interface for packed rows: `DBM0_PATTERN_VERSION` of include/dbm0_pattern.h.
+pub const PATTERN_VERSION: &str = env!("DBM0_PATTERN_VERSION");
+
 /// The maximum length of a module in bytes. A longer module is refused.
 pub const MOST_BYTES: usize = 16_777_216;
 
