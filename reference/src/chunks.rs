@@ -7,8 +7,8 @@ use std::ops::RangeInclusive;
 
 use crate::part::{Field, Part};
 use crate::refusal::{
-    before_info, cut_chunk, missing_chunk, no_letters, no_module, repeated, too_big,
-    unknown_version, wrong_info, wrong_length, Refusal,
+    before_info, cut_chunk, missing_chunk, not_a_module, repeated, too_long, unknown_version,
+    wrong_identifier, wrong_info, wrong_length, Refusal,
 };
 
 /// The maximum length of a module in bytes.
@@ -36,10 +36,10 @@ pub struct Header {
 
 impl Header {
     fn take(left: &mut Part) -> Result<Header, Refusal> {
-        let header = left.take(8).ok_or(no_module())?.bytes;
+        let header = left.take(8).ok_or(not_a_module())?.bytes;
         let (letters, version, revision) = (&header[..4], header[4], header[5]);
         if letters != b"DBM0" {
-            return Err(no_module());
+            return Err(not_a_module());
         }
         let decimal = revision / 16 <= 9 && revision % 16 <= 9;
         if !(version == 2 || version == 3) || !decimal {
@@ -65,7 +65,7 @@ impl<'a> Chunk<'a> {
         let length = header.number(4).ok_or(cut_chunk(place))?;
         let name: Name = letters.try_into().expect("four bytes were taken");
         if !name.iter().all(u8::is_ascii_uppercase) {
-            return Err(no_letters(place));
+            return Err(wrong_identifier(place));
         }
         let data = left.take(length.value).ok_or(cut_chunk(place))?;
         Ok(Chunk { place, name, data })
@@ -125,7 +125,7 @@ impl<'a> Chunks<'a> {
         let mut left = Part::whole(module);
         let length = left.length();
         if length > MOST_BYTES {
-            return Err(too_big());
+            return Err(too_long());
         }
         let header = Header::take(&mut left)?;
         let (chunks, fault) = collect(left);

@@ -13,7 +13,7 @@
 mod modules;
 mod records;
 
-use crate::generate::{bytes, cells, damaged, entry, likely_bytes, sound_stream, Random};
+use crate::generate::{bytes, cells, damaged, entry, likely_bytes, valid_stream, Random};
 use crate::pattern::{pack, repack, FIELDS};
 
 /// The numbers that a records case queries.
@@ -261,7 +261,7 @@ pub fn pattern_cases() -> Vec<Case> {
     builder.cuts_and_changes();
     builder.ranges();
     builder.many_tracks();
-    builder.sound();
+    builder.valid();
     builder.broken();
     builder.packed_cells();
     builder.large();
@@ -388,13 +388,13 @@ impl CaseBuilder {
 
     /// Every row and track of a pattern, the next ones, and very large ones; also for a broken stream.
     fn indices(&mut self) {
-        let sound = pieces().concat();
+        let valid = pieces().concat();
         for row in 0..=3 {
             for track in 0..=5 {
-                self.stream(3, 4, (row, track), 0, &sound);
+                self.stream(3, 4, (row, track), 0, &valid);
             }
         }
-        let broken = [&sound[..], &[0x00]].concat();
+        let broken = [&valid[..], &[0x00]].concat();
         let wild = [
             0,
             1,
@@ -411,7 +411,7 @@ impl CaseBuilder {
             1 << 63,
             u64::MAX,
         ];
-        for stream in [&sound, &broken] {
+        for stream in [&valid, &broken] {
             for number in wild {
                 self.stream(3, 4, (number, 1), 0, stream);
                 self.stream(3, 4, (0, number), 0, stream);
@@ -419,8 +419,8 @@ impl CaseBuilder {
             }
         }
         // The fault is before, in and after the selected row.
-        for place in 0..sound.len() {
-            let mut broken = sound.clone();
+        for place in 0..valid.len() {
+            let mut broken = valid.clone();
             broken[place] = 0xC0;
             for row in 0..3 {
                 self.stream(3, 4, (row, 1 + place as u64 % 4), 0, &broken);
@@ -433,13 +433,13 @@ impl CaseBuilder {
 
     /// Output lengths of 0, and of one less, exactly, and one more than the cells and the packed stream need.
     fn rooms(&mut self) {
-        let sound = pieces().concat();
+        let valid = pieces().concat();
         let mut packed = vec![0; 100];
-        let length = repack(&sound, 3, 4, &mut packed).expect("100 bytes are enough") as u32;
-        let broken = [&sound[..], &[0x00]].concat();
-        let lacking = &sound[..sound.len() - 1];
+        let length = repack(&valid, 3, 4, &mut packed).expect("100 bytes are enough") as u32;
+        let broken = [&valid[..], &[0x00]].concat();
+        let lacking = &valid[..valid.len() - 1];
         for room in [0, 1, length - 1, length, length + 1, 71, 72, 73, 100] {
-            self.stream(3, 4, (0, 1), room, &sound);
+            self.stream(3, 4, (0, 1), room, &valid);
             self.stream(3, 4, (1, 4), room, &packed[..length as usize]);
             self.stream(3, 4, (2, 3), room, &broken);
             self.stream(3, 4, (2, 3), room, lacking);
@@ -714,12 +714,12 @@ impl CaseBuilder {
     }
 
     /// Random valid streams, some of them with one row or two tracks more or less.
-    fn sound(&mut self) {
+    fn valid(&mut self) {
         for turn in 0..420 {
             let rows = self.random.below(4);
             let tracks = self.random.pick(&[4, 4, 4, 6, 8]);
             let most = self.random.below(7);
-            let stream = sound_stream(&mut self.random, rows, tracks, most);
+            let stream = valid_stream(&mut self.random, rows, tracks, most);
             match turn % 6 {
                 0 if tracks > 4 => self.any_stream(rows, tracks - 2, &stream),
                 1 => self.any_stream(rows + 1, tracks, &stream),
@@ -750,13 +750,13 @@ impl CaseBuilder {
         for _ in 0..240 {
             let rows = self.random.below(4);
             let tracks = self.random.pick(&[4, 6]);
-            let stream = sound_stream(&mut self.random, rows, tracks, 4);
+            let stream = valid_stream(&mut self.random, rows, tracks, 4);
             let stream = damaged(&mut self.random, &stream);
             self.any_stream(rows, tracks, &stream);
         }
         // A cut entry after a number of valid ones.
         for _ in 0..60 {
-            let mut stream = sound_stream(&mut self.random, 1, 4, 3);
+            let mut stream = valid_stream(&mut self.random, 1, 4, 3);
             let entry = entry(&mut self.random, 4);
             let kept = self.random.below(entry.len() as u64) as usize;
             stream.extend(&entry[..kept]);
@@ -798,7 +798,7 @@ impl CaseBuilder {
     /// Some patterns of usual size, and outputs of the maximum length.
     fn large(&mut self) {
         for (rows, tracks, most) in [(64, 8, 5), (128, 4, 2)] {
-            let stream = sound_stream(&mut self.random, rows, tracks, most);
+            let stream = valid_stream(&mut self.random, rows, tracks, most);
             self.stream(
                 rows,
                 tracks,
@@ -813,9 +813,9 @@ impl CaseBuilder {
         self.cells(5, 254, 65_537, &packed);
 
         // 43 rows of 254 tracks are 65,532 bytes; 44 rows do not fit.
-        let stream = sound_stream(&mut self.random, 43, 254, 6);
+        let stream = valid_stream(&mut self.random, 43, 254, 6);
         self.stream(43, 254, (42, 254), u32::MAX, &stream);
-        let stream = sound_stream(&mut self.random, 44, 254, 2);
+        let stream = valid_stream(&mut self.random, 44, 254, 2);
         self.stream(44, 254, (43, 1), 300, &stream);
 
         // Many rows, short streams, and empty rows only.

@@ -72,7 +72,7 @@ pub fn entry(random: &mut Random, tracks: u64) -> Vec<u8> {
 }
 
 /// A valid stream: in each row up to `most` entries, in any order and with repeated tracks.
-pub fn sound_stream(random: &mut Random, rows: u64, tracks: u64, most: u64) -> Vec<u8> {
+pub fn valid_stream(random: &mut Random, rows: u64, tracks: u64, most: u64) -> Vec<u8> {
     let mut stream = Vec::new();
     for _ in 0..rows {
         for _ in 0..random.below(most + 1) {
@@ -266,7 +266,7 @@ fn song(random: &mut Random, most: &Limits, patterns: usize) -> Song {
 
 fn pattern(random: &mut Random, most: &Limits, tracks: u64) -> Pattern {
     let rows = random.below(most.rows.min(65_535) + 1);
-    let mut stream = sound_stream(random, rows, tracks, most.row_entries);
+    let mut stream = valid_stream(random, rows, tracks, most.row_entries);
     if random.chance(50) {
         let mut packed = stream.clone();
         let length = repack(&stream, rows, tracks, &mut packed).expect("no longer than it was");

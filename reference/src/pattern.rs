@@ -3,7 +3,7 @@
 //! A stream is read into rows of entries, and every call works on these. The check only reads them, the unpacker applies them to cells, and
 //! the repacker packs the resulting cells.
 
-use crate::refusal::{broken, no_such, out_of_range, too_short};
+use crate::refusal::{broken, not_there, out_of_range, too_short};
 
 pub use crate::refusal::Refusal;
 
@@ -206,7 +206,7 @@ pub fn repack(stream: &[u8], rows: u64, tracks: u64, out: &mut [u8]) -> Result<u
 pub fn cell(stream: &[u8], rows: u64, tracks: u64, row: u64, track: u64) -> Result<Cell, Refusal> {
     let shape = Shape::new(rows, tracks)?;
     if row >= rows || track == 0 || track > tracks {
-        return Err(no_such());
+        return Err(not_there());
     }
     let read = read(stream, shape)?;
     let cells = cells_of(&read[row as usize], shape);

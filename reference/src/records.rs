@@ -9,7 +9,7 @@ use crate::chunks::Info;
 use crate::module::{read, Module};
 use crate::part::{Field, Part};
 use crate::pattern::{self, put, Cell};
-use crate::refusal::{no_such, Refusal};
+use crate::refusal::{not_there, Refusal};
 
 /// A song: its name, and the number of entries in its playlist.
 #[derive(Clone, Copy, Debug, PartialEq, Eq)]
@@ -73,13 +73,13 @@ pub struct Sample {
 
 /// The item with this number, counted from 0. Refusal: 18.
 fn from_0<Thing>(things: impl IntoIterator<Item = Thing>, number: u64) -> Result<Thing, Refusal> {
-    let index = usize::try_from(number).map_err(|_| no_such())?;
-    things.into_iter().nth(index).ok_or(no_such())
+    let index = usize::try_from(number).map_err(|_| not_there())?;
+    things.into_iter().nth(index).ok_or(not_there())
 }
 
 /// The item with this number, counted from 1. Refusal: 18.
 fn from_1<Thing>(things: impl IntoIterator<Item = Thing>, number: u64) -> Result<Thing, Refusal> {
-    from_0(things, number.checked_sub(1).ok_or(no_such())?)
+    from_0(things, number.checked_sub(1).ok_or(not_there())?)
 }
 
 /// A name, whose length is fixed.

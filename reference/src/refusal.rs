@@ -8,7 +8,7 @@ pub struct Refusal {
 }
 
 /// 1: the module has more than 16,777,216 bytes.
-pub fn too_big() -> Refusal {
+pub fn too_long() -> Refusal {
     Refusal {
         number: 1,
         place: 0,
@@ -16,7 +16,7 @@ pub fn too_big() -> Refusal {
 }
 
 /// 2: the module has fewer than 8 bytes, or does not begin with DBM0.
-pub fn no_module() -> Refusal {
+pub fn not_a_module() -> Refusal {
     Refusal {
         number: 2,
         place: 0,
@@ -37,7 +37,7 @@ pub fn cut_chunk(place: u64) -> Refusal {
 }
 
 /// 5: the identifier of the chunk at this place is not four letters A to Z.
-pub fn no_letters(place: u64) -> Refusal {
+pub fn wrong_identifier(place: u64) -> Refusal {
     Refusal { number: 5, place }
 }
 
@@ -75,7 +75,7 @@ pub fn wrong_blocks(place: u64) -> Refusal {
 }
 
 /// 12: the field at this place refers to something that does not exist.
-pub fn dangling(place: u64) -> Refusal {
+pub fn wrong_reference(place: u64) -> Refusal {
     Refusal { number: 12, place }
 }
 
@@ -119,7 +119,7 @@ pub fn too_short(needed: u64) -> Refusal {
 }
 
 /// 18: there is no such song, entry, instrument, envelope, pattern, sample, frame, row or track.
-pub fn no_such() -> Refusal {
+pub fn not_there() -> Refusal {
     Refusal {
         number: 18,
         place: 0,

@@ -6,7 +6,7 @@ use crate::blocks::{Envelope, Instrument, Pattern, Song};
 use crate::module::Module;
 use crate::part::Field;
 use crate::pattern;
-use crate::refusal::{broken_pattern, dangling, loop_outside, wrong_field, Refusal};
+use crate::refusal::{broken_pattern, loop_outside, wrong_field, wrong_reference, Refusal};
 
 /// The refusals of all rules that a module with valid blocks breaks.
 pub fn broken<'m>(module: &'m Module) -> impl Iterator<Item = Refusal> + 'm {
@@ -59,7 +59,7 @@ fn of_song<'m>(song: &Song<'m>, patterns: u64) -> impl Iterator<Item = Refusal> 
     song.playlist
         .numbers()
         .filter(move |entry| entry.value >= patterns)
-        .map(|entry| dangling(entry.place))
+        .map(|entry| wrong_reference(entry.place))
 }
 
 fn of_instrument(instrument: &Instrument, samples: u64) -> impl Iterator<Item = Refusal> {
@@ -71,7 +71,7 @@ fn of_instrument(instrument: &Instrument, samples: u64) -> impl Iterator<Item = 
         ..
     } = *instrument;
     [
-        unless(sample.value <= samples, dangling(sample.place)),
+        unless(sample.value <= samples, wrong_reference(sample.place)),
         unless(is_volume(volume), wrong_field(volume.place)),
         unless(is_panning(panning), wrong_field(panning.place)),
         unless(flags.value <= 0b11, wrong_field(flags.place)),
@@ -105,7 +105,7 @@ fn of_envelope<'m>(
         .filter(move |&value| !allowed(value))
         .map(|value| wrong_field(value.place));
     [
-        unless(there, dangling(instrument.place)),
+        unless(there, wrong_reference(instrument.place)),
         unless(flags.value <= 0b1111, wrong_field(flags.place)),
         unless(sections.value <= 31, wrong_field(sections.place)),
         point(1, in_use(first_sustain), first_sustain),
@@ -136,12 +136,12 @@ fn loop_fits(module: &Module, instrument: &Instrument) -> bool {
 
 /// 15: every pattern's stream is accepted with its rows and the module's tracks.
 fn streams<'m>(module: &'m Module) -> impl Iterator<Item = Refusal> + 'm {
-    let sound = |pattern: &&Pattern| {
+    let valid = |pattern: &&Pattern| {
         pattern::check(pattern.stream, pattern.rows, module.info.tracks).is_ok()
     };
     module
         .patterns
         .iter()
-        .filter(move |pattern| !sound(pattern))
+        .filter(move |pattern| !valid(pattern))
         .map(|pattern| broken_pattern(pattern.place))
 }

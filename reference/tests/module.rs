@@ -903,8 +903,8 @@ fn panning_values() {
 fn several_envelopes() {
     // VENV at 108 with blocks at 118 and 254: the value of point 0 of the second is at 264.
     let head = one_chunk([1, 0, 0, 0, 4], b"INST", &instrument(0, 0, [0, 0], 0, 0));
-    let sound = envelope([0, 1, 1, 0, 0, 0, 0, 0], &[64]);
-    let both = [head, envelopes(b"VENV", &[sound.clone(), sound])].concat();
+    let valid = envelope([0, 1, 1, 0, 0, 0, 0, 0], &[64]);
+    let both = [head, envelopes(b"VENV", &[valid.clone(), valid])].concat();
     // Two envelopes of one instrument are allowed.
     accepted(&both);
     refused(&with(&both, 254, &[0, 2]), 12, 254);
@@ -1003,7 +1003,7 @@ fn loops_by_instrument() {
 // Refusal 15.
 
 #[test]
-fn streams_are_sound() {
+fn streams_are_valid() {
     // PATT at 42, the first block at 50, its stream at 56.
     let of = |tracks, rows, stream: &[u8]| {
         one_chunk([0, 0, 0, 1, tracks], b"PATT", &pattern(rows, stream, 0))

@@ -33,7 +33,7 @@ fn refused<T>(number: u64, place: u64) -> Result<T, Refusal> {
     Err(Refusal { number, place })
 }
 
-fn no_such<T>() -> Result<T, Refusal> {
+fn not_there<T>() -> Result<T, Refusal> {
     refused(18, 0)
 }
 
@@ -639,7 +639,7 @@ fn entries_have_two_bytes() {
     for (entry, pattern) in [(0, 0), (1, 255), (2, 256), (3, 258), (4, 1_023), (299, 0)] {
         assert_eq!(records::entry(&module, 0, entry), Ok(pattern));
     }
-    assert_eq!(records::entry(&module, 0, 300), no_such());
+    assert_eq!(records::entry(&module, 0, 300), not_there());
     let mut out = [0xAA; 601];
     assert_eq!(
         records::playlist(&module, 0, &mut out[..599]),
@@ -662,7 +662,7 @@ fn the_longest_playlist() {
     };
     assert_eq!(records::song(&module, 0), Ok(shown));
     assert_eq!(records::entry(&module, 0, 65_534), Ok(0));
-    assert_eq!(records::entry(&module, 0, 65_535), no_such());
+    assert_eq!(records::entry(&module, 0, 65_535), not_there());
     assert_eq!(
         records::playlist(&module, 0, &mut [0; 131_069]),
         refused(17, 131_070)
@@ -731,11 +731,11 @@ fn without_their_chunk_there_are_no_envelopes() {
         for number in [0, 1, 2, MOST] {
             assert_eq!(
                 records::envelope(&no_volume, Kind::Volume, number),
-                no_such()
+                not_there()
             );
             assert_eq!(
                 records::envelope(&no_panning, Kind::Panning, number),
-                no_such()
+                not_there()
             );
         }
         assert!(records::envelope(&no_volume, Kind::Panning, 1).is_ok());
@@ -749,7 +749,7 @@ fn without_their_chunk_there_are_no_envelopes() {
         .concat();
         assert_eq!(counts(&counted), [Ok(0), Ok(0)]);
         for kind in KINDS {
-            assert_eq!(records::envelope(&counted, kind, 0), no_such());
+            assert_eq!(records::envelope(&counted, kind, 0), not_there());
         }
     }
 }
@@ -907,7 +907,7 @@ fn a_pattern_without_rows() {
         writes(&[], |out| records::unpack(&module, 0, out));
         for row in [0, 1, MOST] {
             for track in [0, 1, 4, MOST] {
-                assert_eq!(records::cell(&module, 0, row, track), no_such());
+                assert_eq!(records::cell(&module, 0, row, track), not_there());
             }
         }
     }
@@ -927,8 +927,8 @@ fn the_last_track() {
     };
     assert_eq!(records::cell(&module, 0, 0, 254), Ok(d5));
     assert_eq!(records::cell(&module, 0, 0, 253), Ok(EMPTY));
-    assert_eq!(records::cell(&module, 0, 0, 255), no_such());
-    assert_eq!(records::cell(&module, 0, 0, 256 + 254), no_such());
+    assert_eq!(records::cell(&module, 0, 0, 255), not_there());
+    assert_eq!(records::cell(&module, 0, 0, 256 + 254), not_there());
     let mut cells = [0; 1_524];
     cells[1_518] = 0x52;
     writes(&cells, |out| records::unpack(&module, 0, out));
@@ -948,8 +948,8 @@ fn the_last_row() {
     assert_eq!(records::pattern(&module, 0), Ok(65_535));
     assert_eq!(records::cell(&module, 0, 65_534, 1), Ok(nine));
     assert_eq!(records::cell(&module, 0, 65_533, 1), Ok(EMPTY));
-    assert_eq!(records::cell(&module, 0, 65_535, 1), no_such());
-    assert_eq!(records::cell(&module, 0, 65_536, 1), no_such());
+    assert_eq!(records::cell(&module, 0, 65_535, 1), not_there());
+    assert_eq!(records::cell(&module, 0, 65_536, 1), not_there());
     // 65,535 × 4 × 6, and an output that is one byte too short.
     let mut out = vec![0xAA; 1_572_840];
     assert_eq!(
@@ -1079,7 +1079,7 @@ fn a_sample_without_frames() {
         assert_eq!(records::frames_refusal(&module, 1), None);
         writes(&[], |out| records::all_frames(&module, 1, out));
         for frame in [0, 1, MOST] {
-            assert_eq!(records::frame(&module, 1, frame), no_such());
+            assert_eq!(records::frame(&module, 1, frame), not_there());
         }
     }
 }
@@ -1101,7 +1101,7 @@ fn many_frames() {
     assert_eq!(records::frame(&module, 1, 0), Ok(0));
     assert_eq!(records::frame(&module, 1, 65_536), Ok(32_512));
     assert_eq!(records::frame(&module, 1, 69_999), Ok(-256));
-    assert_eq!(records::frame(&module, 1, 70_000), no_such());
+    assert_eq!(records::frame(&module, 1, 70_000), not_there());
     let mut out = vec![0xAA; 140_001];
     assert_eq!(
         records::all_frames(&module, 1, &mut out[..139_999]),
@@ -1120,7 +1120,7 @@ fn the_longest_sample() {
     assert_eq!(module.len(), 16_777_216);
     assert_eq!(records::frames(&module, 1), (66, 16_777_150));
     assert_eq!(records::frame(&module, 1, 16_777_149), Ok(-32_768));
-    assert_eq!(records::frame(&module, 1, 16_777_150), no_such());
+    assert_eq!(records::frame(&module, 1, 16_777_150), not_there());
     assert_eq!(
         records::all_frames(&module, 1, &mut [0; 8]),
         refused(17, 33_554_300)
@@ -1152,16 +1152,16 @@ fn the_last_instrument_sample_and_pattern() {
         assert_eq!(shown.map(|shown| shown.frames), Ok(u32::from(number)));
     }
     assert_eq!(records::frame(&module, 255, 254), Ok(-256));
-    assert_eq!(records::frame(&module, 255, 255), no_such());
+    assert_eq!(records::frame(&module, 255, 255), not_there());
     assert_eq!(records::frame(&module, 128, 127), Ok(-32_768));
     assert_eq!(records::pattern(&module, 1_023), Ok(3));
     assert_eq!(records::pattern(&module, 1_022), Ok(0));
     assert_eq!(records::cell(&module, 1_023, 2, 4), Ok(EMPTY));
     for number in [0, 256, 257, 511, MOST] {
-        assert_eq!(records::instrument(&module, number), no_such());
-        assert_eq!(records::sample(&module, number), no_such());
+        assert_eq!(records::instrument(&module, number), not_there());
+        assert_eq!(records::sample(&module, number), not_there());
     }
-    assert_eq!(records::pattern(&module, 1_024), no_such());
+    assert_eq!(records::pattern(&module, 1_024), not_there());
 }
 
 #[test]
@@ -1180,7 +1180,7 @@ fn the_last_song() {
     };
     assert_eq!(records::song(&module, 32_766), Ok(last));
     assert_eq!(records::song(&module, 32_765), Ok(other));
-    assert_eq!(records::song(&module, 32_767), no_such());
+    assert_eq!(records::song(&module, 32_767), not_there());
 }
 
 #[test]
@@ -1206,7 +1206,7 @@ fn the_last_envelope() {
         };
         assert_eq!(position(65_534), Ok(77));
         assert_eq!(position(65_533), Ok(0));
-        assert_eq!(position(65_535), no_such());
+        assert_eq!(position(65_535), not_there());
     }
 }
 
@@ -1216,16 +1216,16 @@ fn the_last_envelope() {
 fn no_such_song_or_entry() {
     let module = full(3);
     for song in [3, 4].into_iter().chain(BEYOND) {
-        assert_eq!(records::song(&module, song), no_such());
-        assert_eq!(records::playlist(&module, song, &mut [0; 100]), no_such());
+        assert_eq!(records::song(&module, song), not_there());
+        assert_eq!(records::playlist(&module, song, &mut [0; 100]), not_there());
         for entry in [0, 1, MOST] {
-            assert_eq!(records::entry(&module, song, entry), no_such());
+            assert_eq!(records::entry(&module, song, entry), not_there());
         }
     }
     // The songs have 3, 0 and 1 entries.
     for (song, entries) in [(0, [3, 4, 5]), (1, [0, 1, 2]), (2, [1, 2, 3])] {
         for entry in entries.into_iter().chain(BEYOND) {
-            assert_eq!(records::entry(&module, song, entry), no_such());
+            assert_eq!(records::entry(&module, song, entry), not_there());
         }
     }
 }
@@ -1233,10 +1233,10 @@ fn no_such_song_or_entry() {
 #[test]
 fn no_such_instrument() {
     for instrument in [0, 3, 4].into_iter().chain(BEYOND) {
-        assert_eq!(records::instrument(&full(3), instrument), no_such());
+        assert_eq!(records::instrument(&full(3), instrument), not_there());
     }
     for instrument in [0, 1, MOST] {
-        assert_eq!(records::instrument(&smallest(3), instrument), no_such());
+        assert_eq!(records::instrument(&smallest(3), instrument), not_there());
     }
 }
 
@@ -1244,8 +1244,8 @@ fn no_such_instrument() {
 fn no_such_envelope() {
     for kind in KINDS {
         for envelope in [2, 3, 4].into_iter().chain(BEYOND) {
-            assert_eq!(records::envelope(&full(2), kind, envelope), no_such());
-            assert_eq!(records::envelope(&full(3), kind, envelope), no_such());
+            assert_eq!(records::envelope(&full(2), kind, envelope), not_there());
+            assert_eq!(records::envelope(&full(3), kind, envelope), not_there());
         }
     }
 }
@@ -1254,23 +1254,26 @@ fn no_such_envelope() {
 fn no_such_pattern_row_or_track() {
     let module = full(3);
     for pattern in [3, 4].into_iter().chain(BEYOND) {
-        assert_eq!(records::pattern(&module, pattern), no_such());
-        assert_eq!(records::cell(&module, pattern, 0, 1), no_such());
-        assert_eq!(records::unpack(&module, pattern, &mut [0; 999]), no_such());
+        assert_eq!(records::pattern(&module, pattern), not_there());
+        assert_eq!(records::cell(&module, pattern, 0, 1), not_there());
+        assert_eq!(
+            records::unpack(&module, pattern, &mut [0; 999]),
+            not_there()
+        );
     }
     // Pattern 0 has 2 rows, 1 has none, 2 has one; there are 6 tracks.
     for (pattern, rows) in [(0, [2, 3]), (1, [0, 1]), (2, [1, 2])] {
         for row in rows.into_iter().chain(BEYOND) {
             for track in [1, 6] {
-                assert_eq!(records::cell(&module, pattern, row, track), no_such());
+                assert_eq!(records::cell(&module, pattern, row, track), not_there());
             }
         }
     }
     for track in [0, 7, 8].into_iter().chain(BEYOND) {
-        assert_eq!(records::cell(&module, 0, 0, track), no_such());
-        assert_eq!(records::cell(&module, 0, 1, track), no_such());
-        assert_eq!(records::cell(&module, 2, 0, track), no_such());
-        assert_eq!(records::cell(&module, MOST, MOST, track), no_such());
+        assert_eq!(records::cell(&module, 0, 0, track), not_there());
+        assert_eq!(records::cell(&module, 0, 1, track), not_there());
+        assert_eq!(records::cell(&module, 2, 0, track), not_there());
+        assert_eq!(records::cell(&module, MOST, MOST, track), not_there());
     }
 }
 
@@ -1278,23 +1281,23 @@ fn no_such_pattern_row_or_track() {
 fn no_such_sample_or_frame() {
     let module = full(3);
     for sample in [0, 5, 6].into_iter().chain(BEYOND) {
-        assert_eq!(records::sample(&module, sample), no_such());
+        assert_eq!(records::sample(&module, sample), not_there());
         assert_eq!(records::frames(&module, sample), (0, 0));
         assert_eq!(
             records::frames_refusal(&module, sample),
-            no_such::<()>().err()
+            not_there::<()>().err()
         );
         assert_eq!(
             records::all_frames(&module, sample, &mut [0; 99]),
-            no_such()
+            not_there()
         );
         for frame in [0, 1, MOST] {
-            assert_eq!(records::frame(&module, sample, frame), no_such());
+            assert_eq!(records::frame(&module, sample, frame), not_there());
         }
     }
     for (sample, frames) in [(1, [5, 6]), (2, [3, 4]), (3, [4, 5]), (4, [0, 1])] {
         for frame in frames.into_iter().chain(BEYOND) {
-            assert_eq!(records::frame(&module, sample, frame), no_such());
+            assert_eq!(records::frame(&module, sample, frame), not_there());
         }
     }
 }
@@ -1319,7 +1322,7 @@ fn nothing_is_there_in_the_smallest() {
                 records::frame(&module, number, 0).err(),
                 records::all_frames(&module, number, &mut []).err(),
             ];
-            assert_eq!(refusals, [no_such::<()>().err(); 13]);
+            assert_eq!(refusals, [not_there::<()>().err(); 13]);
             assert_eq!(records::frames(&module, number), (0, 0));
         }
     }
@@ -1334,11 +1337,11 @@ fn what_is_not_there_comes_before_the_room() {
     for room in [0, 1, 5, 71, 200] {
         let mut out = vec![0xAA; room];
         for number in [3, MOST] {
-            assert_eq!(records::playlist(&module, number, &mut out), no_such());
-            assert_eq!(records::unpack(&module, number, &mut out), no_such());
+            assert_eq!(records::playlist(&module, number, &mut out), not_there());
+            assert_eq!(records::unpack(&module, number, &mut out), not_there());
         }
         for number in [0, 5, MOST] {
-            assert_eq!(records::all_frames(&module, number, &mut out), no_such());
+            assert_eq!(records::all_frames(&module, number, &mut out), not_there());
         }
         assert_eq!(out, vec![0xAA; room]);
     }

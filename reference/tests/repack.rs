@@ -325,9 +325,9 @@ fn the_most_patterns() {
 #[test]
 fn refusals_write_nothing() {
     let good = before(3);
-    let too_big = [&good[..], &vec![0; 16_777_217 - 642]].concat();
+    let too_long = [&good[..], &vec![0; 16_777_217 - 642]].concat();
     let wrong = [
-        (too_big, 1, 0),
+        (too_long, 1, 0),
         (with(&good, 0, b"X"), 2, 0),
         (with(&good, 4, &[4]), 3, 4),
         (with(&good, 638, &[4]), 4, 631),
@@ -488,7 +488,7 @@ fn drawn_modules_show_the_same() {
 fn packed(given: &Pattern, tracks: u16) -> Pattern {
     let (rows, tracks) = (u64::from(given.rows), u64::from(tracks));
     let mut cells = vec![0; (rows * tracks * 6) as usize];
-    pattern::unpack(&given.stream, rows, tracks, &mut cells).expect("a sound stream");
+    pattern::unpack(&given.stream, rows, tracks, &mut cells).expect("a valid stream");
     let mut stream = vec![0; (rows * (1 + 8 * tracks)) as usize];
     let length = pattern::pack(&cells, rows, tracks, &mut stream).expect("there is enough room");
     Pattern::new(given.rows, &stream[..length as usize])

@@ -10,7 +10,7 @@ use reference::pattern::{Cell, Note};
 use reference::records::{self, Kind, Point};
 use reference::refusal::Refusal;
 
-const NO_SUCH: Refusal = Refusal {
+const NOT_THERE: Refusal = Refusal {
     number: 18,
     place: 0,
 };
@@ -115,7 +115,7 @@ fn shows_song(random: &mut Random, module: &[u8], number: u64, song: &Song) {
         );
     }
     let past = song.playlist.len() as u64;
-    assert_eq!(records::entry(module, number, past), Err(NO_SUCH));
+    assert_eq!(records::entry(module, number, past), Err(NOT_THERE));
     let playlist = song.playlist.iter().flat_map(|entry| entry.to_be_bytes());
     writes(&playlist.collect::<Vec<u8>>(), |out| {
         records::playlist(module, number, out)
@@ -176,7 +176,7 @@ fn shows_envelopes(module: &[u8], tune: &Tune) {
             shows_envelope(module, kind, number, envelope, scaled);
         }
         let past = envelopes.len() as u64;
-        assert_eq!(records::envelope(module, kind, past), Err(NO_SUCH));
+        assert_eq!(records::envelope(module, kind, past), Err(NOT_THERE));
     }
 }
 
@@ -221,11 +221,14 @@ fn shows_pattern(
         for track in [0, tracks + 1] {
             assert_eq!(
                 records::cell(module, number, row as u64, track),
-                Err(NO_SUCH)
+                Err(NOT_THERE)
             );
         }
     }
-    assert_eq!(records::cell(module, number, rows as u64, 1), Err(NO_SUCH));
+    assert_eq!(
+        records::cell(module, number, rows as u64, 1),
+        Err(NOT_THERE)
+    );
     let cells = known_pattern.rows.concat().concat();
     writes(&cells, |out| records::unpack(module, number, out));
 }
@@ -253,7 +256,7 @@ fn shows_sample(random: &mut Random, module: &[u8], number: u64, sample: &Sample
         );
     }
     let past = frames.len() as u64;
-    assert_eq!(records::frame(module, number, past), Err(NO_SUCH));
+    assert_eq!(records::frame(module, number, past), Err(NOT_THERE));
     writes(&frames.concat(), |out| {
         records::all_frames(module, number, out)
     });
@@ -312,15 +315,15 @@ fn shows(seed: u64, most: &Limits) {
 /// One past the last, and 0 if counting begins at 1.
 fn shows_no_more(module: &[u8], tune: &Tune) {
     let [songs, patterns] = [tune.songs.len(), tune.patterns.len()].map(|count| count as u64);
-    assert_eq!(records::song(module, songs), Err(NO_SUCH));
-    assert_eq!(records::pattern(module, patterns), Err(NO_SUCH));
+    assert_eq!(records::song(module, songs), Err(NOT_THERE));
+    assert_eq!(records::pattern(module, patterns), Err(NOT_THERE));
     for number in [0, tune.instruments.len() as u64 + 1] {
-        assert_eq!(records::instrument(module, number), Err(NO_SUCH));
+        assert_eq!(records::instrument(module, number), Err(NOT_THERE));
     }
     for number in [0, tune.samples.len() as u64 + 1] {
-        assert_eq!(records::sample(module, number), Err(NO_SUCH));
+        assert_eq!(records::sample(module, number), Err(NOT_THERE));
         assert_eq!(records::frames(module, number), (0, 0));
-        assert_eq!(records::frames_refusal(module, number), Some(NO_SUCH));
+        assert_eq!(records::frames_refusal(module, number), Some(NOT_THERE));
     }
 }
 

@@ -166,7 +166,7 @@ static void too_long(void)
 }
 
 /* 2: fewer than 8 bytes, or not DBM0. */
-static void no_module(void)
+static void not_a_module(void)
 {
     compare(dbm0_check_module(NULL, 0), 2, 0, __LINE__);
     CHECK("", 2, 0);
@@ -218,7 +218,7 @@ static void cut_chunk(void)
 }
 
 /* 5: an identifier is not four letters A to Z. */
-static void no_letters(void)
+static void wrong_identifier(void)
 {
     CHECK(SMALLEST "ABCd" ZEROS_4, 5, 58);
     CHECK(SMALLEST "AB D" ZEROS_4, 5, 58);
@@ -368,7 +368,7 @@ static void wrong_blocks(void)
 }
 
 /* 12: a playlist entry, a sample or an envelope's instrument does not exist. */
-static void dangling(void)
+static void wrong_reference(void)
 {
     PUT(80, "\0\x01"), GIVES(12, 80);
     PUT(80, "\xFF\xFF"), GIVES(12, 80);
@@ -564,17 +564,17 @@ int main(void)
     }
     accepted();
     too_long();
-    no_module();
+    not_a_module();
     unknown_version();
     cut_chunk();
-    no_letters();
+    wrong_identifier();
     repeated();
     before_info();
     missing_chunk();
     wrong_length();
     wrong_info();
     wrong_blocks();
-    dangling();
+    wrong_reference();
     wrong_field();
     loop_outside();
     broken_stream();

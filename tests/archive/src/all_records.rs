@@ -15,7 +15,7 @@ pub const RECORDS: Call<'static> = Call {
     reference: &|module, output| answer(write(module, output.slice())),
     enough: &|length| length + 60,
     refusal: &queries::refusal,
-    keeps: &shown_one_by_one,
+    properties: &shown_one_by_one,
 };
 
 /// Each record equals the answer of its query.

@@ -43,10 +43,10 @@ pub fn sample_files(agrees: impl Comparison) {
     }
 }
 
-pub fn sound(agrees: impl Comparison, cases: u64, larger: u64) {
+pub fn valid(agrees: impl Comparison, cases: u64, larger: u64) {
     for_seeds(cases, |random| {
         let module = drawn(random, larger).bytes();
-        check(&module).expect("it was made sound");
+        check(&module).expect("it is valid");
         agrees(&module, random)
     });
 }

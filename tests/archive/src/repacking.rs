@@ -16,11 +16,16 @@ pub const REPACK: Call<'static> = Call {
     reference: &|module, output| answer(repack(module, output.slice())),
     enough: &|length| length,
     refusal: &queries::refusal,
-    keeps: &keeps,
+    properties: &keeps_answers,
 };
 
 /// The repacked module is accepted, its queries return the same answers, and repacking it again does not change it.
-fn keeps(call: &Call, module: &[u8], repacked: &[u8], random: &mut Random) -> Result<(), String> {
+fn keeps_answers(
+    call: &Call,
+    module: &[u8],
+    repacked: &[u8],
+    random: &mut Random,
+) -> Result<(), String> {
     show_the_same(call.queries, repacked, module, random)?;
     let mut again = GuardedOutput::new(repacked.len());
     let is = (call.library)(repacked, &mut again);

@@ -9,7 +9,7 @@ use interface::{Answer, OUTPUT_TOO_SHORT};
 use reference::generate::Random;
 
 impl Call<'_> {
-    /// The number of modules for which the stand-in differs from the reference, and the number for which `holds_alone` fails.
+    /// The number of modules for which the stand-in differs from the reference, and the number for which `check_properties` fails.
     pub fn differences(&self, library: Fill) -> (usize, usize) {
         let call = Call {
             library,
@@ -23,7 +23,7 @@ impl Call<'_> {
         };
         (
             count(&|module, random| call.compare(module, random).is_err()),
-            count(&|module, random| call.holds_alone(module, random).is_err()),
+            count(&|module, random| call.check_properties(module, random).is_err()),
         )
     }
 

@@ -21,7 +21,7 @@ use reference::generate::Random;
 pub type Fill<'a> = &'a dyn Fn(&[u8], &mut GuardedOutput) -> Answer;
 
 /// The required properties of the bytes that a call writes, independent of the reference. The arguments are the module and the bytes.
-pub type Keeps<'a> = &'a dyn Fn(&Call, &[u8], &[u8], &mut Random) -> Result<(), String>;
+pub type Properties<'a> = &'a dyn Fn(&Call, &[u8], &[u8], &mut Random) -> Result<(), String>;
 
 #[derive(Clone, Copy)]
 pub struct Call<'a> {
@@ -34,14 +34,14 @@ pub struct Call<'a> {
     pub enough: &'a dyn Fn(usize) -> usize,
     /// The answer of a query that refuses exactly the modules that the call refuses.
     pub refusal: &'a dyn Fn(&Queries, &[u8]) -> ModuleAnswer,
-    pub keeps: Keeps<'a>,
+    pub properties: Properties<'a>,
 }
 
 impl Call<'_> {
     /// All checks of a call for one module. The error message has the difference, and the whole module if it is short.
     pub fn agrees(&self, module: &[u8], random: &mut Random) -> Result<(), String> {
         self.compare(module, random)?;
-        self.holds_alone(module, random)
+        self.check_properties(module, random)
     }
 
     /// The library agrees with the reference for outputs of several lengths.
@@ -80,14 +80,13 @@ impl Call<'_> {
 
     /// The properties of the library without the reference, checked with its own queries: a refusal equals that of a query, only the
     /// written bytes of an output that is long enough change, and these bytes have the required properties.
-    pub fn holds_alone(&self, module: &[u8], random: &mut Random) -> Result<(), String> {
+    pub fn check_properties(&self, module: &[u8], random: &mut Random) -> Result<(), String> {
         let written = self
             .written(module)
             .map_err(|what| with_module(what, module))?;
         match written {
-            Some(bytes) => {
-                (self.keeps)(self, module, &bytes, random).map_err(|what| with_module(what, module))
-            }
+            Some(bytes) => (self.properties)(self, module, &bytes, random)
+                .map_err(|what| with_module(what, module)),
             None => Ok(()),
         }
     }
@@ -217,7 +216,7 @@ macro_rules! tests_of_a_call {
         into null: $into_null:expr,
         of null: $of_null:expr,
         cut: $cut:expr,
-        sound modules: $sound:expr,
+        valid modules: $valid:expr,
         damaged modules: $damaged:expr,
     ) => {
         fn agrees(module: &[u8], random: &mut reference::generate::Random) -> Result<(), String> {
@@ -255,8 +254,8 @@ macro_rules! tests_of_a_call {
         }
 
         #[test]
-        fn sound_modules() {
-            $crate::modules::sound(agrees, $sound, 3);
+        fn valid_modules() {
+            $crate::modules::valid(agrees, $valid, 3);
         }
 
         #[test]

@@ -30,7 +30,7 @@ archive::tests_of_a_call! {
     into null: interface::records_into_null,
     of null: interface::records_of_null,
     cut: [MODULE.to_vec(), file("old.dbm")],
-    sound modules: 3_000,
+    valid modules: 3_000,
     damaged modules: 6_000,
 }
 
@@ -53,7 +53,7 @@ fn many_records() {
     };
     for_seeds(60, |random| {
         let module = module(random, &most).bytes();
-        check(&module).expect("it was made sound");
+        check(&module).expect("it is valid");
         RECORDS.compare(&module, random)
     });
 }

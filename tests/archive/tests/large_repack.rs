@@ -10,7 +10,9 @@ use reference::generate::Random;
 fn becomes(module: &[u8], expected: &[u8]) {
     REPACK.gives(module, expected);
     REPACK.into_room(expected, expected.len()).unwrap();
-    REPACK.holds_alone(module, &mut Random::new(1)).unwrap();
+    REPACK
+        .check_properties(module, &mut Random::new(1))
+        .unwrap();
 }
 
 /// The draft with other patterns.

@@ -27,7 +27,7 @@ fn accepted(module: &[u8]) -> Result<(), String> {
     compare::module(ARCHIVE, module)?;
     match interface::check_module(module) {
         ACCEPTED => Ok(()),
-        answer => Err(format!("{answer:?} for a module that was made sound")),
+        answer => Err(format!("{answer:?} for a module that is valid")),
     }
 }
 
@@ -144,8 +144,8 @@ fn the_sample_files() {
 }
 
 #[test]
-fn sound_modules() {
-    modules::sound(|module, _| accepted(module), 20_000, 10);
+fn valid_modules() {
+    modules::valid(|module, _| accepted(module), 20_000, 10);
 }
 
 #[test]
@@ -276,8 +276,8 @@ fn every_loop() {
 }
 
 /// INST follows INFO and an empty SONG at 8 + 18 + 8. Its first block is 8 bytes further.
-fn one_loop(module: &[u8], is_sound: bool) {
-    let expected = if is_sound {
+fn one_loop(module: &[u8], is_valid: bool) {
+    let expected = if is_valid {
         ACCEPTED
     } else {
         ModuleAnswer {

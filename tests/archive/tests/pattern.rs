@@ -4,7 +4,7 @@ use archive::compare::{self, answer, ARCHIVE, REFERENCE};
 use archive::seeds::for_seeds;
 use archive::writing::writes;
 use reference::corpus::{pattern_cases, Case};
-use reference::generate::{bytes, cells, damaged, likely_bytes, sound_stream, Random};
+use reference::generate::{bytes, cells, damaged, likely_bytes, valid_stream, Random};
 use reference::pattern::{check, pack, repack, unpack};
 
 /// Rows and tracks, mostly small numbers.
@@ -92,11 +92,11 @@ fn the_corpus() {
 }
 
 #[test]
-fn sound_streams() {
+fn valid_streams() {
     for_seeds(20_000, |random| {
         let (rows, tracks) = shape(random);
         let most = random.below(12);
-        let stream = sound_stream(random, rows, tracks, most);
+        let stream = valid_stream(random, rows, tracks, most);
         compare_stream(random, &stream, rows, tracks)
     });
 }
@@ -105,7 +105,7 @@ fn sound_streams() {
 fn the_packers_streams() {
     for_seeds(10_000, |random| {
         let (rows, tracks) = shape(random);
-        let stream = sound_stream(random, rows, tracks, 8);
+        let stream = valid_stream(random, rows, tracks, 8);
         let mut packed = vec![0; stream.len()];
         let length = repack(&stream, rows, tracks, &mut packed).expect("no longer than the stream");
         compare_stream(random, &packed[..length as usize], rows, tracks)
@@ -116,7 +116,7 @@ fn the_packers_streams() {
 fn damaged_streams() {
     for_seeds(20_000, |random| {
         let (rows, tracks) = shape(random);
-        let stream = sound_stream(random, rows, tracks, 6);
+        let stream = valid_stream(random, rows, tracks, 6);
         let stream = damaged(random, &stream);
         compare_stream(random, &stream, rows, tracks)
     });
@@ -133,8 +133,8 @@ fn random_bytes() {
         let tracks = 4 + 2 * random.below(126);
         let tracks = random.pick(&[4, 4, tracks, 254]);
         // The number of rows for which the bytes are a valid stream, if there is one.
-        let sound = (0..=length).find(|&rows| check(&stream, rows, tracks).is_ok());
-        let rows = sound.unwrap_or(random.below(12));
+        let valid = (0..=length).find(|&rows| check(&stream, rows, tracks).is_ok());
+        let rows = valid.unwrap_or(random.below(12));
         compare_stream(random, &stream, rows, tracks)
     });
 }

@@ -24,8 +24,8 @@ fn the_sample_files() {
 }
 
 #[test]
-fn sound_modules() {
-    modules::sound(agrees, 1_000, 2);
+fn valid_modules() {
+    modules::valid(agrees, 1_000, 2);
 }
 
 #[test]

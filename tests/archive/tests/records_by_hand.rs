@@ -619,16 +619,16 @@ fn what_is_not_there() {
 /// The module's own refusal has priority over 18 and 17.
 #[test]
 fn refused_modules() {
-    let sound = tune(3);
+    let valid = tune(3);
     let broken = |change: fn(&mut Tune)| {
-        let mut tune = sound.clone();
+        let mut tune = valid.clone();
         change(&mut tune);
         tune.bytes()
     };
     for (module, number, place) in [
         (vec![], 2, 0),
         (broken(|tune| tune.version = 4), 3, 4),
-        (sound.bytes()[..100].to_vec(), 4, 78),
+        (valid.bytes()[..100].to_vec(), 4, 78),
         (broken(|tune| tune.tracks = 5), 10, 76),
         (broken(|tune| tune.songs[0].playlist[1] = 3), 12, 416),
         (broken(|tune| tune.instruments[0].volume = 65), 13, 506),

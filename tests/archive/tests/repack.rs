@@ -37,7 +37,7 @@ archive::tests_of_a_call! {
     into null: interface::repack_into_null,
     of null: interface::repack_null,
     cut: [&BEFORE[..], AFTER],
-    sound modules: 4_000,
+    valid modules: 4_000,
     damaged modules: 10_000,
 }
 
@@ -131,7 +131,7 @@ fn patt_at_every_place() {
         let mut draft = draft.clone();
         draft.chunks.insert(place, patt.clone());
         let module = draft.bytes();
-        check(&module).expect("it was made sound");
+        check(&module).expect("it is valid");
         agrees(&module, &mut Random::new(place as u64)).unwrap();
     }
 }

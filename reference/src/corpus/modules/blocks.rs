@@ -417,11 +417,11 @@ impl CaseBuilder {
 
     /// A broken stream in each of three patterns, and in two of them; and together with a loop outside its sample.
     fn several_patterns(&mut self) {
-        let sound = Pattern::new(2, &[0x02, 0x03, 0x47, 0x01, 0x00, 0x00]);
+        let valid = Pattern::new(2, &[0x02, 0x03, 0x47, 0x01, 0x00, 0x00]);
         let broken = Pattern::new(2, &[0x02, 0x43, 0x47, 0x01, 0x00, 0x00]);
         for faults in 0..8 {
             let patterns = (0..3)
-                .map(|index| [&sound, &broken][faults >> index & 1].clone())
+                .map(|index| [&valid, &broken][faults >> index & 1].clone())
                 .collect();
             let tune = Tune {
                 patterns,
