@@ -28,7 +28,11 @@ module _ {A : Type 0} {P : A → Type 0} where
 
   pub every-split : (xs ys zs : List A) → Every P (xs ++ (ys ++ zs)) ↔ (Every P xs × Every P ys × Every P zs)
   every-split xs ys zs = (
-    λ e. (every-append xs (ys ++ zs) .0 e .0, every-append ys zs .0 (every-append xs (ys ++ zs) .0 e .1) .0, every-append ys zs .0 (every-append xs (ys ++ zs) .0 e .1) .1),
+    λ e. (
+      every-append xs (ys ++ zs) .0 e .0,
+      every-append ys zs .0 (every-append xs (ys ++ zs) .0 e .1) .0,
+      every-append ys zs .0 (every-append xs (ys ++ zs) .0 e .1) .1,
+    ),
     λ e. every-append xs (ys ++ zs) .1 (e .0, every-append ys zs .1 (e .1, e .2)),
   )
 

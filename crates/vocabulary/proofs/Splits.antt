@@ -31,7 +31,11 @@ module _ {A : Type 0} where
 
   -- In the list that a function gives.
   pub within-mapped : {B : Type 0} (f : A → B) {xs : List A} {x : A} → Within xs x → Within (map f xs) (f x)
-  within-mapped f {x = x} w = record { before = map f (w .before); after = map f (w .after); splits = ap (map f) (w .splits) ∙ map-append f (w .before) (x ∷ w .after) }
+  within-mapped f {x = x} w = record {
+    before = map f (w .before);
+    after = map f (w .after);
+    splits = ap (map f) (w .splits) ∙ map-append f (w .before) (x ∷ w .after);
+  }
 
   pub mapped-within : {B : Type 0} (f : A → B) {xs : List A} {y : B} → Within (map f xs) y → (x : A) × Within xs x × (y ≡ f x)
   mapped-within f {xs} {y} w =
@@ -39,7 +43,8 @@ module _ {A : Type 0} where
       (s .one, record { before = s .front; after = s .back; splits = s .splits }, s .oneIs)
 
   -- Two splits of one list: at the same place, or the one behind the other.
-  two-splits : (before others : List A) {after rest : List A} {one two : A} → before ++ (one ∷ after) ≡ others ++ (two ∷ rest) → (one ≡ two) ⊎ (((between : List A) × (after ≡ between ++ (two ∷ rest))) ⊎ ((between : List A) × (rest ≡ between ++ (one ∷ after))))
+  two-splits : (before others : List A) {after rest : List A} {one two : A} → before ++ (one ∷ after) ≡ others ++ (two ∷ rest)
+      → (one ≡ two) ⊎ (((between : List A) × (after ≡ between ++ (two ∷ rest))) ⊎ ((between : List A) × (rest ≡ between ++ (one ∷ after))))
   two-splits [] [] e = inl (cc)
   two-splits [] (x ∷ others) e = inr (inl (others, cc))
   two-splits (x ∷ before) [] e = inr (inr (before, cc))
@@ -52,7 +57,9 @@ module _ {A : Type 0} where
   pub only-one : (P : A → Type 0) {xs : List A} {one two : A} → NoTwo P xs → Within xs one → Within xs two → P one → P two → one ≡ two
   only-one P {xs} {one} {two} never v w p q = go (two-splits (v .before) (w .before) (sym (v .splits) ∙ w .splits))
     where
-      go : (one ≡ two) ⊎ (((between : List A) × (v .after ≡ between ++ (two ∷ w .after))) ⊎ ((between : List A) × (w .after ≡ between ++ (one ∷ v .after)))) → one ≡ two
+      go : (one ≡ two)
+          ⊎ (((between : List A) × (v .after ≡ between ++ (two ∷ w .after))) ⊎ ((between : List A) × (w .after ≡ between ++ (one ∷ v .after))))
+          → one ≡ two
       go (inl same) = same
       go (inr (inl (between, s))) = absurd (never (v .before) between (w .after) one two (v .splits ∙ ap (λ (l : List A). v .before ++ (one ∷ l)) s) p q)
       go (inr (inr (between, s))) = absurd (never (w .before) between (v .after) two one (w .splits ∙ ap (λ (l : List A). w .before ++ (two ∷ l)) s) q p)
