@@ -12,11 +12,13 @@ use Rattle.refusal.specs.declared.LengthAnswer.{LengthAnswer}
 
 module _ (needed : ℕ) (written out : List ℕ) where
   -- 17, and the output does not change.
-  pub lacking : length out < needed → (refusedLength (refusal Room needed) ≡ lengthIf needed (length out)) × (out ≡ outputIf (lengthIf needed (length out)) written out)
+  pub lacking : length out < needed
+      → (refusedLength (refusal Room needed) ≡ lengthIf needed (length out)) × (out ≡ outputIf (lengthIf needed (length out)) written out)
   lacking h = (simp (lt-ltb (length out) needed h), simp (lt-ltb (length out) needed h))
 
   -- What is written, and after it what was there.
-  pub enough : length written ≡ needed → needed ≤ length out → (writtenLength needed ≡ lengthIf needed (length out)) × (written ++ drop needed out ≡ outputIf (lengthIf needed (length out)) written out)
+  pub enough : length written ≡ needed → needed ≤ length out
+      → (writtenLength needed ≡ lengthIf needed (length out)) × (written ++ drop needed out ≡ outputIf (lengthIf needed (length out)) written out)
   enough e h =
       (simp (le-ltb (length out) needed h), simp (le-ltb (length out) needed h) (ap (λ (n : ℕ). written ++ drop n out) (sym e)))
 
