@@ -15,7 +15,8 @@ use Rattle.cells.specs.declared.Note.the-variants.{None, KeyOff, Pitch, 
 pub note-kept : (note : ℕ) → noteByte (shownNote note) ≡ note
 note-kept note = go (eqb note 0) (eqb note 31) (isPitch note) refl refl
   where
-    go : (a b d : Bool) → eqb note 0 ≡ a → eqb note 31 ≡ b → noteByte (cond a None (cond b KeyOff (cond d (Pitch (note / 16) (note % 16)) (Unknown note)))) ≡ note
+    go : (a b d : Bool) → eqb note 0 ≡ a → eqb note 31 ≡ b
+        → noteByte (cond a None (cond b KeyOff (cond d (Pitch (note / 16) (note % 16)) (Unknown note)))) ≡ note
     go true b d e f = sym (eqb-true note 0 e)
     go false true d e f = sym (eqb-true note 31 f)
     go false false true e f = div-add-mod' note 16
