@@ -10,4 +10,5 @@ returns c = simp (c .before .before .wide .ensures .0, c .wide2 .ensures .0)
 pub whole16-spec : {M : Type 1} → statement M
 whole16-spec =
     tie.close
-    (tie.spec (λ c. search needs) (λ c κs. search needs) (λ c. search needs) (λ c. search needs) (λ c. search needs) (λ c κs. search needs) (λ c. search needs) returns)
+    (tie.spec (λ c. search needs) (λ c κs. search needs) (λ c. search needs) (λ c. search needs) (λ c. search needs)
+    (λ c κs. search needs) (λ c. search needs) returns)

@@ -10,4 +10,5 @@ returns c = simp (c .before .whole16 .ensures, c .whole162 .ensures)
 pub whole32-spec : {M : Type 1} → statement M
 whole32-spec =
     tie.close
-    (tie.spec (λ c κs. search needs) (λ c. search needs) (λ c. search needs) (λ c. search needs) (λ c κs. search needs) (λ c. search needs) (λ c. search needs) returns)
+    (tie.spec (λ c κs. search needs) (λ c. search needs) (λ c. search needs) (λ c. search needs) (λ c κs. search needs)
+    (λ c. search needs) (λ c. search needs) returns)
