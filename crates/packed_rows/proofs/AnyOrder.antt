@@ -64,7 +64,9 @@ carry-packed before after track cell here l =
     rw (getD-at before emptyCell after emptyCell (track - 1) here, named-packed cell l, store-packed 6 cell l)
     (set-at before emptyCell after cell (track - 1) here)
 
-entries-give : (before : Row) {track n : ℕ} {row : Row} {es : List Entry} → Packs track row es → Blocks n 6 row → suc (length before) ≡ track → carryAll es (before ++ emptyRow n) ≡ before ++ row
+entries-give : (before : Row) {track n : ℕ} {row : Row} {es : List Entry} → Packs track row es → Blocks n 6 row
+    → suc (length before) ≡ track
+    → carryAll es (before ++ emptyRow n) ≡ before ++ row
 entries-give before done none t = refl
 entries-give before (written {track = track} {cell = cell} {es = es} q p) (one {n = n} l b) t =
     ap (carryAll es) (carry-packed before (emptyRow n) track cell (omega arith) l)

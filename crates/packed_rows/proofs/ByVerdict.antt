@@ -13,7 +13,10 @@ use Rattle.packed_rows.specs.Stream.{Reading, brokenAt, whole}
 use Rattle.packed_rows.specs.Answers.{verdictOf}
 
 pub accepted-reading : (r : Reading) → (verdictOf r ≡ Accepted) ↔ ((entries : List (List Entry)) × (r ≡ whole entries))
-accepted-reading (brokenAt p) = (λ h. absurd (let z : _≡_ {A = ℕ} 0 1 = cc in omega arith), λ h. absurd (let e = h .1 in let z : _≡_ {A = ℕ} 0 1 = cc in omega arith))
+accepted-reading (brokenAt p) = (
+  λ h. absurd (let z : _≡_ {A = ℕ} 0 1 = cc in omega arith),
+  λ h. absurd (let e = h .1 in let z : _≡_ {A = ℕ} 0 1 = cc in omega arith),
+)
 accepted-reading (whole entries) = (λ h. (entries, refl), λ h. refl)
 
 same-refusal : {a b : Refusal} → Refused a ≡ Refused b → a ≡ b

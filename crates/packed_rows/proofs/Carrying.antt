@@ -25,7 +25,8 @@ block-at (suc n) size zero l d h = rw (zero-mul size)
 block-at (suc n) size (suc k) l d h =
     block-at n size k (drop size l) d (omega arith) ∙ rw (drop-drop (k * size) size l, suc-mul k size, add-comm (k * size) size)
 
-pub block-set : (n size k : ℕ) (l c : List ℕ) → k < n → length c ≡ size → n * size ≤ length l → blocksOf n size (take (k * size) l ++ (c ++ drop (k * size + size) l)) ≡ set (blocksOf n size l) k c
+pub block-set : (n size k : ℕ) (l c : List ℕ) → k < n → length c ≡ size → n * size ≤ length l
+    → blocksOf n size (take (k * size) l ++ (c ++ drop (k * size + size) l)) ≡ set (blocksOf n size l) k c
 block-set zero size k l c h w f = absurd (omega arith)
 block-set (suc n) size zero l c h w f = rw (zero-mul size, zero-add size, take-at c (drop size l) size w, drop-at c (drop size l) size w)
 block-set (suc n) size (suc k) l c h w f =
@@ -33,7 +34,15 @@ block-set (suc n) size (suc k) l c h w f =
     let e′ : suc k * size + size ≡ size + (k * size + size) = ap (_+ size) e ∙ add-assoc size (k * size) size in
     let fits : size + n * size ≤ length l = omega (arith, suc-mul n size) in
     let long : length (take size l) ≡ size = length-take-le size l (omega arith) in
-    rw (e′, e, take-add size (k * size) l, append-assoc, take-at (take size l) _ size long, drop-at (take size l) _ size long, ← drop-drop (k * size + size) size l)
+    rw (
+      e′,
+      e,
+      take-add size (k * size) l,
+      append-assoc,
+      take-at (take size l) _ size long,
+      drop-at (take size l) _ size long,
+      ← drop-drop (k * size + size) size l,
+    )
     (ap (take size l ∷_) (block-set n size k (drop size l) c (omega arith) w (omega (arith, length-drop size l))))
 
 -- Only the named fields count.
@@ -51,13 +60,15 @@ new-row-whole : {es : List Entry} {later : List (List Entry)} (r : Reading) → 
 new-row-whole (brokenAt p) h = absurd (never-whole _ h)
 new-row-whole (whole rows) h = (cc, cc)
 
-add-entry-whole : {es : List Entry} {later : List (List Entry)} (e : Entry) (r : Reading) → addEntry e r ≡ whole (es ∷ later) → (rest : List Entry) × (es ≡ e ∷ rest) × (r ≡ whole (rest ∷ later))
+add-entry-whole : {es : List Entry} {later : List (List Entry)} (e : Entry) (r : Reading) → addEntry e r ≡ whole (es ∷ later)
+    → (rest : List Entry) × (es ≡ e ∷ rest) × (r ≡ whole (rest ∷ later))
 add-entry-whole e (brokenAt p) h = absurd (never-whole _ h)
 add-entry-whole e (whole []) h = absurd (let z : _≡_ {A = ℕ} 0 1 = cc in omega arith)
 add-entry-whole e (whole (es ∷ rows)) h = (es, cc, cc)
 
 -- The rows that stand at a place, with one row at least.
-module _ (s : List ℕ) (tracks left at : ℕ) (es : List Entry) (later : List (List Entry)) (reads : reading tracks (suc left) at (drop at s) ≡ whole (es ∷ later)) where
+module _ (s : List ℕ) (tracks left at : ℕ) (es : List Entry) (later : List (List Entry))
+    (reads : reading tracks (suc left) at (drop at s) ≡ whole (es ∷ later)) where
   -- An entry, and then the rest of its row.
   pub record NextEntry : Type 0 where
     pub e : Entry
@@ -98,7 +109,8 @@ module _ (s : List ℕ) (tracks left at : ℕ) (es : List Entry) (later : List (
       go (rowEnd rest) e = absurd (z (row-end-at tracks s rest at e .byte))
       go (entry f rest) e =
           let found = entry-at tracks s rest at f e in
-          let inner = add-entry-whole f (reading tracks (suc left) (at + length (entryBytes f)) rest) (sym (reading-entry tracks left at (drop at s) f rest e) ∙ reads) in
+          let inner = add-entry-whole f (reading tracks (suc left) (at + length (entryBytes f)) rest)
+          (sym (reading-entry tracks left at (drop at s) f rest e) ∙ reads) in
           record { e = f; rest = inner .0; bytes = rest; is = inner .1; found = found; reads-on = rw (← found .rest-is) (inner .2) }
 
   -- What is known of an entry that is met.
@@ -116,7 +128,9 @@ module _ (s : List ℕ) (tracks left at : ℕ) (es : List Entry) (later : List (
     entry-steps n l = l ∙ rw (found .found .mask-is, lt-ltb _ 64 (sized .small)) (omega (arith, sized .filled))
 
 -- The row's bytes with an entry's fields stored are the row with the entry carried out.
-pub carries : (s : List ℕ) (tracks at : ℕ) (e : Entry) (bytes row : List ℕ) → EntryAt tracks s bytes at e → length row ≡ tracks * 6 → rowOf tracks (storedAt s (at + 2) (e .mask) row ((e .track - 1) * 6)) ≡ carryOut e (rowOf tracks row)
+pub carries : (s : List ℕ) (tracks at : ℕ) (e : Entry) (bytes row : List ℕ) → EntryAt tracks s bytes at e
+    → length row ≡ tracks * 6
+    → rowOf tracks (storedAt s (at + 2) (e .mask) row ((e .track - 1) * 6)) ≡ carryOut e (rowOf tracks row)
 carries s tracks at e bytes row found long =
     let sound = sound-facts tracks e (found .sound) in
     let k = e .track - 1 in
@@ -124,8 +138,11 @@ carries s tracks at e bytes row found long =
     let cell = take 6 (drop (k * 6) row) in
     let fields : drop (at + 2) s ≡ e .fields ++ bytes = sym (drop-drop 2 at s) ∙ ap (drop 2) (found .splits) in
     let six : length cell ≡ 6 = length-take-le 6 (drop (k * 6) row) (omega (arith, length-drop (k * 6) row)) in
-    let same : store (named (e .mask)) (drop (at + 2) s) cell ≡ store (named (e .mask)) (e .fields) cell = sym (store-take (named (e .mask)) (drop (at + 2) s) cell (omega (arith, ap length fields, length-append (e .fields) bytes, sound .filled))) ∙ rw (fields, ← sound .filled, take-at (e .fields) bytes (length (e .fields)) refl) in
-    rw (same) (block-set tracks 6 k row (store (named (e .mask)) (e .fields) cell) inside (length-store (named (e .mask)) (e .fields) cell ∙ six) (omega arith) ∙ rw (block-at tracks 6 k row emptyCell inside))
+    let same : store (named (e .mask)) (drop (at + 2) s) cell ≡ store (named (e .mask)) (e .fields) cell =
+    sym (store-take (named (e .mask)) (drop (at + 2) s) cell (omega (arith, ap length fields, length-append (e .fields) bytes, sound .filled)))
+    ∙ rw (fields, ← sound .filled, take-at (e .fields) bytes (length (e .fields)) refl) in
+    rw (same) (block-set tracks 6 k row (store (named (e .mask)) (e .fields) cell) inside (length-store (named (e .mask)) (e .fields) cell ∙ six) (omega arith)
+    ∙ rw (block-at tracks 6 k row emptyCell inside))
 
 -- Where the loop over a row's entries stands: the entries left, and that carrying them out gives what all of them give.
 pub record Carrying (s : List ℕ) (start : ℕ) (row₀ : List ℕ) (ahead : RowAhead s start (length row₀)) (row : List ℕ) (at : ℕ) : Type 0 where
@@ -133,7 +150,9 @@ pub record Carrying (s : List ℕ) (start : ℕ) (row₀ : List ℕ) (ahead : Ro
   pub reads : reading (ahead .tracks) (suc (ahead .left)) at (drop at s) ≡ whole (entries ∷ ahead .later)
   pub same : carryAll entries (rowOf (ahead .tracks) row) ≡ carryAll (ahead .entries) (rowOf (ahead .tracks) row₀)
 
-pub entry-met : (s : List ℕ) (tracks left at : ℕ) (es : List Entry) (later : List (List Entry)) (reads : reading tracks (suc left) at (drop at s) ≡ whole (es ∷ later)) → (getD s at 0 ≡ 0 → ⊥) → EntryMet s tracks left at es later reads
+pub entry-met : (s : List ℕ) (tracks left at : ℕ) (es : List Entry) (later : List (List Entry))
+    (reads : reading tracks (suc left) at (drop at s) ≡ whole (es ∷ later)) → (getD s at 0 ≡ 0 → ⊥)
+    → EntryMet s tracks left at es later reads
 entry-met s tracks left at es later reads more =
     let next = at-entry s tracks left at es later reads more in
     let sound = sound-facts tracks (next .e) (next .found .sound) in
@@ -165,11 +184,15 @@ module _ (s : List ℕ) (start : ℕ) (row₀ : List ℕ) (ahead : RowAhead s st
       pub carrying-cell : (getD s at 0 - 1) * 6 + 6 ≤ length row
       carrying-cell = omega (arith, carrying-ready .track-low, carrying-ready .track-high, long, ahead .fits)
 
-      pub carrying-turn : (track mask n : ℕ) (row′ : List ℕ) → track ≡ getD s at 0 → mask ≡ getD s (at + 1) 0 → n ≡ entryLength mask → row′ ≡ storedAt s (at + 2) mask row ((track - 1) * 6) → Carrying s start row₀ ahead row′ (at + n)
+      pub carrying-turn : (track mask n : ℕ) (row′ : List ℕ) → track ≡ getD s at 0 → mask ≡ getD s (at + 1) 0
+          → n ≡ entryLength mask → row′ ≡ storedAt s (at + 2) mask row ((track - 1) * 6)
+          → Carrying s start row₀ ahead row′ (at + n)
       carrying-turn track mask n row′ t m l r =
           let m′ : mask ≡ next .e .mask = m ∙ next .found .mask-is in
           let t′ : track ≡ next .e .track = t ∙ next .found .track-is in
-          let l′ : n ≡ length (entryBytes (next .e)) = entry-steps s (ahead .tracks) (ahead .left) at (state .entries) (ahead .later) (state .reads) more next n (l ∙ ap entryLength m) in
+          let l′ : n ≡ length (entryBytes (next .e)) =
+          entry-steps s (ahead .tracks) (ahead .left) at (state .entries) (ahead .later) (state .reads) more next n
+          (l ∙ ap entryLength m) in
           let moved = carries s (ahead .tracks) at (next .e) (next .bytes) row (next .found) (long ∙ ahead .fits) in
           record {
             entries = next .rest;
@@ -177,10 +200,14 @@ module _ (s : List ℕ) (start : ℕ) (row₀ : List ℕ) (ahead : RowAhead s st
             same = rw (r, m′, t′, moved) (ap (λ (es : List Entry). carryAll es (rowOf (ahead .tracks) row)) (sym (next .is)) ∙ state .same);
           }
 
-    pub carrying-last : getD s at 0 ≡ 0 → (reading (ahead .tracks) (ahead .left) (at + 1) (drop (at + 1) s) ≡ whole (ahead .later)) × (row ≡ joined (carryAll (ahead .entries) (rowOf (ahead .tracks) row₀))) × (at + 1 ≤ length s)
+    pub carrying-last : getD s at 0 ≡ 0
+        → (reading (ahead .tracks) (ahead .left) (at + 1) (drop (at + 1) s) ≡ whole (ahead .later))
+        × (row ≡ joined (carryAll (ahead .entries) (rowOf (ahead .tracks) row₀)))
+        × (at + 1 ≤ length s)
     carrying-last z =
         let last = at-row-end s (ahead .tracks) (ahead .left) at (state .entries) (ahead .later) (state .reads) z in
-        let none : rowOf (ahead .tracks) row ≡ carryAll (ahead .entries) (rowOf (ahead .tracks) row₀) = ap (λ (es : List Entry). carryAll es (rowOf (ahead .tracks) row)) (sym (last .0)) ∙ state .same in
+        let none : rowOf (ahead .tracks) row ≡ carryAll (ahead .entries) (rowOf (ahead .tracks) row₀) =
+        ap (λ (es : List Entry). carryAll es (rowOf (ahead .tracks) row)) (sym (last .0)) ∙ state .same in
         (last .1, sym (joined-row (ahead .tracks) row (long ∙ ahead .fits)) ∙ ap joined none, omega (arith, carrying-inside))
 
 -- Where a loop that passes over a row's entries stands.

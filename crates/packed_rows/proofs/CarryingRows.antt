@@ -23,7 +23,8 @@ zeros-row zero = refl
 zeros-row (suc n) = rw (suc-mul n 6, add-comm (n * 6) 6, ← replicate-append-replicate {A = ℕ} 6 (n * 6) 0) (ap (emptyCell ∷_) (zeros-row n))
 
 -- With a row left, a row was read.
-pub one-row : (s : List ℕ) (tracks left at : ℕ) (later : List (List Entry)) → reading tracks (suc left) at s ≡ whole later → (es : List Entry) × (rest : List (List Entry)) × (later ≡ es ∷ rest)
+pub one-row : (s : List ℕ) (tracks left at : ℕ) (later : List (List Entry)) → reading tracks (suc left) at s ≡ whole later
+    → (es : List Entry) × (rest : List (List Entry)) × (later ≡ es ∷ rest)
 one-row s tracks left at [] h = absurd (omega (arith, reads-from (suc left) tracks at s [] .0 h .count))
 one-row s tracks left at (es ∷ rest) h = (es, rest, refl)
 
@@ -36,10 +37,18 @@ pub record CarryingRows (s : List ℕ) (rows tracks : ℕ) (out : List ℕ) (at 
   pub gives : cellsRead rows tracks s ≡ done ++ bytesOf (rowsFrom tracks later)
 
 module _ (s : List ℕ) (rows tracks : ℕ) where
-  pub rows-first : (out : List ℕ) → verdictOf (readStream rows tracks s) ≡ Accepted → out ≡ replicate (rows * (tracks * 6)) 0 → CarryingRows s rows tracks out 0 0 rows
+  pub rows-first : (out : List ℕ) → verdictOf (readStream rows tracks s) ≡ Accepted → out ≡ replicate (rows * (tracks * 6)) 0
+      → CarryingRows s rows tracks out 0 0 rows
   rows-first out ok zeros =
       let read = accepted-reading (readStream rows tracks s) .0 ok in
-      record { later = read .0; done = []; reads = read .1; base-is = refl; holds = zeros; gives = ap (λ (r : Reading). bytesOf (rowsFrom tracks (entriesRead r))) (read .1) }
+      record {
+        later = read .0;
+        done = [];
+        reads = read .1;
+        base-is = refl;
+        holds = zeros;
+        gives = ap (λ (r : Reading). bytesOf (rowsFrom tracks (entriesRead r))) (read .1);
+      }
 
   module _ (out : List ℕ) (at base left : ℕ) (state : CarryingRows s rows tracks out at base left) where
     pub rows-length : length out ≡ base + left * (tracks * 6)
@@ -48,7 +57,9 @@ module _ (s : List ℕ) (rows tracks : ℕ) where
     pub rows-last : left ≡ 0 → out ≡ cellsRead rows tracks s
     rows-last z =
         let read : reading tracks 0 at (drop at s) ≡ whole (state .later) = rw z at (state .reads) in
-        state .holds ∙ rw z (ap (state .done ++_) (nothing-left (state .later) (reads-from 0 tracks at (drop at s) (state .later) .0 read .count))) ∙ sym (state .gives)
+        state .holds
+        ∙ rw z (ap (state .done ++_) (nothing-left (state .later) (reads-from 0 tracks at (drop at s) (state .later) .0 read .count)))
+        ∙ sym (state .gives)
       where
         nothing-left : (later : List (List Entry)) → length later ≡ 0 → replicate (0 * (tracks * 6)) 0 ≡ bytesOf (rowsFrom tracks later)
         nothing-left [] e = rw (zero-mul (tracks * 6))
@@ -58,7 +69,8 @@ module _ (s : List ℕ) (rows tracks : ℕ) where
       zeros : drop base out ≡ replicate (tracks * 6) 0 ++ replicate (l * (tracks * 6)) 0
       zeros =
           ap (drop base) (state .holds) ∙ drop-at (state .done) _ base (state .base-is)
-          ∙ rw (some, suc-mul l (tracks * 6), add-comm (l * (tracks * 6)) (tracks * 6)) (sym (replicate-append-replicate {A = ℕ} (tracks * 6) (l * (tracks * 6)) 0))
+          ∙ rw (some, suc-mul l (tracks * 6), add-comm (l * (tracks * 6)) (tracks * 6))
+          (sym (replicate-append-replicate {A = ℕ} (tracks * 6) (l * (tracks * 6)) 0))
 
       pub rows-part : take (tracks * 6) (drop base out) ≡ replicate (tracks * 6) 0
       rows-part = rw zeros (take-at (replicate (tracks * 6) 0) _ (tracks * 6) (length-replicate (tracks * 6) 0))
@@ -78,17 +90,23 @@ module _ (s : List ℕ) (rows tracks : ℕ) where
               fits = ap length rows-part ∙ length-replicate (tracks * 6) 0;
             }
 
-        turn : (part : List ℕ) (after : ℕ) → Carried s at (take (tracks * 6) (drop base out)) after part → CarryingRows s rows tracks (take base out ++ (part ++ drop (tracks * 6) (drop base out))) after (base + tracks * 6) l
+        turn : (part : List ℕ) (after : ℕ) → Carried s at (take (tracks * 6) (drop base out)) after part
+            → CarryingRows s rows tracks (take base out ++ (part ++ drop (tracks * 6) (drop base out))) after (base + tracks * 6) l
         turn part after carried =
             let done = carried ahead in
-            let row : part ≡ joined (rowFrom tracks es) = done .1 ∙ ap (λ (bytes : List ℕ). joined (carryAll es (rowOf tracks bytes))) rows-part ∙ ap (λ (row : Row). joined (carryAll es row)) (zeros-row tracks) in
+            let row : part ≡ joined (rowFrom tracks es) =
+            done .1
+            ∙ ap (λ (bytes : List ℕ). joined (carryAll es (rowOf tracks bytes))) rows-part
+            ∙ ap (λ (row : Row). joined (carryAll es row)) (zeros-row tracks) in
             let long : length part ≡ tracks * 6 = ap length row ∙ length-joined 6 (row-from-shaped tracks es) in
             record {
               later = rest;
               done = state .done ++ part;
               reads = done .0;
               base-is = length-append (state .done) part ∙ omega (arith, state .base-is, long);
-              holds = rw rows-rest (ap (_++ (part ++ replicate (l * (tracks * 6)) 0)) (ap (take base) (state .holds) ∙ take-at (state .done) _ base (state .base-is)) ∙ sym (append-assoc (state .done) part _));
+              holds = rw rows-rest (ap (_++ (part ++ replicate (l * (tracks * 6)) 0))
+                  (ap (take base) (state .holds) ∙ take-at (state .done) _ base (state .base-is))
+                  ∙ sym (append-assoc (state .done) part _));
               gives = state .gives ∙ rw is (rw (← row) (sym (append-assoc (state .done) part _)));
             }
 
@@ -100,7 +118,8 @@ module _ (s : List ℕ) (rows tracks : ℕ) where
         pub rows-ahead : RowAhead s at (length (take k (drop base out)))
         rows-ahead = rw wide (ahead (found .0) (found .1) (found .2))
 
-        pub rows-turn : (part : List ℕ) (after : ℕ) → Carried s at (take k (drop base out)) after part → CarryingRows s rows tracks (take base out ++ (part ++ drop k (drop base out))) after (base + tracks * 6) l
+        pub rows-turn : (part : List ℕ) (after : ℕ) → Carried s at (take k (drop base out)) after part
+            → CarryingRows s rows tracks (take base out ++ (part ++ drop k (drop base out))) after (base + tracks * 6) l
         rows-turn part after carried = rw wide (turn (found .0) (found .1) (found .2) part after (rw wide at carried))
 
 -- A row loaded is a row carried out on zeros.
@@ -121,5 +140,6 @@ loaded s at size after cleared row zeros carried ahead =
       fits = long ∙ ahead .fits;
     })
     in
-    let empty : rowOf (ahead .tracks) cleared ≡ emptyRow (ahead .tracks) = ap (rowOf (ahead .tracks)) (zeros ∙ ap (λ (n : ℕ). replicate n 0) (ahead .fits)) ∙ zeros-row (ahead .tracks) in
+    let empty : rowOf (ahead .tracks) cleared ≡ emptyRow (ahead .tracks) =
+    ap (rowOf (ahead .tracks)) (zeros ∙ ap (λ (n : ℕ). replicate n 0) (ahead .fits)) ∙ zeros-row (ahead .tracks) in
     (found .0, found .1 ∙ ap (λ (r : Row). joined (carryAll (ahead .entries) r)) empty, found .2)

@@ -88,10 +88,12 @@ module _ (s : List ℕ) (tracks rows left at n : ℕ) (some : left ≡ suc rows)
       go (rowEnd rest) e = absurd (omega (arith, length-of e))
       go (entry f rest) e = absurd (omega (arith, length-of e))
 
-  pub check-row-end : (n ≡ 0 → ⊥) → getD s at 0 ≡ 0 → (verdictOf (reading tracks rows (at + n) (drop (at + n) s)) ≡ verdictOf (reading tracks left at (drop at s))) × (at + n ≤ length s)
+  pub check-row-end : (n ≡ 0 → ⊥) → getD s at 0 ≡ 0
+      → (verdictOf (reading tracks rows (at + n) (drop (at + n) s)) ≡ verdictOf (reading tracks left at (drop at s))) × (at + n ≤ length s)
   check-row-end p z = go (front tracks (drop at s)) refl
     where
-      go : (f : Front) → front tracks (drop at s) ≡ f → (verdictOf (reading tracks rows (at + n) (drop (at + n) s)) ≡ verdictOf (reading tracks left at (drop at s))) × (at + n ≤ length s)
+      go : (f : Front) → front tracks (drop at s) ≡ f
+          → (verdictOf (reading tracks rows (at + n) (drop (at + n) s)) ≡ verdictOf (reading tracks left at (drop at s))) × (at + n ≤ length s)
       go nothing e = absurd (p (length-of e))
       go fault e = absurd (p (length-of e))
       go (rowEnd rest) e =
@@ -101,10 +103,12 @@ module _ (s : List ℕ) (tracks rows left at n : ℕ) (some : left ≡ suc rows)
           let found = entry-at tracks s rest at f e in
           absurd (omega (arith, found .track-is, z, sound-facts tracks f (found .sound) .low))
 
-  pub check-entry : (n ≡ 0 → ⊥) → (getD s at 0 ≡ 0 → ⊥) → (verdictOf (reading tracks left (at + n) (drop (at + n) s)) ≡ verdictOf (reading tracks left at (drop at s))) × (at + n ≤ length s)
+  pub check-entry : (n ≡ 0 → ⊥) → (getD s at 0 ≡ 0 → ⊥)
+      → (verdictOf (reading tracks left (at + n) (drop (at + n) s)) ≡ verdictOf (reading tracks left at (drop at s))) × (at + n ≤ length s)
   check-entry p z = go (front tracks (drop at s)) refl
     where
-      go : (f : Front) → front tracks (drop at s) ≡ f → (verdictOf (reading tracks left (at + n) (drop (at + n) s)) ≡ verdictOf (reading tracks left at (drop at s))) × (at + n ≤ length s)
+      go : (f : Front) → front tracks (drop at s) ≡ f
+          → (verdictOf (reading tracks left (at + n) (drop (at + n) s)) ≡ verdictOf (reading tracks left at (drop at s))) × (at + n ≤ length s)
       go nothing e = absurd (p (length-of e))
       go fault e = absurd (p (length-of e))
       go (rowEnd rest) e = absurd (z (row-end-at tracks s rest at e .byte))

@@ -52,13 +52,15 @@ byte-one false = refl
 pub drop-next : (xs : List ℕ) (at k : ℕ) → at + k < length xs → drop (at + k) xs ≡ getD xs (at + k) 0 ∷ drop (at + suc k) xs
 drop-next xs at k h = rw (add-suc at k) (drop-cons xs (at + k) 0 h)
 
-pub nonZeros-turn : (bytes : List ℕ) (i : ℕ) → i < length bytes → length (nonZeros (drop i bytes)) ≡ oneIf (getD bytes i 0) + length (nonZeros (drop (i + 1) bytes))
+pub nonZeros-turn : (bytes : List ℕ) (i : ℕ) → i < length bytes
+    → length (nonZeros (drop i bytes)) ≡ oneIf (getD bytes i 0) + length (nonZeros (drop (i + 1) bytes))
 nonZeros-turn bytes i h = rw (add-one i, drop-cons bytes i 0 h) (nonZeros-count (getD bytes i 0) (drop (suc i) bytes))
 
 pub nonZeros-past : (bytes : List ℕ) (i : ℕ) → length bytes ≤ i → length (nonZeros (drop i bytes)) ≡ 0
 nonZeros-past bytes i h = rw (drop-of-length-le bytes h)
 
-pub nonZeros-part : (bytes : List ℕ) (at end : ℕ) → at ≤ end → length (nonZeros (drop at bytes)) ≡ length (nonZeros (take (end - at) (drop at bytes))) + length (nonZeros (drop end bytes))
+pub nonZeros-part : (bytes : List ℕ) (at end : ℕ) → at ≤ end
+    → length (nonZeros (drop at bytes)) ≡ length (nonZeros (take (end - at) (drop at bytes))) + length (nonZeros (drop end bytes))
 nonZeros-part bytes at end h =
     let n : ℕ = end - at in
     let whole : at + n ≡ end = omega arith in
@@ -71,7 +73,9 @@ nonZeros-part bytes at end h =
     )
 
 -- The six fields of a cell.
-pub cell-fields : (bytes : List ℕ) (at : ℕ) → at + 6 ≤ length bytes → cellAt bytes at ≡ getD bytes at 0 ∷ getD bytes (at + 1) 0 ∷ getD bytes (at + 2) 0 ∷ getD bytes (at + 3) 0 ∷ getD bytes (at + 4) 0 ∷ getD bytes (at + 5) 0 ∷ []
+pub cell-fields : (bytes : List ℕ) (at : ℕ) → at + 6 ≤ length bytes
+    → cellAt bytes at
+    ≡ getD bytes at 0 ∷ getD bytes (at + 1) 0 ∷ getD bytes (at + 2) 0 ∷ getD bytes (at + 3) 0 ∷ getD bytes (at + 4) 0 ∷ getD bytes (at + 5) 0 ∷ []
 cell-fields bytes at h =
     rw (
       first,
@@ -95,7 +99,11 @@ nonEmpty-first x xs = go (eqb x 0)
     go true = refl
     go false = lt-ltb 0 (suc (length (nonZeros xs))) (omega arith)
 
-pub cell-filled : (bytes : List ℕ) (at : ℕ) → at + 6 ≤ length bytes → nonZero (getD bytes at 0) || (nonZero (getD bytes (at + 1) 0) || (nonZero (getD bytes (at + 2) 0) || (nonZero (getD bytes (at + 3) 0) || (nonZero (getD bytes (at + 4) 0) || nonZero (getD bytes (at + 5) 0))))) ≡ nonEmpty (cellAt bytes at)
+pub cell-filled : (bytes : List ℕ) (at : ℕ) → at + 6 ≤ length bytes
+    → nonZero (getD bytes at 0)
+    || (nonZero (getD bytes (at + 1) 0)
+    || (nonZero (getD bytes (at + 2) 0) || (nonZero (getD bytes (at + 3) 0) || (nonZero (getD bytes (at + 4) 0) || nonZero (getD bytes (at + 5) 0)))))
+    ≡ nonEmpty (cellAt bytes at)
 cell-filled bytes at h =
     rw (cell-fields bytes at h)
     (six (getD bytes at 0) (getD bytes (at + 1) 0) (getD bytes (at + 2) 0) (getD bytes (at + 3) 0) (getD bytes (at + 4) 0) (getD bytes (at + 5) 0))
@@ -142,7 +150,9 @@ module _ (cells : List ℕ) (n : ℕ) where
         one-more true k = omega arith
         one-more false k = omega arith
 
-        go : (left : ℕ) → at + left * 6 ≡ length cells → count + left ≤ n → count + nonEmptyCells (blocksOf left 6 (drop at cells)) ≡ nonEmptyCells (blocksOf n 6 cells) → CountingCells cells n (count + cond (nonEmpty (cellAt cells at)) 1 0) (at + 6)
+        go : (left : ℕ) → at + left * 6 ≡ length cells → count + left ≤ n
+            → count + nonEmptyCells (blocksOf left 6 (drop at cells)) ≡ nonEmptyCells (blocksOf n 6 cells)
+            → CountingCells cells n (count + cond (nonEmpty (cellAt cells at)) 1 0) (at + 6)
         go zero e b p = absurd (omega arith)
         go (suc left) e b p =
             let p′ = rw (drop-drop 6 at cells) at p in
@@ -156,7 +166,9 @@ module _ (cells : List ℕ) (n : ℕ) where
     pub counts-last : CountingCells cells n count at → length cells ≤ at → (count ≡ nonEmptyCells (blocksOf n 6 cells)) × (count ≤ n)
     counts-last c h = go (c .left) (c .place) (c .bound) (c .same)
       where
-        go : (left : ℕ) → at + left * 6 ≡ length cells → count + left ≤ n → count + nonEmptyCells (blocksOf left 6 (drop at cells)) ≡ nonEmptyCells (blocksOf n 6 cells) → (count ≡ nonEmptyCells (blocksOf n 6 cells)) × (count ≤ n)
+        go : (left : ℕ) → at + left * 6 ≡ length cells → count + left ≤ n
+            → count + nonEmptyCells (blocksOf left 6 (drop at cells)) ≡ nonEmptyCells (blocksOf n 6 cells)
+            → (count ≡ nonEmptyCells (blocksOf n 6 cells)) × (count ≤ n)
         go zero e b p = (omega arith, omega arith)
         go (suc left) e b p = absurd (omega (arith, suc-mul left 6))
 
@@ -168,10 +180,16 @@ or-none false b e = (refl, e)
 zero-of : (f : ℕ) → nonZero f ≡ false → f ≡ 0
 zero-of f e = eqb-true f 0 (not-false (eqb f 0) e)
 
-pub word-filled : (bytes : List ℕ) (at word : ℕ) → at + 6 ≤ length bytes → word ≡ getD bytes at 0 + 256 * getD bytes (at + 1) 0 + 65536 * getD bytes (at + 2) 0 + 16777216 * getD bytes (at + 3) 0 + (getD bytes (at + 2) 0 + 256 * getD bytes (at + 2 + 1) 0 + 65536 * getD bytes (at + 2 + 2) 0 + 16777216 * getD bytes (at + 2 + 3) 0) → not (eqb word 0) ≡ nonEmpty (cellAt bytes at)
+pub word-filled : (bytes : List ℕ) (at word : ℕ) → at + 6 ≤ length bytes
+    → word
+    ≡ getD bytes at 0 + 256 * getD bytes (at + 1) 0 + 65536 * getD bytes (at + 2) 0 + 16777216 * getD bytes (at + 3) 0
+    + (getD bytes (at + 2) 0 + 256 * getD bytes (at + 2 + 1) 0 + 65536 * getD bytes (at + 2 + 2) 0 + 16777216 * getD bytes (at + 2 + 3) 0)
+    → not (eqb word 0) ≡ nonEmpty (cellAt bytes at)
 word-filled bytes at word h e′ = go (eqb word 0) refl
   where
-    e : word ≡ getD bytes at 0 + 256 * getD bytes (at + 1) 0 + 65536 * getD bytes (at + 2) 0 + 16777216 * getD bytes (at + 3) 0 + (getD bytes (at + 2) 0 + 256 * getD bytes (at + 3) 0 + 65536 * getD bytes (at + 4) 0 + 16777216 * getD bytes (at + 5) 0)
+    e : word
+        ≡ getD bytes at 0 + 256 * getD bytes (at + 1) 0 + 65536 * getD bytes (at + 2) 0 + 16777216 * getD bytes (at + 3) 0
+        + (getD bytes (at + 2) 0 + 256 * getD bytes (at + 3) 0 + 65536 * getD bytes (at + 4) 0 + 16777216 * getD bytes (at + 5) 0)
     e = rw (add-assoc at 2 1, add-assoc at 2 2, add-assoc at 2 3) at e′
 
     go : (t : Bool) → eqb word 0 ≡ t → not t ≡ nonEmpty (cellAt bytes at)
@@ -190,10 +208,24 @@ word-filled bytes at word h e′ = go (eqb word 0) refl
         some : (t : Bool) → nonEmpty (cellAt bytes at) ≡ t → true ≡ t
         some true f = refl
         some false f =
-            let n0 = or-none (nonZero (getD bytes at 0)) (nonZero (getD bytes (at + 1) 0) || (nonZero (getD bytes (at + 2) 0) || (nonZero (getD bytes (at + 3) 0) || (nonZero (getD bytes (at + 4) 0) || (nonZero (getD bytes (at + 5) 0)))))) (cell-filled bytes at h ∙ f) in
-            let n1 = or-none (nonZero (getD bytes (at + 1) 0)) (nonZero (getD bytes (at + 2) 0) || (nonZero (getD bytes (at + 3) 0) || (nonZero (getD bytes (at + 4) 0) || (nonZero (getD bytes (at + 5) 0))))) (n0 .1) in
-            let n2 = or-none (nonZero (getD bytes (at + 2) 0)) (nonZero (getD bytes (at + 3) 0) || (nonZero (getD bytes (at + 4) 0) || (nonZero (getD bytes (at + 5) 0)))) (n1 .1) in
-            let n3 = or-none (nonZero (getD bytes (at + 3) 0)) (nonZero (getD bytes (at + 4) 0) || (nonZero (getD bytes (at + 5) 0))) (n2 .1) in
-            let n4 = or-none (nonZero (getD bytes (at + 4) 0)) (nonZero (getD bytes (at + 5) 0)) (n3 .1) in
+            let f1 = nonZero (getD bytes (at + 1) 0) in
+            let f2 = nonZero (getD bytes (at + 2) 0) in
+            let f3 = nonZero (getD bytes (at + 3) 0) in
+            let f4 = nonZero (getD bytes (at + 4) 0) in
+            let f5 = nonZero (getD bytes (at + 5) 0) in
+            let n0 = or-none (nonZero (getD bytes at 0)) (f1 || (f2 || (f3 || (f4 || f5)))) (cell-filled bytes at h ∙ f) in
+            let n1 = or-none f1 (f2 || (f3 || (f4 || f5))) (n0 .1) in
+            let n2 = or-none f2 (f3 || (f4 || f5)) (n1 .1) in
+            let n3 = or-none f3 (f4 || f5) (n2 .1) in
+            let n4 = or-none f4 f5 (n3 .1) in
             let some-word : word ≡ 0 → ⊥ = eqb-false word 0 z in
-            absurd (some-word (omega (arith, e, zero-of (getD bytes at 0) (n0 .0), zero-of (getD bytes (at + 1) 0) (n1 .0), zero-of (getD bytes (at + 2) 0) (n2 .0), zero-of (getD bytes (at + 3) 0) (n3 .0), zero-of (getD bytes (at + 4) 0) (n4 .0), zero-of (getD bytes (at + 5) 0) (n4 .1))))
+            absurd (some-word (omega (
+              arith,
+              e,
+              zero-of (getD bytes at 0) (n0 .0),
+              zero-of (getD bytes (at + 1) 0) (n1 .0),
+              zero-of (getD bytes (at + 2) 0) (n2 .0),
+              zero-of (getD bytes (at + 3) 0) (n3 .0),
+              zero-of (getD bytes (at + 4) 0) (n4 .0),
+              zero-of (getD bytes (at + 5) 0) (n4 .1),
+            )))

@@ -33,7 +33,8 @@ module _ (ns : List Bool) (values out : List ℕ) (to : ℕ) (inside : to < leng
       (sym (append-assoc (take to out) (getD out to 0 ∷ []) _))
 
 -- Fields stored by two lists of names, one behind the other.
-pub stored-both : (ns ms : List Bool) (values out : List ℕ) (to : ℕ) → to + length ns ≤ length out → storedFrom (ns ++ ms) values out to ≡ storedFrom ms (drop (count ns) values) (storedFrom ns values out to) (to + length ns)
+pub stored-both : (ns ms : List Bool) (values out : List ℕ) (to : ℕ) → to + length ns ≤ length out
+    → storedFrom (ns ++ ms) values out to ≡ storedFrom ms (drop (count ns) values) (storedFrom ns values out to) (to + length ns)
 stored-both [] ms values out to h = simp (add-zero, take-append-drop)
 stored-both (true ∷ ns) ms values out to h =
     let v : ℕ = getD values 0 0 in
@@ -72,7 +73,8 @@ module _ (mask from size : ℕ) (h : from + count (bits 6 mask) < size) where
   pub last-inside : (next : ℕ) → next ≡ from + count (bits 4 mask) → next + count (bits 2 (high mask)) < size
   last-inside next p = omega (arith, count-both (bits 4 mask) (bits 2 (high mask)))
 
-module _ (s : List ℕ) (from mask : ℕ) (out₀ : List ℕ) (to : ℕ) (room : to + 6 ≤ length out₀) (next : ℕ) (out : List ℕ) (place : next ≡ from + count (bits 4 mask)) (first : out ≡ storedFrom (bits 4 mask) (drop from s) out₀ to) where
+module _ (s : List ℕ) (from mask : ℕ) (out₀ : List ℕ) (to : ℕ) (room : to + 6 ≤ length out₀) (next : ℕ) (out : List ℕ)
+    (place : next ≡ from + count (bits 4 mask)) (first : out ≡ storedFrom (bits 4 mask) (drop from s) out₀ to) where
   pub cell-stored : storedFrom (bits 2 (high mask)) (drop next s) out (to + 4) ≡ storedAt s from mask out₀ to
   cell-stored =
       rw (place, first, ← (drop-drop (count (bits 4 mask)) from s))
@@ -98,10 +100,13 @@ module _ (s : List ℕ) (from mask n : ℕ) (out₀ : List ℕ) (to : ℕ) where
       record { left = n; counts = add-zero n; place = refl; same = ap (storedFrom (bits n mask) (drop from s) out₀) (add-zero to) }
 
   module _ (out : List ℕ) (next rest field : ℕ) where
-    stores-named : StoringTo s from mask n out₀ to out next rest field → to + field < length out → field < n → rest % 2 ≡ 1 → StoringTo s from mask n out₀ to (set out (to + field) (getD s next 0)) (next + 1) (rest / 2) (field + 1)
+    stores-named : StoringTo s from mask n out₀ to out next rest field → to + field < length out → field < n → rest % 2 ≡ 1
+        → StoringTo s from mask n out₀ to (set out (to + field) (getD s next 0)) (next + 1) (rest / 2) (field + 1)
     stores-named c h f t = go (c .left) (c .counts) (c .place) (c .same)
       where
-        go : (k : ℕ) → k + field ≡ n → next + count (bits k rest) ≡ from + count (bits n mask) → storedFrom (bits k rest) (drop next s) out (to + field) ≡ storedFrom (bits n mask) (drop from s) out₀ to → StoringTo s from mask n out₀ to (set out (to + field) (getD s next 0)) (next + 1) (rest / 2) (field + 1)
+        go : (k : ℕ) → k + field ≡ n → next + count (bits k rest) ≡ from + count (bits n mask)
+            → storedFrom (bits k rest) (drop next s) out (to + field) ≡ storedFrom (bits n mask) (drop from s) out₀ to
+            → StoringTo s from mask n out₀ to (set out (to + field) (getD s next 0)) (next + 1) (rest / 2) (field + 1)
         go zero e i p = absurd (omega arith)
         go (suc k) e i p =
             let named = eq-eqb (rest % 2) 1 t in
@@ -111,10 +116,14 @@ module _ (s : List ℕ) (from mask n : ℕ) (out₀ : List ℕ) (to : ℕ) where
             let turn′ = simp (getD-drop, drop-drop, add-zero, add-assoc to field 1) at turn in
             record { left = k; counts = omega arith; place = omega arith; same = sym turn′ ∙ p′ }
 
-    stores-other : StoringTo s from mask n out₀ to out next rest field → to + field < length out → field < n → (rest % 2 ≡ 1 → ⊥) → StoringTo s from mask n out₀ to (set out (to + field) (getD out (to + field) 0)) next (rest / 2) (field + 1)
+    stores-other : StoringTo s from mask n out₀ to out next rest field → to + field < length out → field < n
+        → (rest % 2 ≡ 1 → ⊥)
+        → StoringTo s from mask n out₀ to (set out (to + field) (getD out (to + field) 0)) next (rest / 2) (field + 1)
     stores-other c h f t = go (c .left) (c .counts) (c .place) (c .same)
       where
-        go : (k : ℕ) → k + field ≡ n → next + count (bits k rest) ≡ from + count (bits n mask) → storedFrom (bits k rest) (drop next s) out (to + field) ≡ storedFrom (bits n mask) (drop from s) out₀ to → StoringTo s from mask n out₀ to (set out (to + field) (getD out (to + field) 0)) next (rest / 2) (field + 1)
+        go : (k : ℕ) → k + field ≡ n → next + count (bits k rest) ≡ from + count (bits n mask)
+            → storedFrom (bits k rest) (drop next s) out (to + field) ≡ storedFrom (bits n mask) (drop from s) out₀ to
+            → StoringTo s from mask n out₀ to (set out (to + field) (getD out (to + field) 0)) next (rest / 2) (field + 1)
         go zero e i p = absurd (omega arith)
         go (suc k) e i p =
             let other = ne-eqb (rest % 2) 1 t in
@@ -124,7 +133,8 @@ module _ (s : List ℕ) (from mask n : ℕ) (out₀ : List ℕ) (to : ℕ) where
             let turn′ = simp (add-assoc to field 1) at turn in
             record { left = k; counts = omega arith; place = i′; same = rw set-getD (sym turn′ ∙ p′) }
 
-    pub stores-last : StoringTo s from mask n out₀ to out next rest field → n ≤ field → (next ≡ from + count (bits n mask)) × (out ≡ storedFrom (bits n mask) (drop from s) out₀ to)
+    pub stores-last : StoringTo s from mask n out₀ to out next rest field → n ≤ field
+        → (next ≡ from + count (bits n mask)) × (out ≡ storedFrom (bits n mask) (drop from s) out₀ to)
     stores-last c h =
         let none : c .left ≡ 0 = omega arith in (
           sym (add-zero next) ∙ rw none at (c .place),
@@ -132,7 +142,10 @@ module _ (s : List ℕ) (from mask n : ℕ) (out₀ : List ℕ) (to : ℕ) where
         )
 
     -- One turn, whether the field is named or not.
-    pub stores-turn : StoringTo s from mask n out₀ to out next rest field → to + field < length out → field < n → (bit value next′ : ℕ) → bit ≡ rest % 2 → value ≡ cond (eqb bit 1) (getD s next 0) (getD out (to + field) 0) → next′ ≡ next + bit → StoringTo s from mask n out₀ to (set out (to + field) value) next′ (rest / 2) (field + 1)
+    pub stores-turn : StoringTo s from mask n out₀ to out next rest field → to + field < length out → field < n
+        → (bit value next′ : ℕ) → bit ≡ rest % 2 → value ≡ cond (eqb bit 1) (getD s next 0) (getD out (to + field) 0)
+        → next′ ≡ next + bit
+        → StoringTo s from mask n out₀ to (set out (to + field) value) next′ (rest / 2) (field + 1)
     stores-turn c h f bit value next′ b v e = go (eqb bit 1) refl
       where
         go : (t : Bool) → eqb bit 1 ≡ t → StoringTo s from mask n out₀ to (set out (to + field) value) next′ (rest / 2) (field + 1)

@@ -15,27 +15,38 @@ use Rattle.packed_rows.specs.Stream.{front}
 use Rattle.packed_rows.specs.Steps.{pieceLength, frontLength}
 
 module _ (tracks track mask : ℕ) (rest : List ℕ) where
-  pub front-pair : frontLength (front tracks (track ∷ mask ∷ rest)) ≡ cond (both (leb track tracks) (leb (pieceLength track mask) (2 + length rest))) (pieceLength track mask) 0
+  pub front-pair : frontLength (front tracks (track ∷ mask ∷ rest))
+      ≡ cond (both (leb track tracks) (leb (pieceLength track mask) (2 + length rest))) (pieceLength track mask) 0
   front-pair = byEnd (eqb track 0) refl
     where
-      bySize : (b : Bool) → leb (fieldsNamed mask) (length rest) ≡ b → eqb track 0 ≡ false → leb track tracks ≡ true → soundMask mask ≡ true → frontLength (front tracks (track ∷ mask ∷ rest)) ≡ cond (both (leb track tracks) (leb (pieceLength track mask) (2 + length rest))) (pieceLength track mask) 0
+      bySize : (b : Bool) → leb (fieldsNamed mask) (length rest) ≡ b → eqb track 0 ≡ false → leb track tracks ≡ true
+          → soundMask mask ≡ true
+          → frontLength (front tracks (track ∷ mask ∷ rest))
+          ≡ cond (both (leb track tracks) (leb (pieceLength track mask) (2 + length rest))) (pieceLength track mask) 0
       bySize true e z t m =
           let l : 2 + fieldsNamed mask ≤ 2 + length rest = omega (arith, leb-true (fieldsNamed mask) (length rest) e) in
-          let n : length (take (fieldsNamed mask) rest) ≡ fieldsNamed mask = length-take-le (fieldsNamed mask) rest (leb-true (fieldsNamed mask) (length rest) e) in
+          let n : length (take (fieldsNamed mask) rest) ≡ fieldsNamed mask =
+          length-take-le (fieldsNamed mask) rest (leb-true (fieldsNamed mask) (length rest) e) in
           simp (z, t, m, e, le-leb (2 + fieldsNamed mask) (2 + length rest) l, n) (omega arith)
       bySize false e z t m =
           let l : 2 + length rest < 2 + fieldsNamed mask = omega (arith, leb-false (fieldsNamed mask) (length rest) e) in
           simp (z, t, m, e, lt-leb (2 + fieldsNamed mask) (2 + length rest) l)
 
-      byMask : (b : Bool) → soundMask mask ≡ b → eqb track 0 ≡ false → leb track tracks ≡ true → frontLength (front tracks (track ∷ mask ∷ rest)) ≡ cond (both (leb track tracks) (leb (pieceLength track mask) (2 + length rest))) (pieceLength track mask) 0
+      byMask : (b : Bool) → soundMask mask ≡ b → eqb track 0 ≡ false → leb track tracks ≡ true
+          → frontLength (front tracks (track ∷ mask ∷ rest))
+          ≡ cond (both (leb track tracks) (leb (pieceLength track mask) (2 + length rest))) (pieceLength track mask) 0
       byMask true m z t = bySize (leb (fieldsNamed mask) (length rest)) refl z t m
       byMask false m z t = simp (z, t, m, le-leb 0 (2 + length rest) (omega arith))
 
-      byTrack : (b : Bool) → leb track tracks ≡ b → eqb track 0 ≡ false → frontLength (front tracks (track ∷ mask ∷ rest)) ≡ cond (both (leb track tracks) (leb (pieceLength track mask) (2 + length rest))) (pieceLength track mask) 0
+      byTrack : (b : Bool) → leb track tracks ≡ b → eqb track 0 ≡ false
+          → frontLength (front tracks (track ∷ mask ∷ rest))
+          ≡ cond (both (leb track tracks) (leb (pieceLength track mask) (2 + length rest))) (pieceLength track mask) 0
       byTrack true t z = byMask (soundMask mask) refl z t
       byTrack false t z = simp (z, t)
 
-      byEnd : (b : Bool) → eqb track 0 ≡ b → frontLength (front tracks (track ∷ mask ∷ rest)) ≡ cond (both (leb track tracks) (leb (pieceLength track mask) (2 + length rest))) (pieceLength track mask) 0
+      byEnd : (b : Bool) → eqb track 0 ≡ b
+          → frontLength (front tracks (track ∷ mask ∷ rest))
+          ≡ cond (both (leb track tracks) (leb (pieceLength track mask) (2 + length rest))) (pieceLength track mask) 0
       byEnd false z = byTrack (leb track tracks) refl z
       byEnd true z =
           let zero : track ≡ 0 = eqb-true track 0 z in
@@ -54,7 +65,10 @@ module _ (s : List ℕ) (at tracks : ℕ) where
         go true e = simp e
         go false e = simp e
 
-    pub front-two : 2 ≤ length s - at → frontLength (front tracks (drop at s)) ≡ cond (both (leb (getD s at 0) tracks) (leb (pieceLength (getD s at 0) (getD s (at + 1) 0)) (length s - at))) (pieceLength (getD s at 0) (getD s (at + 1) 0)) 0
+    pub front-two : 2 ≤ length s - at
+        → frontLength (front tracks (drop at s))
+        ≡ cond (both (leb (getD s at 0) tracks) (leb (pieceLength (getD s at 0) (getD s (at + 1) 0)) (length s - at)))
+        (pieceLength (getD s at 0) (getD s (at + 1) 0)) 0
     front-two h =
         let size : 2 + length (drop (suc (suc at)) s) ≡ length s - at = omega (arith, length-drop (suc (suc at)) s) in
         rw (add-one at, drop-cons s at 0 inside, drop-cons s (suc at) 0 (omega arith), ← size)

@@ -13,7 +13,8 @@ use Rattle.vocabulary.specs.Lists.{joined}
 use Rattle.packed_rows.specs.Entries.{Entry, entryBytes, soundEntry, rowStream, streamOf}
 use Rattle.packed_rows.specs.Stream.{Reading, brokenAt, whole, newRow, addEntry, reading, readStream}
 use Rattle.packed_rows.specs.Theorems.{every, allSound, StreamOf, StreamFault, faultyEntry, leftOver, rowEndsLack, BrokenAt}
-use Rattle.packed_rows.proofs.Reading.{Neither, nothing-neither, both-true, true-both, front-entry, reading-end, reading-over, reading-row-end, reading-entry, reading-broken, along}
+use Rattle.packed_rows.proofs.Reading.{Neither, nothing-neither, both-true, true-both, front-entry, reading-end}
+use Rattle.packed_rows.proofs.Reading.{reading-over, reading-row-end, reading-entry, reading-broken, along}
 
 -- The bytes of entries.
 abbrev run : List Entry → List ℕ
@@ -26,7 +27,12 @@ Told tracks rows at s (whole entries) = StreamOf rows tracks s entries
 
 -- What stands before a broken stream joins the sound bytes before its fault.
 module _ (tracks rows rows′ q : ℕ) (head rest : List ℕ) (b : BrokenAt rows tracks rest q) where
-  broken-behind : (full : List (List Entry)) (unfinished : List Entry) → allSound tracks full ≡ true → every (soundEntry tracks) unfinished ≡ true → streamOf full ++ run unfinished ≡ head ++ (streamOf (b .full) ++ run (b .unfinished)) → (length (b .full) < rows → length full < rows′) → (length (b .full) ≡ rows → b .unfinished ≡ [] → (length full ≡ rows′) × (unfinished ≡ [])) → BrokenAt rows′ tracks (head ++ rest) (length head + q)
+  broken-behind : (full : List (List Entry)) (unfinished : List Entry) → allSound tracks full ≡ true
+      → every (soundEntry tracks) unfinished ≡ true
+      → streamOf full ++ run unfinished ≡ head ++ (streamOf (b .full) ++ run (b .unfinished))
+      → (length (b .full) < rows → length full < rows′)
+      → (length (b .full) ≡ rows → b .unfinished ≡ [] → (length full ≡ rows′) × (unfinished ≡ []))
+      → BrokenAt rows′ tracks (head ++ rest) (length head + q)
   broken-behind full unfinished s t grown less same = record {
     full = full;
     unfinished = unfinished;
@@ -44,23 +50,30 @@ module _ (tracks rows rows′ q : ℕ) (head rest : List ℕ) (b : BrokenAt rows
 
 broken-row-end : (tracks rows q : ℕ) (rest : List ℕ) → BrokenAt rows tracks rest q → BrokenAt (suc rows) tracks (0 ∷ rest) (1 + q)
 broken-row-end tracks rows q rest b =
-    broken-behind tracks rows (suc rows) q (0 ∷ []) rest b ([] ∷ b .full) (b .unfinished) (b .fullSound) (b .unfinishedSound) refl (λ l. omega arith) (λ l u. (ap suc l, u))
+    broken-behind tracks rows (suc rows) q (0 ∷ []) rest b ([] ∷ b .full) (b .unfinished) (b .fullSound) (b .unfinishedSound)
+    refl (λ l. omega arith) (λ l u. (ap suc l, u))
 
 -- A sound entry joins the first row of sound ones.
-first-sound : (tracks : ℕ) (e : Entry) (es : List Entry) (rows : List (List Entry)) → soundEntry tracks e ≡ true → allSound tracks (es ∷ rows) ≡ true → allSound tracks ((e ∷ es) ∷ rows) ≡ true
+first-sound : (tracks : ℕ) (e : Entry) (es : List Entry) (rows : List (List Entry)) → soundEntry tracks e ≡ true
+    → allSound tracks (es ∷ rows) ≡ true
+    → allSound tracks ((e ∷ es) ∷ rows) ≡ true
 first-sound tracks e es rows h s =
     let u = both-true (every (soundEntry tracks) es) (allSound tracks rows) s in
     true-both (true-both h (u .0)) (u .1)
 
-broken-entry : (tracks rows q : ℕ) (e : Entry) (rest : List ℕ) → soundEntry tracks e ≡ true → BrokenAt (suc rows) tracks rest q → BrokenAt (suc rows) tracks (entryBytes e ++ rest) (length (entryBytes e) + q)
+broken-entry : (tracks rows q : ℕ) (e : Entry) (rest : List ℕ) → soundEntry tracks e ≡ true
+    → BrokenAt (suc rows) tracks rest q
+    → BrokenAt (suc rows) tracks (entryBytes e ++ rest) (length (entryBytes e) + q)
 broken-entry tracks rows q e rest h b = go (b .full) refl
   where
     go : (full : List (List Entry)) → b .full ≡ full → BrokenAt (suc rows) tracks (entryBytes e ++ rest) (length (entryBytes e) + q)
     go [] p =
-        broken-behind tracks (suc rows) (suc rows) q (entryBytes e) rest b [] (e ∷ b .unfinished) refl (true-both h (b .unfinishedSound)) (rw p) (λ l. omega arith)
+        broken-behind tracks (suc rows) (suc rows) q (entryBytes e) rest b [] (e ∷ b .unfinished) refl
+        (true-both h (b .unfinishedSound)) (rw p) (λ l. omega arith)
         (λ l u. absurd (omega (arith, rw p at l)))
     go (es ∷ full) p =
-        broken-behind tracks (suc rows) (suc rows) q (entryBytes e) rest b ((e ∷ es) ∷ full) (b .unfinished) (first-sound tracks e es full h (rw p at (b .fullSound))) (b .unfinishedSound)
+        broken-behind tracks (suc rows) (suc rows) q (entryBytes e) rest b ((e ∷ es) ∷ full) (b .unfinished)
+        (first-sound tracks e es full h (rw p at (b .fullSound))) (b .unfinishedSound)
         (rw p (simp append-assoc)) (λ l. rw p at l) (λ l u. (rw p at l, u))
 
 -- Broken at its front.
@@ -95,7 +108,9 @@ told tracks =
     row-end-told rows at rest (brokenAt p) t = (1 + t .0, omega arith, broken-row-end tracks rows (t .0) rest (t .2))
     row-end-told rows at rest (whole es) t = record { count = ap suc (t .count); sound = t .sound; bytes = ap (λ (l : List ℕ). 0 ∷ l) (t .bytes) }
 
-    entry-told : (rows at : ℕ) (e : Entry) (rest : List ℕ) (r : Reading) → soundEntry tracks e ≡ true → Told tracks (suc rows) (at + length (entryBytes e)) rest r → Told tracks (suc rows) at (entryBytes e ++ rest) (addEntry e r)
+    entry-told : (rows at : ℕ) (e : Entry) (rest : List ℕ) (r : Reading) → soundEntry tracks e ≡ true
+        → Told tracks (suc rows) (at + length (entryBytes e)) rest r
+        → Told tracks (suc rows) at (entryBytes e ++ rest) (addEntry e r)
     entry-told rows at e rest (brokenAt p) h t = (length (entryBytes e) + t .0, omega arith, broken-entry tracks rows (t .0) e rest h (t .2))
     entry-told rows at e rest (whole []) h t = absurd (omega (arith, t .count))
     entry-told rows at e rest (whole (es ∷ rows′)) h t =
@@ -131,7 +146,9 @@ rows-whole [] = refl
 rows-whole (es ∷ rows) = rw (rows-whole rows) (entries-whole es rows)
 
 -- Sound entries, and rows of them, are read over.
-past-entries : (tracks rows at to : ℕ) (es : List Entry) (s : List ℕ) → every (soundEntry tracks) es ≡ true → at + length (run es) ≡ to → reading tracks (suc rows) at (run es ++ s) ≡ addEntries es (reading tracks (suc rows) to s)
+past-entries : (tracks rows at to : ℕ) (es : List Entry) (s : List ℕ) → every (soundEntry tracks) es ≡ true
+    → at + length (run es) ≡ to
+    → reading tracks (suc rows) at (run es ++ s) ≡ addEntries es (reading tracks (suc rows) to s)
 unfolding addEntries
 past-entries tracks rows at to [] s h p = let q : at ≡ to = omega arith in rw q
 past-entries tracks rows at to (e ∷ es) s h p =
@@ -139,18 +156,24 @@ past-entries tracks rows at to (e ∷ es) s h p =
     let ih = past-entries tracks rows (at + length (entryBytes e)) to es s (u .1) (omega (arith, length-append (entryBytes e) (run es))) in
     rw append-assoc (reading-entry tracks rows at _ e _ (front-entry tracks e (run es ++ s) (u .0)) ∙ ap (addEntry e) ih)
 
-past-rows : (tracks left rows at to : ℕ) (full : List (List Entry)) (s : List ℕ) → allSound tracks full ≡ true → length full + left ≡ rows → at + length (streamOf full) ≡ to → reading tracks rows at (streamOf full ++ s) ≡ addRows full (reading tracks left to s)
+past-rows : (tracks left rows at to : ℕ) (full : List (List Entry)) (s : List ℕ) → allSound tracks full ≡ true
+    → length full + left ≡ rows → at + length (streamOf full) ≡ to
+    → reading tracks rows at (streamOf full ++ s) ≡ addRows full (reading tracks left to s)
 unfolding addRows
 past-rows tracks left rows at to [] s h n p = let q : at ≡ to = omega arith in let m : left ≡ rows = omega arith in rw (q, m)
 past-rows tracks left zero at to (es ∷ full) s h n p = absurd (omega arith)
 past-rows tracks left (suc rows) at to (es ∷ full) s h n p =
     let u = both-true (every (soundEntry tracks) es) (allSound tracks full) h in
     let mid : ℕ = at + length (run es) in
-    let ih = past-rows tracks left rows (mid + 1) to full s (u .1) (omega arith) (omega (arith, length-append (rowStream es) (streamOf full), length-append (run es) (0 ∷ []))) in
-    simp append-assoc (past-entries tracks rows at mid es (0 ∷ (streamOf full ++ s)) (u .0) refl ∙ ap (addEntries es) (reading-row-end tracks rows mid _ (streamOf full ++ s) refl ∙ ap newRow ih))
+    let ih = past-rows tracks left rows (mid + 1) to full s (u .1) (omega arith)
+    (omega (arith, length-append (rowStream es) (streamOf full), length-append (run es) (0 ∷ []))) in
+    simp append-assoc (past-entries tracks rows at mid es (0 ∷ (streamOf full ++ s)) (u .0) refl
+    ∙ ap (addEntries es) (reading-row-end tracks rows mid _ (streamOf full ++ s) refl ∙ ap newRow ih))
 
 -- A fault behind sound rows is the fault of the whole.
-past-fault : (tracks left rows at p : ℕ) (full : List (List Entry)) (s : List ℕ) → allSound tracks full ≡ true → length full + left ≡ rows → reading tracks left (at + length (streamOf full)) s ≡ brokenAt p → reading tracks rows at (streamOf full ++ s) ≡ brokenAt p
+past-fault : (tracks left rows at p : ℕ) (full : List (List Entry)) (s : List ℕ) → allSound tracks full ≡ true
+    → length full + left ≡ rows → reading tracks left (at + length (streamOf full)) s ≡ brokenAt p
+    → reading tracks rows at (streamOf full ++ s) ≡ brokenAt p
 past-fault tracks left rows at p full s h n e = past-rows tracks left rows at _ full s h n refl ∙ ap (addRows full) e ∙ rows-broken full p
 
 -- Bytes left over behind the last row.
@@ -159,7 +182,8 @@ reading-left tracks at [] h = absurd (h refl)
 reading-left tracks at (b ∷ s) h = reading-over tracks at b s
 
 -- Read whole, at any place: exactly the rows of sound entries with their row ends.
-pub reads-from : (rows tracks at : ℕ) (stream : List ℕ) (entries : List (List Entry)) → (reading tracks rows at stream ≡ whole entries) ↔ StreamOf rows tracks stream entries
+pub reads-from : (rows tracks at : ℕ) (stream : List ℕ) (entries : List (List Entry))
+    → (reading tracks rows at stream ≡ whole entries) ↔ StreamOf rows tracks stream entries
 reads-from rows tracks at stream entries = (λ e. subst (Told tracks rows at stream) e (told tracks rows at stream), back)
   where
     back : StreamOf rows tracks stream entries → reading tracks rows at stream ≡ whole entries
@@ -167,10 +191,13 @@ reads-from rows tracks at stream entries = (λ e. subst (Told tracks rows at str
         rw (h .bytes ∙ sym (append-nil (streamOf entries)))
         (past-rows tracks 0 rows at _ entries [] (h .sound) (omega (arith, h .count)) refl ∙ ap (addRows entries) (reading-end tracks _) ∙ rows-whole entries)
 
-pub reads-exactly : (rows tracks : ℕ) (stream : List ℕ) (entries : List (List Entry)) → (readStream rows tracks stream ≡ whole entries) ↔ StreamOf rows tracks stream entries
+pub reads-exactly : (rows tracks : ℕ) (stream : List ℕ) (entries : List (List Entry))
+    → (readStream rows tracks stream ≡ whole entries) ↔ StreamOf rows tracks stream entries
 reads-exactly rows tracks = reads-from rows tracks 0
 
-pub reads-one : (rows tracks : ℕ) (stream : List ℕ) (entries entries′ : List (List Entry)) → StreamOf rows tracks stream entries → StreamOf rows tracks stream entries′ → entries ≡ entries′
+pub reads-one : (rows tracks : ℕ) (stream : List ℕ) (entries entries′ : List (List Entry))
+    → StreamOf rows tracks stream entries → StreamOf rows tracks stream entries′
+    → entries ≡ entries′
 reads-one rows tracks stream entries entries′ h h′ = cc (reads-exactly rows tracks stream entries .1 h, reads-exactly rows tracks stream entries′ .1 h′)
 
 -- Refused, read from any place: exactly the streams broken so many bytes further.
@@ -216,10 +243,14 @@ refused-exactly rows tracks stream p = rw zero-add at (refused-from rows tracks 
 pub one-place : (rows tracks : ℕ) (stream : List ℕ) (p p′ : ℕ) → BrokenAt rows tracks stream p → BrokenAt rows tracks stream p′ → p ≡ p′
 one-place rows tracks stream p p′ h h′ = cc (refused-exactly rows tracks stream p .1 h, refused-exactly rows tracks stream p′ .1 h′)
 
-pub no-proper-beginning : (rows tracks : ℕ) (a b : List ℕ) (es es′ : List (List Entry)) → readStream rows tracks a ≡ whole es → readStream rows tracks (a ++ b) ≡ whole es′ → b ≡ []
+pub no-proper-beginning : (rows tracks : ℕ) (a b : List ℕ) (es es′ : List (List Entry)) → readStream rows tracks a ≡ whole es
+    → readStream rows tracks (a ++ b) ≡ whole es′
+    → b ≡ []
 no-proper-beginning rows tracks a [] es es′ h h′ = refl
 no-proper-beginning rows tracks a (x ∷ b) es es′ h h′ =
     let s = reads-exactly rows tracks a es .0 h in
-    let broken : readStream rows tracks (a ++ (x ∷ b)) ≡ brokenAt (0 + length (streamOf es)) = rw (s .bytes) (past-fault tracks 0 rows 0 _ es (x ∷ b) (s .sound) (omega (arith, s .count)) (reading-over tracks _ x b)) in
+    let broken : readStream rows tracks (a ++ (x ∷ b)) ≡ brokenAt (0 + length (streamOf es)) =
+    rw (s .bytes)
+    (past-fault tracks 0 rows 0 _ es (x ∷ b) (s .sound) (omega (arith, s .count)) (reading-over tracks _ x b)) in
     let z : _≡_ {A = ℕ} 0 1 = cc in
     absurd (omega arith)

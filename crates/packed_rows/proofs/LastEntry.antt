@@ -42,7 +42,9 @@ fieldOf track field row = getD (getD row (track - 1) emptyCell) field 0
 -- What the last entry that names the field stored, else what stood there.
 data Last (track field : ℕ) (before : ℕ) (entries : List Entry) (now : ℕ) : Type 0 where
   kept : noneNames track field entries → now ≡ before → Last track field before entries now
-  stored : (earlier later : List Entry) (e : Entry) → entries ≡ earlier ++ (e ∷ later) → names track field e ≡ true → noneNames track field later → now ≡ storedIn e field
+  stored : (earlier later : List Entry) (e : Entry) → entries ≡ earlier ++ (e ∷ later) → names track field e ≡ true
+      → noneNames track field later
+      → now ≡ storedIn e field
       → Last track field before entries now
 
 last-stored-of : {track field : ℕ} {entries : List Entry} {now : ℕ} → Last track field 0 entries now → LastStored track field entries now
@@ -70,13 +72,15 @@ module _ (tracks track field : ℕ) (low : 1 ≤ track) (high : track ≤ tracks
           → fieldOf track field (carryOut e row) ≡ cond (both t (getD (named (e .mask)) field false)) (storedIn e field) (fieldOf track field row)
       go true q =
           let here : e .track ≡ track = eqb-true (e .track) track q in
-          rw (← here) (set-field (named (e .mask)) (e .fields) row (e .track - 1) field (omega (arith, s .low, s .high, each-count b)) (rw (each-getD (e .track - 1) emptyCell refl b) inside))
+          rw (← here) (set-field (named (e .mask)) (e .fields) row (e .track - 1) field
+          (omega (arith, s .low, s .high, each-count b)) (rw (each-getD (e .track - 1) emptyCell refl b) inside))
       go false q =
           let elsewhere : ¬ (e .track ≡ track) = eqb-false (e .track) track q in
           let apart : ¬ (track - 1 ≡ e .track - 1) = omega (arith, s .low) in
           ap (λ (cell : Cell). getD cell field 0) (getD-set-other row (e .track - 1) (track - 1) new emptyCell apart)
 
-  last-from : (es : List Entry) (row : Row) → every (soundEntry tracks) es ≡ true → Blocks tracks 6 row → Last track field (fieldOf track field row) es (fieldOf track field (carryAll es row))
+  last-from : (es : List Entry) (row : Row) → every (soundEntry tracks) es ≡ true → Blocks tracks 6 row
+      → Last track field (fieldOf track field row) es (fieldOf track field (carryAll es row))
   last-from [] row h b = kept (none-names-nil track field) refl
   last-from (e ∷ es) row h b =
       let s = both-true (soundEntry tracks e) (every (soundEntry tracks) es) h in
@@ -98,11 +102,15 @@ every-getD test [] i d p h = p
 every-getD test (x ∷ xs) zero d p h = both-true (test x) (every test xs) h .0
 every-getD test (x ∷ xs) (suc i) d p h = every-getD test xs i d p (both-true (test x) (every test xs) h .1)
 
-pub last-stored : (rows tracks : ℕ) (stream cells : List ℕ) (accepted : AcceptedAs rows tracks stream cells) (row track field : ℕ) → row < rows → 1 ≤ track → track ≤ tracks → field < 6
+pub last-stored : (rows tracks : ℕ) (stream cells : List ℕ) (accepted : AcceptedAs rows tracks stream cells) (row track field : ℕ)
+    → row < rows → 1 ≤ track → track ≤ tracks
+    → field < 6
     → LastStored track field (getD (accepted .entries) row []) (getD cells (row * (tracks * 6) + ((track - 1) * 6 + field)) 0)
 last-stored rows tracks stream cells accepted row track field h low high inside =
     let es : List Entry = getD (accepted .entries) row [] in
-    let sound : every (soundEntry tracks) es ≡ true = every-getD (every (soundEntry tracks)) (accepted .entries) row [] refl (accepted-stream accepted .sound) in
-    let start : fieldOf track field (emptyRow tracks) ≡ 0 = rw (getD-replicate tracks (track - 1) emptyCell emptyCell (omega arith)) (getD-replicate 6 field 0 0 inside) in
+    let sound : every (soundEntry tracks) es ≡ true =
+    every-getD (every (soundEntry tracks)) (accepted .entries) row [] refl (accepted-stream accepted .sound) in
+    let start : fieldOf track field (emptyRow tracks) ≡ 0 =
+    rw (getD-replicate tracks (track - 1) emptyCell emptyCell (omega arith)) (getD-replicate 6 field 0 0 inside) in
     rw (accepted-field accepted row (track - 1) field h (omega arith) inside)
     (last-stored-of (rw start at (last-from tracks track field low high inside es (emptyRow tracks) sound (each-replicate tracks emptyCell refl))))

@@ -9,7 +9,8 @@ use Rattle.packed_rows.specs.Packer.{packedEntry, entriesFrom}
 
 pub data Packs : ℕ → Row → List Entry → Type 0 where
   done : {track : ℕ} → Packs track [] []
-  written : {track : ℕ} {cell : Cell} {row : Row} {es : List Entry} → nonEmpty cell ≡ true → Packs (suc track) row es → Packs track (cell ∷ row) (packedEntry track cell ∷ es)
+  written : {track : ℕ} {cell : Cell} {row : Row} {es : List Entry} → nonEmpty cell ≡ true → Packs (suc track) row es
+      → Packs track (cell ∷ row) (packedEntry track cell ∷ es)
   passed : {track : ℕ} {cell : Cell} {row : Row} {es : List Entry} → nonEmpty cell ≡ false → Packs (suc track) row es → Packs track (cell ∷ row) es
 
 pub packs : (track : ℕ) (row : Row) → Packs track row (entriesFrom track row)

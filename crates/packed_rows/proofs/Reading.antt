@@ -11,7 +11,8 @@ use lib.Seq.{length-take-le, take-at, drop-at}
 use borrow.Author.Tests.{leb-true, eqb-true, eqb-false, le-leb, eq-eqb, ne-eqb}
 use Rattle.cells.specs.Cells.{both}
 use Rattle.packed_rows.specs.Entries.{Entry, soundMask, fieldsNamed, entryBytes, soundEntry}
-use Rattle.packed_rows.specs.Stream.{Front, nothing, rowEnd, entry, fault, frontEntry, front, Reading, brokenAt, whole, newRow, addEntry, goOn, readFrom, reading}
+use Rattle.packed_rows.specs.Stream.{Front, nothing, rowEnd, entry, fault, frontEntry, front, Reading, brokenAt, whole}
+use Rattle.packed_rows.specs.Stream.{newRow, addEntry, goOn, readFrom, reading}
 
 pub both-true : (a b : Bool) → both a b ≡ true → (a ≡ true) × (b ≡ true)
 both-true true b h = (refl, h)
@@ -34,7 +35,8 @@ frontEntry-stands tracks b (mask ∷ s) h = go (both (leb b tracks) (both (sound
     n : ℕ
     n = fieldsNamed mask
 
-    go : (t : Bool) → both (leb b tracks) (both (soundMask mask) (leb n (length s))) ≡ t → Stands tracks (b ∷ mask ∷ s) (cond t (entry (record { track = b; mask = mask; fields = take n s }) (drop n s)) fault)
+    go : (t : Bool) → both (leb b tracks) (both (soundMask mask) (leb n (length s))) ≡ t
+        → Stands tracks (b ∷ mask ∷ s) (cond t (entry (record { track = b; mask = mask; fields = take n s }) (drop n s)) fault)
     go false e = tt
     go true e =
         let u = both-true (leb b tracks) (both (soundMask mask) (leb n (length s))) e in
@@ -71,13 +73,21 @@ front-entry tracks e rest h =
     let w = both-true (soundMask (e .mask)) (eqb (length (e .fields)) n) (v .1) in
     let l : length (e .fields) ≡ n = eqb-true (length (e .fields)) n (w .1) in
     let some : 1 ≤ e .track = leb-true 1 (e .track) (u .0) in
-    simp (ne-eqb (e .track) 0 (omega arith), true-both (v .0) (true-both (w .0) (le-leb n (length (e .fields ++ rest)) (simp length-append (omega arith)))), take-at (e .fields) rest n l, drop-at (e .fields) rest n l)
+    simp (
+      ne-eqb (e .track) 0 (omega arith),
+      true-both (v .0) (true-both (w .0) (le-leb n (length (e .fields ++ rest)) (simp length-append (omega arith)))),
+      take-at (e .fields) rest n l,
+      drop-at (e .fields) rest n l,
+    )
   where
     n : ℕ
     n = fieldsNamed (e .mask)
 
 -- Going on looks only at what is shorter than the stream.
-goOn-same : (tracks at : ℕ) (s : List ℕ) (f f′ : List ℕ → Reading) (g g′ : Entry → List ℕ → Reading) → ((rest : List ℕ) → length rest < length s → f rest ≡ f′ rest) → ((e : Entry) (rest : List ℕ) → length rest < length s → g e rest ≡ g′ e rest) → goOn (front tracks s) at f g ≡ goOn (front tracks s) at f′ g′
+goOn-same : (tracks at : ℕ) (s : List ℕ) (f f′ : List ℕ → Reading) (g g′ : Entry → List ℕ → Reading)
+    → ((rest : List ℕ) → length rest < length s → f rest ≡ f′ rest)
+    → ((e : Entry) (rest : List ℕ) → length rest < length s → g e rest ≡ g′ e rest)
+    → goOn (front tracks s) at f g ≡ goOn (front tracks s) at f′ g′
 goOn-same tracks at s f f′ g g′ p q = go (front tracks s) refl
   where
     go : (x : Front) → front tracks s ≡ x → goOn x at f g ≡ goOn x at f′ g′
@@ -106,7 +116,10 @@ pub reading-over : (tracks at b : ℕ) (s : List ℕ) → reading tracks 0 at (b
 unfolding reading readFrom
 reading-over tracks at b s = refl
 
-pub reading-next : (tracks rows at : ℕ) (s : List ℕ) → reading tracks (suc rows) at s ≡ goOn (front tracks s) at (λ rest. newRow (reading tracks rows (at + 1) rest)) (λ e rest. addEntry e (reading tracks (suc rows) (at + length (entryBytes e)) rest))
+pub reading-next : (tracks rows at : ℕ) (s : List ℕ)
+    → reading tracks (suc rows) at s
+    ≡ goOn (front tracks s) at (λ rest. newRow (reading tracks rows (at + 1) rest))
+    (λ e rest. addEntry e (reading tracks (suc rows) (at + length (entryBytes e)) rest))
 unfolding reading readFrom
 reading-next tracks rows at s =
     goOn-same tracks at s _ _ _ _
@@ -124,16 +137,21 @@ module _ (tracks rows at : ℕ) (s : List ℕ) where
   pub reading-row-end : (rest : List ℕ) → front tracks s ≡ rowEnd rest → reading tracks (suc rows) at s ≡ newRow (reading tracks rows (at + 1) rest)
   reading-row-end rest e = rw (reading-next, e)
 
-  pub reading-entry : (e : Entry) (rest : List ℕ) → front tracks s ≡ entry e rest → reading tracks (suc rows) at s ≡ addEntry e (reading tracks (suc rows) (at + length (entryBytes e)) rest)
+  pub reading-entry : (e : Entry) (rest : List ℕ) → front tracks s ≡ entry e rest
+      → reading tracks (suc rows) at s ≡ addEntry e (reading tracks (suc rows) (at + length (entryBytes e)) rest)
   reading-entry e rest p = rw (reading-next tracks rows at s, p)
 
 -- Neither a row end nor a sound entry stands at the front.
 abbrev pub Neither : ℕ → List ℕ → Type 0
 Neither tracks s = ((rest : List ℕ) → s ≡ 0 ∷ rest → ⊥) × ((e : Entry) (rest : List ℕ) → soundEntry tracks e ≡ true → s ≡ entryBytes e ++ rest → ⊥)
 
-front-neither : (tracks : ℕ) (s : List ℕ) (f : Front) → ((rest : List ℕ) → f ≡ rowEnd rest → _≡_ {A = ℕ} 0 1) → ((e : Entry) (rest : List ℕ) → f ≡ entry e rest → _≡_ {A = ℕ} 0 1) → front tracks s ≡ f → Neither tracks s
-front-neither tracks s f p q h =
-    (λ rest e. omega (arith, p rest (sym h ∙ rw e (front-row-end tracks rest))), λ en rest sound e. omega (arith, q en rest (sym h ∙ rw e (front-entry tracks en rest sound))))
+front-neither : (tracks : ℕ) (s : List ℕ) (f : Front) → ((rest : List ℕ) → f ≡ rowEnd rest → _≡_ {A = ℕ} 0 1)
+    → ((e : Entry) (rest : List ℕ) → f ≡ entry e rest → _≡_ {A = ℕ} 0 1) → front tracks s ≡ f
+    → Neither tracks s
+front-neither tracks s f p q h = (
+  λ rest e. omega (arith, p rest (sym h ∙ rw e (front-row-end tracks rest))),
+  λ en rest sound e. omega (arith, q en rest (sym h ∙ rw e (front-entry tracks en rest sound))),
+)
 
 pub nothing-neither : (tracks : ℕ) (s : List ℕ) → front tracks s ≡ nothing → Neither tracks s
 nothing-neither tracks s = front-neither tracks s nothing (λ rest e. cc) (λ en rest e. cc)
@@ -152,7 +170,13 @@ reading-broken tracks rows at s n = go (front tracks s) refl
 
 -- Induction along a reading: what holds where it stops, and passes from what is read behind a row end or an entry to what is
 -- read with it, holds of every reading.
-module _ (tracks : ℕ) (P : ℕ → ℕ → List ℕ → Reading → Type 0) (ends : (at : ℕ) → P 0 at [] (whole [])) (leaves : (at b : ℕ) (s : List ℕ) → P 0 at (b ∷ s) (brokenAt at)) (breaks : (rows at : ℕ) (s : List ℕ) → Neither tracks s → P (suc rows) at s (brokenAt at)) (ends-row : (rows at : ℕ) (rest : List ℕ) (r : Reading) → P rows (at + 1) rest r → P (suc rows) at (0 ∷ rest) (newRow r)) (takes : (rows at : ℕ) (e : Entry) (rest : List ℕ) (r : Reading) → soundEntry tracks e ≡ true → P (suc rows) (at + length (entryBytes e)) rest r → P (suc rows) at (entryBytes e ++ rest) (addEntry e r)) where
+module _ (tracks : ℕ) (P : ℕ → ℕ → List ℕ → Reading → Type 0) (ends : (at : ℕ) → P 0 at [] (whole []))
+    (leaves : (at b : ℕ) (s : List ℕ) → P 0 at (b ∷ s) (brokenAt at))
+    (breaks : (rows at : ℕ) (s : List ℕ) → Neither tracks s → P (suc rows) at s (brokenAt at))
+    (ends-row : (rows at : ℕ) (rest : List ℕ) (r : Reading) → P rows (at + 1) rest r → P (suc rows) at (0 ∷ rest) (newRow r))
+    (takes : (rows at : ℕ) (e : Entry) (rest : List ℕ) (r : Reading) → soundEntry tracks e ≡ true
+    → P (suc rows) (at + length (entryBytes e)) rest r
+    → P (suc rows) at (entryBytes e ++ rest) (addEntry e r)) where
   along-steps : (k rows at : ℕ) (s : List ℕ) → length s < k → P rows at s (readFrom k tracks rows at s)
   unfolding readFrom
   along-steps zero rows at s h = absurd (omega arith)
@@ -160,7 +184,10 @@ module _ (tracks : ℕ) (P : ℕ → ℕ → List ℕ → Reading → Type 0) (e
   along-steps (suc k) zero at (b ∷ s) h = leaves at b s
   along-steps (suc k) (suc rows) at s h = go (front tracks s) refl (along-steps k)
     where
-      go : (f : Front) → front tracks s ≡ f → ((rows at : ℕ) (s : List ℕ) → length s < k → P rows at s (readFrom k tracks rows at s)) → P (suc rows) at s (goOn f at (λ rest. newRow (readFrom k tracks rows (at + 1) rest)) (λ e rest. addEntry e (readFrom k tracks (suc rows) (at + length (entryBytes e)) rest)))
+      go : (f : Front) → front tracks s ≡ f
+          → ((rows at : ℕ) (s : List ℕ) → length s < k → P rows at s (readFrom k tracks rows at s))
+          → P (suc rows) at s (goOn f at (λ rest. newRow (readFrom k tracks rows (at + 1) rest))
+          (λ e rest. addEntry e (readFrom k tracks (suc rows) (at + length (entryBytes e)) rest)))
       go nothing e ih = breaks rows at s (nothing-neither tracks s e)
       go (rowEnd rest) e ih =
           rw (front-of tracks s e) (ends-row rows at rest _ (ih rows (at + 1) rest (omega (arith, row-end-length tracks s rest e))))

@@ -32,7 +32,9 @@ pub record NextRow (s : List ℕ) (tracks after l : ℕ) (later : List (List Ent
   pub line-is : line ≡ joined (rowFrom tracks es)
   pub row-is : rowOf tracks line ≡ rowFrom tracks es
 
-module _ (s : List ℕ) (tracks at left : ℕ) (later : List (List Entry)) (reads : reading tracks left at (drop at s) ≡ whole later) (l : ℕ) (some : left ≡ suc l) (size : ℕ) (wide : size ≡ tracks * 6) where
+module _ (s : List ℕ) (tracks at left : ℕ) (later : List (List Entry))
+    (reads : reading tracks left at (drop at s) ≡ whole later) (l : ℕ) (some : left ≡ suc l) (size : ℕ)
+    (wide : size ≡ tracks * 6) where
   module _ (es : List Entry) (rest : List (List Entry)) (is : later ≡ es ∷ rest) where
     abbrev ahead : RowAhead s at size
     ahead = record { tracks = tracks; left = l; entries = es; later = rest; reads = rw some at reads ∙ ap whole is; fits = wide }
@@ -63,14 +65,18 @@ pub none-left : (s : List ℕ) (tracks at left : ℕ) (later : List (List Entry)
 none-left s tracks at left [] reads z = refl
 none-left s tracks at left (es ∷ rest) reads z = absurd (omega (arith, reads-from left tracks at (drop at s) (es ∷ rest) .0 reads .count, z))
 
-pub all-read : (s : List ℕ) (rows tracks : ℕ) → verdictOf (readStream rows tracks s) ≡ Accepted → (entries : List (List Entry)) × (readStream rows tracks s ≡ whole entries) × (rowsRead s rows tracks ≡ rowsFrom tracks entries)
+pub all-read : (s : List ℕ) (rows tracks : ℕ) → verdictOf (readStream rows tracks s) ≡ Accepted
+    → (entries : List (List Entry)) × (readStream rows tracks s ≡ whole entries) × (rowsRead s rows tracks ≡ rowsFrom tracks entries)
 all-read s rows tracks ok =
     let read = accepted-reading (readStream rows tracks s) .0 ok in
     (read .0, read .1, ap (λ (r : Reading). rowsFrom tracks (entriesRead r)) (read .1))
 
 -- The packed length of one row, and of the row before others.
-pub one-length : (tracks : ℕ) (line : List ℕ) (row : Row) → length line ≡ tracks * 6 → rowOf tracks line ≡ row → packedLength (rowsOf 1 tracks line) ≡ packedLength (row ∷ [])
-one-length tracks line row long e = ap (λ (bytes : List ℕ). packedLength (rowOf tracks bytes ∷ [])) (take-all (tracks * 6) line (omega arith)) ∙ ap (λ (r : Row). packedLength (r ∷ [])) e
+pub one-length : (tracks : ℕ) (line : List ℕ) (row : Row) → length line ≡ tracks * 6 → rowOf tracks line ≡ row
+    → packedLength (rowsOf 1 tracks line) ≡ packedLength (row ∷ [])
+one-length tracks line row long e =
+    ap (λ (bytes : List ℕ). packedLength (rowOf tracks bytes ∷ [])) (take-all (tracks * 6) line (omega arith))
+    ∙ ap (λ (r : Row). packedLength (r ∷ [])) e
 
 pub length-more : (row : Row) (rows : List Row) → packedLength (row ∷ rows) ≡ packedLength (row ∷ []) + packedLength rows
 length-more row rows = omega (arith, packed-length-cons row rows, packed-length-cons row [])
@@ -103,7 +109,8 @@ module _ (s : List ℕ) (rows tracks : ℕ) where
         let none = none-left s tracks at left (state .later) (state .reads) z in
         omega (arith, state .same, ap (λ (es : List (List Entry)). packedLength (rowsFrom tracks es)) none)
 
-    module _ (l : ℕ) (some : left ≡ suc l) (line : List ℕ) (after : ℕ) (next : NextRow s tracks after l (state .later) line) (n : ℕ) (long : length line ≡ tracks * 6) (is : n ≡ packedLength (rowsOf 1 tracks line)) where
+    module _ (l : ℕ) (some : left ≡ suc l) (line : List ℕ) (after : ℕ) (next : NextRow s tracks after l (state .later) line)
+        (n : ℕ) (long : length line ≡ tracks * 6) (is : n ≡ packedLength (rowsOf 1 tracks line)) where
       sum : n + packedLength (rowsFrom tracks (next .rest)) ≡ packedLength (rowsFrom tracks (state .later))
       sum =
           omega (
@@ -136,7 +143,8 @@ module _ (s : List ℕ) (rows tracks : ℕ) (out₀ : List ℕ) where
     pub repacking-last : length out₀ ≡ packedLength (rowsRead s rows tracks) → left ≡ 0 → out ≡ packedStream (rowsRead s rows tracks)
     repacking-last full z =
         let none = none-left s tracks at left (state .later) (state .reads) z in
-        let end = writing-last out₀ 0 (packedStream (rowsRead s rows tracks)) _ (state .writing) (ap (λ (es : List (List Entry)). packedStream (rowsFrom tracks es)) none) in
+        let end = writing-last out₀ 0 (packedStream (rowsRead s rows tracks)) _ (state .writing)
+        (ap (λ (es : List (List Entry)). packedStream (rowsFrom tracks es)) none) in
         sym (take-all to out (omega (arith, end .0, state .writing .room, full, packed-length (rowsRead s rows tracks)))) ∙ end .1
 
     module _ (l : ℕ) (line : List ℕ) (after : ℕ) (next : NextRow s tracks after l (state .later) line) where
@@ -149,9 +157,16 @@ module _ (s : List ℕ) (rows tracks : ℕ) (out₀ : List ℕ) where
           ∙ ap (λ (r : Row). rowStream (packedEntries r) ++ packedStream (rowsFrom tracks (next .rest))) (sym (next .row-is))
 
       pub repacking-room : to + length row ≤ length (packedStream (rowsRead s rows tracks))
-      repacking-room = omega (arith, writing-room out₀ 0 (packedStream (rowsRead s rows tracks)) row (packedStream (rowsFrom tracks (next .rest))) _ (state .writing) splits)
+      repacking-room =
+          omega (
+            arith,
+            writing-room out₀ 0 (packedStream (rowsRead s rows tracks)) row (packedStream (rowsFrom tracks (next .rest))) _
+                (state .writing) splits,
+          )
 
-      pub repacking-turn : (out′ : List ℕ) (to′ : ℕ) → length out′ ≡ length out → to′ ≡ to + length row → take to′ out′ ≡ take to out ++ row → RepackingRows s rows tracks out₀ out′ after to′ l
+      pub repacking-turn : (out′ : List ℕ) (to′ : ℕ) → length out′ ≡ length out → to′ ≡ to + length row
+          → take to′ out′ ≡ take to out ++ row
+          → RepackingRows s rows tracks out₀ out′ after to′ l
       repacking-turn out′ to′ long p q =
           record {
             later = next .rest;
@@ -165,6 +180,7 @@ repack-refused r tracks room why e =
     let broken = refused-reading r why e in
     ap PackingRefused (broken .2) ∙ sym (ap (λ (q : Reading). repackedIf q tracks room) (broken .1))
 
-pub repack-found : (r : Reading) (tracks room : ℕ) → verdictOf r ≡ Accepted → packedIf (packedLength (rowsFrom tracks (entriesRead r))) room ≡ repackedIf r tracks room
+pub repack-found : (r : Reading) (tracks room : ℕ) → verdictOf r ≡ Accepted
+    → packedIf (packedLength (rowsFrom tracks (entriesRead r))) room ≡ repackedIf r tracks room
 repack-found (brokenAt p) tracks room e = absurd (let z : _≡_ {A = ℕ} 0 1 = cc in omega arith)
 repack-found (whole rows) tracks room e = refl

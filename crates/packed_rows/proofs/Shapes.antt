@@ -124,7 +124,8 @@ module _ {A : Type 0} {P : A → Type 0} where
   each-joined {m = m} none = rw (zero-mul m) none
   each-joined {m = m} (one {n = n} p e) = rw (suc-mul n m, add-comm) (each-append p (each-joined e))
 
-pub joined-rows : (rows tracks : ℕ) (bytes : List ℕ) → length bytes ≡ cellBytes rows tracks → joined (rowsOf rows tracks bytes) ≡ blocksOf (rows * tracks) 6 bytes
+pub joined-rows : (rows tracks : ℕ) (bytes : List ℕ) → length bytes ≡ cellBytes rows tracks
+    → joined (rowsOf rows tracks bytes) ≡ blocksOf (rows * tracks) 6 bytes
 joined-rows rows tracks bytes e =
     sym (blocks-joined 6 (each-joined (rows-shaped rows tracks bytes e)))
     ∙ ap (blocksOf (rows * tracks) 6) (sym (bytes-joined (rowsOf rows tracks bytes)) ∙ bytes-rows rows tracks bytes e)

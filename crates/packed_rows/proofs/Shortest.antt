@@ -6,7 +6,8 @@ use native.Mathlib.Nat.{add-zero, add-suc, suc-add}
 use native.Mathlib.Omega.{arith}
 use mathlib.Core.Path.{_≡_, refl, sym, ap, _∙_}
 use mathlib.Core.Logic.{_↔_}
-use mathlib.Core.List.{List, [], _∷_, _++_, map, append-nil, List·Permᴰ, List·Permᴰ·cons, List·Permᴰ·swap, List·Permᴰ·trans, Permᴰ·refl, Permᴰ·symm, Permᴰ·middle, Permᴰ·append-left}
+use mathlib.Core.List.{List, [], _∷_, _++_, map, append-nil, List·Permᴰ, List·Permᴰ·cons, List·Permᴰ·swap, List·Permᴰ·trans}
+use mathlib.Core.List.{Permᴰ·refl, Permᴰ·symm, Permᴰ·middle, Permᴰ·append-left}
 use mathlib.Core.Bool.{Bool, true, false, cond}
 use borrow.Author.Tests.{ltb-false}
 use lib.ListN.{length, getD, set, length-append}
@@ -20,7 +21,8 @@ use Rattle.packed_rows.proofs.Shapes.{none, one, Blocks, Shaped, each-c
 use Rattle.packed_rows.proofs.Bits.{of-bits}
 use Rattle.packed_rows.proofs.PackedRow.{packs}
 use Rattle.packed_rows.proofs.Storing.{all-zeros, store-most, store-full}
-use Rattle.packed_rows.proofs.StreamLength.{cellLength, rowLength, cell-length-most, row-length-cons, packed-length-cons, row-stream-length, entries-length}
+use Rattle.packed_rows.proofs.StreamLength.{cellLength, rowLength, cell-length-most, row-length-cons}
+use Rattle.packed_rows.proofs.StreamLength.{packed-length-cons, row-stream-length, entries-length}
 use Rattle.packed_rows.proofs.Soundness.{Sound, sound-facts, every-perm, entries-sound}
 use Rattle.packed_rows.proofs.AnyOrder.{any-order-gives}
 use Rattle.packed_rows.proofs.Reading.{both-true, true-both}
@@ -87,14 +89,21 @@ module _ (tracks : ℕ) (e : Entry) (row : Row) (s : Sound tracks e) (b : Blocks
   carry-length : rowLength (carryOut e row) ≤ rowLength row + length (entryBytes e)
   carry-length =
       let here : e .track - 1 < length row = omega (arith, s .low, s .high, each-count b) in
-      omega (arith, s .filled, store-length (named (e .mask)) (e .fields) (getD row (e .track - 1) emptyCell), set-length row (e .track - 1) (store (named (e .mask)) (e .fields) (getD row (e .track - 1) emptyCell)) here)
+      omega (
+        arith,
+        s .filled,
+        store-length (named (e .mask)) (e .fields) (getD row (e .track - 1) emptyCell),
+        set-length row (e .track - 1) (store (named (e .mask)) (e .fields) (getD row (e .track - 1) emptyCell)) here,
+      )
 
   carry-packers : rowLength row + length (entryBytes e) ≤ rowLength (carryOut e row) → List·Permᴰ (e ∷ packedEntries row) (packedEntries (carryOut e row))
   carry-packers h =
       let here : e .track - 1 < length row = omega (arith, s .low, s .high, each-count b) in
       let old : Cell = getD row (e .track - 1) emptyCell in
       let new : Cell = store (named (e .mask)) (e .fields) old in
-      let packers : Packers e old new = store-packers tracks e old s (each-getD (e .track - 1) emptyCell refl b) (omega (arith, set-length row (e .track - 1) new here)) in
+      let packers : Packers e old new =
+      store-packers tracks e old s (each-getD (e .track - 1) emptyCell refl b)
+      (omega (arith, set-length row (e .track - 1) new here)) in
       let same : e ≡ packedEntry (1 + (e .track - 1)) new = packers .same ∙ ap (λ (t : ℕ). packedEntry t new) (omega (arith, s .low)) in
       List·Permᴰ·trans (List·Permᴰ·cons same (Permᴰ·refl (packedEntries row))) (set-perm 1 row (e .track - 1) new here (packers .empty) (packers .filled))
 
@@ -104,7 +113,12 @@ carry-all-length : (tracks : ℕ) (es : List Entry) (row : Row) → every (sound
 carry-all-length tracks [] row h b = omega arith
 carry-all-length tracks (e ∷ es) row h b =
     let s = both-true (soundEntry tracks e) (every (soundEntry tracks) es) h in
-    omega (arith, carry-length tracks e row (sound-facts tracks e (s .0)) b, carry-all-length tracks es (carryOut e row) (s .1) (carry-shaped e b), length-append (entryBytes e) (joined (map entryBytes es)))
+    omega (
+      arith,
+      carry-length tracks e row (sound-facts tracks e (s .0)) b,
+      carry-all-length tracks es (carryOut e row) (s .1) (carry-shaped e b),
+      length-append (entryBytes e) (joined (map entryBytes es)),
+    )
 
 carry-all-packers : (tracks : ℕ) (es : List Entry) (row : Row) → every (soundEntry tracks) es ≡ true → Blocks tracks 6 row
     → rowLength row + length (joined (map entryBytes es)) ≤ rowLength (carryAll es row) → List·Permᴰ (es ++ packedEntries row) (packedEntries (carryAll es row))
@@ -142,7 +156,8 @@ stream-length tracks (es ∷ entries) h =
       stream-length tracks entries (s .1),
     )
 
-stream-packers : (tracks : ℕ) (entries : List (List Entry)) → allSound tracks entries ≡ true → length (streamOf entries) ≤ packedLength (rowsFrom tracks entries)
+stream-packers : (tracks : ℕ) (entries : List (List Entry)) → allSound tracks entries ≡ true
+    → length (streamOf entries) ≤ packedLength (rowsFrom tracks entries)
     → Reordered (rowsFrom tracks entries) (streamOf entries)
 stream-packers tracks [] h l = end
 stream-packers tracks (es ∷ entries) h l =
@@ -162,7 +177,12 @@ reordered-entries none end = ([], record { count = refl; sound = refl; bytes = r
 reordered-entries {tracks = tracks} (one b s) (next es d r) =
     let rest = reordered-entries s r in (
       es ∷ rest .0,
-      record { count = ap suc (rest .1 .count); sound = true-both (every-perm (soundEntry tracks) d ∙ entries-sound tracks (packs 1 _) b (omega arith) (omega arith)) (rest .1 .sound); bytes = ap (λ (s : List ℕ). rowStream es ++ s) (rest .1 .bytes) },
+      record {
+        count = ap suc (rest .1 .count);
+        sound = true-both (every-perm (soundEntry tracks) d ∙ entries-sound tracks (packs 1 _) b (omega arith) (omega arith))
+            (rest .1 .sound);
+        bytes = ap (λ (s : List ℕ). rowStream es ++ s) (rest .1 .bytes);
+      },
       rw (any-order-gives b d, rest .2),
     )
 
@@ -171,7 +191,9 @@ none-shorter rows tracks stream cells accepted =
     let read = accepted-stream accepted in
     rw (accepted-rows accepted, read .bytes) (stream-length tracks (accepted .entries) (read .sound))
 
-pub reordered-accepted : (rows tracks : ℕ) (stream cells : List ℕ) → length cells ≡ cellBytes rows tracks → Reordered (rowsOf rows tracks cells) stream → AcceptedAs rows tracks stream cells
+pub reordered-accepted : (rows tracks : ℕ) (stream cells : List ℕ) → length cells ≡ cellBytes rows tracks
+    → Reordered (rowsOf rows tracks cells) stream
+    → AcceptedAs rows tracks stream cells
 reordered-accepted rows tracks stream cells l r =
     let found = reordered-entries (rows-shaped rows tracks cells l) r in
     record { entries = found .0; read = reads-exactly rows tracks stream (found .0) .1 (found .1); gives = rw (found .2) (bytes-rows rows tracks cells l) }
@@ -183,12 +205,14 @@ equal-length rows tracks stream cells l e = (there, reordered-accepted rows trac
     there : AcceptedAs rows tracks stream cells → Reordered (rowsOf rows tracks cells) stream
     there accepted =
         let read = accepted-stream accepted in
-        rw (accepted-rows accepted, read .bytes) (stream-packers tracks (accepted .entries) (read .sound) (omega (arith, ap length (read .bytes), ap packedLength (accepted-rows accepted))))
+        rw (accepted-rows accepted, read .bytes)
+        (stream-packers tracks (accepted .entries) (read .sound) (omega (arith, ap length (read .bytes), ap packedLength (accepted-rows accepted))))
 
 -- The packer's own order is one of them.
 pub packed-reordered : (pattern : List Row) → Reordered pattern (packedStream pattern)
 packed-reordered [] = end
 packed-reordered (row ∷ pattern) = next (packedEntries row) (Permᴰ·refl (packedEntries row)) (packed-reordered pattern)
 
-pub round-trip : (rows tracks : ℕ) (cells : List ℕ) → length cells ≡ cellBytes rows tracks → AcceptedAs rows tracks (packedStream (rowsOf rows tracks cells)) cells
+pub round-trip : (rows tracks : ℕ) (cells : List ℕ) → length cells ≡ cellBytes rows tracks
+    → AcceptedAs rows tracks (packedStream (rowsOf rows tracks cells)) cells
 round-trip rows tracks cells l = reordered-accepted rows tracks (packedStream (rowsOf rows tracks cells)) cells l (packed-reordered (rowsOf rows tracks cells))

@@ -35,7 +35,10 @@ pub record SkippingRows (s : List ℕ) (n : ℕ) (all : RowsRead s n) (at left :
   pub reads : reading (all .tracks) (all .rows - done) at (drop at s) ≡ whole (drop done (all .entries))
 
 -- The row at a place that stands behind so many rows.
-pub row-behind : (s : List ℕ) (n : ℕ) (all : RowsRead s n) (at done : ℕ) → done < all .rows → reading (all .tracks) (all .rows - done) at (drop at s) ≡ whole (drop done (all .entries)) → (rest : ℕ) → all .rows - done ≡ suc rest → reading (all .tracks) (suc rest) at (drop at s) ≡ whole (getD (all .entries) done [] ∷ drop (suc done) (all .entries))
+pub row-behind : (s : List ℕ) (n : ℕ) (all : RowsRead s n) (at done : ℕ) → done < all .rows
+    → reading (all .tracks) (all .rows - done) at (drop at s) ≡ whole (drop done (all .entries)) → (rest : ℕ)
+    → all .rows - done ≡ suc rest
+    → reading (all .tracks) (suc rest) at (drop at s) ≡ whole (getD (all .entries) done [] ∷ drop (suc done) (all .entries))
 row-behind s n all at done h reads rest e = rw e at reads ∙ ap whole (drop-cons (all .entries) done [] (omega (arith, all-rows s n all)))
 
 module _ (s : List ℕ) (n : ℕ) (all : RowsRead s n) where
@@ -93,13 +96,15 @@ module _ (s : List ℕ) (rows tracks row track : ℕ) (ok : verdictOf (readStrea
           fits = refl;
         }
 
-    pub cell-shown : (size end : ℕ) (line : List ℕ) → size ≡ tracks * 6 → Loaded s at size end line → cellAt line ((track - 1) * 6) ≡ cellRead s rows tracks row track
+    pub cell-shown : (size end : ℕ) (line : List ℕ) → size ≡ tracks * 6 → Loaded s at size end line
+        → cellAt line ((track - 1) * 6) ≡ cellRead s rows tracks row track
     cell-shown size end line e loads =
         let inside : track - 1 < tracks = omega (arith, track-there) in
         let one : RowAhead s at size = rw e cell-ahead in
         let row-is : line ≡ joined (rowFrom tracks (getD (read .0) row [])) = (let l : Loaded s at (tracks * 6) end line = rw e at loads in l cell-ahead .1) in
         let whole-row = ap (rowOf tracks) row-is ∙ row-joined (rowFrom tracks (getD (read .0) row [])) (row-from-shaped tracks (getD (read .0) row [])) in
-        let rows-are : rowsFrom tracks (entriesRead (readStream rows tracks s)) ≡ rowsFrom tracks (read .0) = ap (λ (r : Reading). rowsFrom tracks (entriesRead r)) (read .1) in
+        let rows-are : rowsFrom tracks (entriesRead (readStream rows tracks s)) ≡ rowsFrom tracks (read .0) =
+        ap (λ (r : Reading). rowsFrom tracks (entriesRead r)) (read .1) in
         sym (block-at tracks 6 (track - 1) line emptyCell inside)
         ∙ ap (λ (r : Row). getD r (track - 1) emptyCell)
         (whole-row ∙ sym (getD-mapped (rowFrom tracks) (read .0) row [] [] (omega (arith, row-there, all-rows s row all-read))))
@@ -111,9 +116,11 @@ cell-refused r tracks row track why e =
     let broken = refused-reading r why e in
     ap CellRefused (broken .2) ∙ sym (ap (λ (q : Reading). cellIf q tracks row track) (broken .1))
 
-pub cell-found : (s : List ℕ) (rows tracks row track : ℕ) → verdictOf (readStream rows tracks s) ≡ Accepted → Found (shownCell (cellRead s rows tracks row track)) ≡ cellIf (readStream rows tracks s) tracks row track
+pub cell-found : (s : List ℕ) (rows tracks row track : ℕ) → verdictOf (readStream rows tracks s) ≡ Accepted
+    → Found (shownCell (cellRead s rows tracks row track)) ≡ cellIf (readStream rows tracks s) tracks row track
 cell-found s rows tracks row track ok = go (readStream rows tracks s) ok
   where
-    go : (r : Reading) → verdictOf r ≡ Accepted → Found (shownCell (getD (getD (rowsFrom tracks (entriesRead r)) row []) (track - 1) emptyCell)) ≡ cellIf r tracks row track
+    go : (r : Reading) → verdictOf r ≡ Accepted
+        → Found (shownCell (getD (getD (rowsFrom tracks (entriesRead r)) row []) (track - 1) emptyCell)) ≡ cellIf r tracks row track
     go (brokenAt p) e = absurd (let z : _≡_ {A = ℕ} 0 1 = cc in omega arith)
     go (whole es) e = refl

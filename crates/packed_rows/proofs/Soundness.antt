@@ -31,7 +31,12 @@ sound-facts tracks e h =
 
 pub facts-sound : (tracks : ℕ) (e : Entry) → Sound tracks e → soundEntry tracks e ≡ true
 facts-sound tracks e s =
-    simp (le-leb 1 (e .track) (s .low), le-leb (e .track) tracks (s .high), lt-ltb (e .mask) 64 (s .small), eq-eqb (length (e .fields)) (fieldsNamed (e .mask)) (s .filled))
+    simp (
+      le-leb 1 (e .track) (s .low),
+      le-leb (e .track) tracks (s .high),
+      lt-ltb (e .mask) 64 (s .small),
+      eq-eqb (length (e .fields)) (fieldsNamed (e .mask)) (s .filled),
+    )
 
 -- The packer's.
 pub named-packed : (cell : Cell) → length cell ≡ 6 → named (ofBits (map nonZero cell)) ≡ map nonZero cell
@@ -39,12 +44,20 @@ named-packed cell l = bits-of 6 (map nonZero cell) (length-map cell nonZero ∙ 
 
 pub packed-sound : (tracks track : ℕ) (cell : Cell) → 1 ≤ track → track ≤ tracks → length cell ≡ 6 → Sound tracks (packedEntry track cell)
 packed-sound tracks track cell low high l =
-    record { low = low; high = high; small = of-bits-below 6 (map nonZero cell) (length-map cell nonZero ∙ l); filled = rw (named-packed cell l) (sym (count-non-zero cell)) }
+    record {
+      low = low;
+      high = high;
+      small = of-bits-below 6 (map nonZero cell) (length-map cell nonZero ∙ l);
+      filled = rw (named-packed cell l) (sym (count-non-zero cell));
+    }
 
-pub entries-sound : (tracks : ℕ) {track n : ℕ} {row : Row} {es : List Entry} → Packs track row es → Blocks n 6 row → 1 ≤ track → track + n ≤ suc tracks → every (soundEntry tracks) es ≡ true
+pub entries-sound : (tracks : ℕ) {track n : ℕ} {row : Row} {es : List Entry} → Packs track row es → Blocks n 6 row → 1 ≤ track
+    → track + n ≤ suc tracks
+    → every (soundEntry tracks) es ≡ true
 entries-sound tracks done none low fits = refl
 entries-sound tracks (written {track = track} {cell = cell} q p) (one l b) low fits =
-    true-both (facts-sound tracks (packedEntry track cell) (packed-sound tracks track cell low (omega arith) l)) (entries-sound tracks p b (omega arith) (omega arith))
+    true-both (facts-sound tracks (packedEntry track cell) (packed-sound tracks track cell low (omega arith) l))
+    (entries-sound tracks p b (omega arith) (omega arith))
 entries-sound tracks (passed q p) (one l b) low fits = entries-sound tracks p b (omega arith) (omega arith)
 
 -- What holds of every one holds of them in any order.

@@ -51,7 +51,9 @@ pub all-zeros : (n : ℕ) (cell : Cell) → length cell ≡ n → length (nonZer
 all-zeros n [] l h = rw (← l)
 all-zeros n (f ∷ cell) l h = rw (← l) (go (eqb f 0) refl (omega (arith, length-non-zeros f cell)) (all-zeros (length cell) cell refl))
   where
-    go : (b : Bool) → eqb f 0 ≡ b → cond b 0 1 + length (nonZeros cell) ≡ 0 → (length (nonZeros cell) ≡ 0 → cell ≡ replicate (length cell) 0) → f ∷ cell ≡ 0 ∷ replicate (length cell) 0
+    go : (b : Bool) → eqb f 0 ≡ b → cond b 0 1 + length (nonZeros cell) ≡ 0
+        → (length (nonZeros cell) ≡ 0 → cell ≡ replicate (length cell) 0)
+        → f ∷ cell ≡ 0 ∷ replicate (length cell) 0
     go true q k ih = rw (← ih (omega arith), eqb-true f 0 q)
     go false q k ih = absurd (omega arith)
 
@@ -78,7 +80,13 @@ pub store-most : (ns : List Bool) (values : List ℕ) (cell : Cell) → length (
 store-most [] values cell = omega arith
 store-most (n ∷ ns) values [] = omega arith
 store-most (true ∷ ns) values (f ∷ cell) =
-    omega (arith, length-non-zeros (getD values 0 0) (store ns (drop 1 values) cell), weight-most (getD values 0 0), length-non-zeros f cell, store-most ns (drop 1 values) cell)
+    omega (
+      arith,
+      length-non-zeros (getD values 0 0) (store ns (drop 1 values) cell),
+      weight-most (getD values 0 0),
+      length-non-zeros f cell,
+      store-most ns (drop 1 values) cell,
+    )
 store-most (false ∷ ns) values (f ∷ cell) = omega (arith, length-non-zeros f (store ns values cell), length-non-zeros f cell, store-most ns values cell)
 
 -- Where it makes that many, in an empty cell, the mask and the fields are the packer's.
@@ -92,7 +100,8 @@ store-full (true ∷ ns) (v ∷ vs) e h = go (eqb v 0) (omega (arith, length-non
     rest : Cell
     rest = store ns vs (replicate (length ns) 0)
 
-    go : (b : Bool) → suc (count ns) ≤ cond b 0 1 + length (nonZeros rest) → (count ns ≤ length (nonZeros rest) → (map nonZero rest ≡ ns) × (nonZeros rest ≡ vs))
+    go : (b : Bool) → suc (count ns) ≤ cond b 0 1 + length (nonZeros rest)
+        → (count ns ≤ length (nonZeros rest) → (map nonZero rest ≡ ns) × (nonZeros rest ≡ vs))
         → (not b ∷ map nonZero rest ≡ true ∷ ns) × (cond b (nonZeros rest) (v ∷ nonZeros rest) ≡ v ∷ vs)
     go true k ih = absurd (omega (arith, store-most ns vs (replicate (length ns) 0), non-zeros-none (length ns)))
     go false k ih = let same = ih (omega arith) in (rw (same .0), rw (same .1))

@@ -61,7 +61,8 @@ packed-length-joined rows = rw (bytes-joined rows)
 pub packed-length-cons : (row : Row) (rows : List Row) → packedLength (row ∷ rows) ≡ suc (rowLength row) + packedLength rows
 packed-length-cons row rows = omega (arith, packed-length-joined (row ∷ rows), packed-length-joined rows, row-length-append row (joined rows))
 
-pub row-stream-length : (entries : List Entry) (stream : List ℕ) → length (rowStream entries ++ stream) ≡ suc (length (joined (map entryBytes entries))) + length stream
+pub row-stream-length : (entries : List Entry) (stream : List ℕ)
+    → length (rowStream entries ++ stream) ≡ suc (length (joined (map entryBytes entries))) + length stream
 row-stream-length entries stream =
     rw (length-append (rowStream entries) stream, length-append (joined (map entryBytes entries)) (0 ∷ [])) (omega arith)
 
@@ -85,5 +86,6 @@ packed-length-most none = omega arith
 packed-length-most {tracks = tracks} (one {n = n} {x = row} {xs = rows} b s) =
     omega (arith, packed-length-cons row rows, row-length-most b, packed-length-most s, suc-mul n (1 + 8 * tracks))
 
-pub packed-length-at-most : (rows tracks : ℕ) (cells : List ℕ) → length cells ≡ cellBytes rows tracks → packedLength (rowsOf rows tracks cells) ≤ rows * (1 + 8 * tracks)
+pub packed-length-at-most : (rows tracks : ℕ) (cells : List ℕ) → length cells ≡ cellBytes rows tracks
+    → packedLength (rowsOf rows tracks cells) ≤ rows * (1 + 8 * tracks)
 packed-length-at-most rows tracks cells e = packed-length-most (rows-shaped rows tracks cells e)

@@ -56,7 +56,8 @@ module _ (rows tracks : ℕ) where
   pub packed-length : (cells : List ℕ) → length (packedStream (rowsOf rows tracks cells)) ≡ packedLength (rowsOf rows tracks cells)
   packed-length cells = StreamLength.packed-length (rowsOf rows tracks cells)
 
-  pub packed-length-is : (cells : List ℕ) → length cells ≡ cellBytes rows tracks → packedLength (rowsOf rows tracks cells) ≡ rows + (2 * nonEmptyCells (blocksOf (rows * tracks) 6 cells) + length (nonZeros cells))
+  pub packed-length-is : (cells : List ℕ) → length cells ≡ cellBytes rows tracks
+      → packedLength (rowsOf rows tracks cells) ≡ rows + (2 * nonEmptyCells (blocksOf (rows * tracks) 6 cells) + length (nonZeros cells))
   packed-length-is = StreamLength.packed-length-cells rows tracks
 
   pub packed-length-at-most : (cells : List ℕ) → length cells ≡ cellBytes rows tracks → packedLength (rowsOf rows tracks cells) ≤ rows * (1 + 8 * tracks)
@@ -65,7 +66,9 @@ module _ (rows tracks : ℕ) where
   pub packed-length-answered : (cells : List ℕ) (room n : ℕ) → packAnswer cells rows tracks room ≡ Packed n → n ≡ packedLength (rowsOf rows tracks cells)
   packed-length-answered = Verdicts.pack-answers rows tracks
 
-  pub packed-length-needed : (cells : List ℕ) (room n : ℕ) → packAnswer cells rows tracks room ≡ PackingRefused (refusal Room n) → n ≡ packedLength (rowsOf rows tracks cells)
+  pub packed-length-needed : (cells : List ℕ) (room n : ℕ)
+      → packAnswer cells rows tracks room ≡ PackingRefused (refusal Room n)
+      → n ≡ packedLength (rowsOf rows tracks cells)
   packed-length-needed = Verdicts.pack-needs rows tracks
 
   -- 3.
@@ -73,37 +76,50 @@ module _ (rows tracks : ℕ) where
   none-shorter = Shortest.none-shorter rows tracks
 
   -- 4.
-  pub equal-length : (stream cells : List ℕ) → length cells ≡ cellBytes rows tracks → length stream ≡ packedLength (rowsOf rows tracks cells) → AcceptedAs rows tracks stream cells ↔ Reordered (rowsOf rows tracks cells) stream
+  pub equal-length : (stream cells : List ℕ) → length cells ≡ cellBytes rows tracks
+      → length stream ≡ packedLength (rowsOf rows tracks cells)
+      → AcceptedAs rows tracks stream cells ↔ Reordered (rowsOf rows tracks cells) stream
   equal-length = Shortest.equal-length rows tracks
 
-  pub unpacks-exactly : (stream cells out : List ℕ) → sizesFit rows tracks ≡ true → cellBytes rows tracks ≤ length out → AcceptedAs rows tracks stream cells ↔ ((unpackAnswer stream rows tracks (length out) ≡ Unpacked (cellBytes rows tracks)) × (take (cellBytes rows tracks) (unpackOutput stream rows tracks out) ≡ cells))
+  pub unpacks-exactly : (stream cells out : List ℕ) → sizesFit rows tracks ≡ true → cellBytes rows tracks ≤ length out
+      → AcceptedAs rows tracks stream cells
+      ↔ ((unpackAnswer stream rows tracks (length out) ≡ Unpacked (cellBytes rows tracks))
+      × (take (cellBytes rows tracks) (unpackOutput stream rows tracks out) ≡ cells))
   unpacks-exactly = Unpacks.unpacks-exactly rows tracks
 
   -- 5.
-  pub last-stored : (stream cells : List ℕ) (accepted : AcceptedAs rows tracks stream cells) (row track field : ℕ) → row < rows → 1 ≤ track → track ≤ tracks → field < 6 → LastStored track field (getD (accepted .entries) row []) (getD cells (row * (tracks * 6) + ((track - 1) * 6 + field)) 0)
+  pub last-stored : (stream cells : List ℕ) (accepted : AcceptedAs rows tracks stream cells) (row track field : ℕ)
+      → row < rows → 1 ≤ track → track ≤ tracks → field < 6
+      → LastStored track field (getD (accepted .entries) row []) (getD cells (row * (tracks * 6) + ((track - 1) * 6 + field)) 0)
   last-stored = LastEntry.last-stored rows tracks
 
   -- 6.
   pub reads-exactly : (stream : List ℕ) (entries : List (List Entry)) → (readStream rows tracks stream ≡ whole entries) ↔ StreamOf rows tracks stream entries
   reads-exactly = Grammar.reads-exactly rows tracks
 
-  pub reads-one : (stream : List ℕ) (entries entries′ : List (List Entry)) → StreamOf rows tracks stream entries → StreamOf rows tracks stream entries′ → entries ≡ entries′
+  pub reads-one : (stream : List ℕ) (entries entries′ : List (List Entry)) → StreamOf rows tracks stream entries
+      → StreamOf rows tracks stream entries′
+      → entries ≡ entries′
   reads-one = Grammar.reads-one rows tracks
 
-  pub accepts-exactly : (stream : List ℕ) → sizesFit rows tracks ≡ true → (checkAnswer stream rows tracks ≡ Accepted) ↔ ((entries : List (List Entry)) × StreamOf rows tracks stream entries)
+  pub accepts-exactly : (stream : List ℕ) → sizesFit rows tracks ≡ true
+      → (checkAnswer stream rows tracks ≡ Accepted) ↔ ((entries : List (List Entry)) × StreamOf rows tracks stream entries)
   accepts-exactly = Verdicts.accepts-exactly rows tracks
 
   -- 7.
   pub breaks-exactly : (stream : List ℕ) (place : ℕ) → (readStream rows tracks stream ≡ brokenAt place) ↔ BrokenAt rows tracks stream place
   breaks-exactly = Grammar.refused-exactly rows tracks
 
-  pub refuses-exactly : (stream : List ℕ) (place : ℕ) → sizesFit rows tracks ≡ true → (checkAnswer stream rows tracks ≡ Refused (refusal Stream place)) ↔ BrokenAt rows tracks stream place
+  pub refuses-exactly : (stream : List ℕ) (place : ℕ) → sizesFit rows tracks ≡ true
+      → (checkAnswer stream rows tracks ≡ Refused (refusal Stream place)) ↔ BrokenAt rows tracks stream place
   refuses-exactly = Verdicts.refuses-exactly rows tracks
 
   pub one-place : (stream : List ℕ) (place place′ : ℕ) → BrokenAt rows tracks stream place → BrokenAt rows tracks stream place′ → place ≡ place′
   one-place = Grammar.one-place rows tracks
 
-  pub no-proper-beginning : (stream more : List ℕ) (entries entries′ : List (List Entry)) → readStream rows tracks stream ≡ whole entries → readStream rows tracks (stream ++ more) ≡ whole entries′ → more ≡ []
+  pub no-proper-beginning : (stream more : List ℕ) (entries entries′ : List (List Entry))
+      → readStream rows tracks stream ≡ whole entries → readStream rows tracks (stream ++ more) ≡ whole entries′
+      → more ≡ []
   no-proper-beginning = Grammar.no-proper-beginning rows tracks
 
   -- 25.

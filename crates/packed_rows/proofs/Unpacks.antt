@@ -19,7 +19,8 @@ use Rattle.packed_rows.proofs.Accepted.{accepted-length}
 
 module _ (rows tracks : ℕ) (stream out : List ℕ) (fit : sizesFit rows tracks ≡ true) (room : cellBytes rows tracks ≤ length out) where
   -- By its reading.
-  unpack-answer : (r : Reading) → readStream rows tracks stream ≡ r → unpackAnswer stream rows tracks (length out) ≡ unpackedIf (verdictOf r) (cellBytes rows tracks)
+  unpack-answer : (r : Reading) → readStream rows tracks stream ≡ r
+      → unpackAnswer stream rows tracks (length out) ≡ unpackedIf (verdictOf r) (cellBytes rows tracks)
   unpack-answer r q = simp (fit, le-ltb (length out) (cellBytes rows tracks) room, q)
 
   module _ (cells : List ℕ) (accepted : AcceptedAs rows tracks stream cells) where
@@ -34,7 +35,9 @@ module _ (rows tracks : ℕ) (stream out : List ℕ) (fit : sizesFit rows tracks
     unpacked-front = rw unpacked-output (take-at cells (drop (cellBytes rows tracks) out) (cellBytes rows tracks) (accepted-length accepted))
 
 pub unpacks-exactly : (rows tracks : ℕ) (stream cells out : List ℕ) → sizesFit rows tracks ≡ true → cellBytes rows tracks ≤ length out
-    → AcceptedAs rows tracks stream cells ↔ ((unpackAnswer stream rows tracks (length out) ≡ Unpacked (cellBytes rows tracks)) × (take (cellBytes rows tracks) (unpackOutput stream rows tracks out) ≡ cells))
+    → AcceptedAs rows tracks stream cells
+    ↔ ((unpackAnswer stream rows tracks (length out) ≡ Unpacked (cellBytes rows tracks))
+    × (take (cellBytes rows tracks) (unpackOutput stream rows tracks out) ≡ cells))
 unpacks-exactly rows tracks stream cells out fit room =
     (there, λ h. back (readStream rows tracks stream) refl (h .0) (h .1))
   where
@@ -44,10 +47,13 @@ unpacks-exactly rows tracks stream cells out fit room =
     there accepted =
         (unpacks-whole rows tracks stream out fit room cells accepted, unpacked-front rows tracks stream out fit room cells accepted)
 
-    back : (r : Reading) → readStream rows tracks stream ≡ r → unpackAnswer stream rows tracks (length out) ≡ Unpacked (cellBytes rows tracks) → take (cellBytes rows tracks) (unpackOutput stream rows tracks out) ≡ cells
+    back : (r : Reading) → readStream rows tracks stream ≡ r
+        → unpackAnswer stream rows tracks (length out) ≡ Unpacked (cellBytes rows tracks)
+        → take (cellBytes rows tracks) (unpackOutput stream rows tracks out) ≡ cells
         → AcceptedAs rows tracks stream cells
     back (brokenAt p) q a t =
-        let refused : unpackAnswer stream rows tracks (length out) ≡ Refused (refusal Stream p) = unpack-answer rows tracks stream out fit room (brokenAt p) q in
+        let refused : unpackAnswer stream rows tracks (length out) ≡ Refused (refusal Stream p) =
+        unpack-answer rows tracks stream out fit room (brokenAt p) q in
         let z : _≡_ {A = ℕ} 0 1 = cc in
         absurd (omega arith)
     back (whole entries) q a t =

@@ -41,13 +41,17 @@ module _ (rows tracks : ℕ) where
     checked : sizesFit rows tracks ≡ true → checkAnswer stream rows tracks ≡ verdictOf (readStream rows tracks stream)
     checked fits = rw fits
 
-    pub accepts-exactly : sizesFit rows tracks ≡ true → (checkAnswer stream rows tracks ≡ Accepted) ↔ ((entries : List (List Entry)) × StreamOf rows tracks stream entries)
+    pub accepts-exactly : sizesFit rows tracks ≡ true
+        → (checkAnswer stream rows tracks ≡ Accepted) ↔ ((entries : List (List Entry)) × StreamOf rows tracks stream entries)
     accepts-exactly fits = (
-      λ h. (let read = accepted-reading (readStream rows tracks stream) .0 (sym (checked fits) ∙ h) in (read .0, reads-exactly rows tracks stream (read .0) .0 (read .1))),
+      λ h.
+          (let read = accepted-reading (readStream rows tracks stream) .0 (sym (checked fits) ∙ h) in
+          (read .0, reads-exactly rows tracks stream (read .0) .0 (read .1))),
       λ h. checked fits ∙ accepted-reading (readStream rows tracks stream) .1 (h .0, reads-exactly rows tracks stream (h .0) .1 (h .1)),
     )
 
-    pub refuses-exactly : (place : ℕ) → sizesFit rows tracks ≡ true → (checkAnswer stream rows tracks ≡ Refused (refusal Stream place)) ↔ BrokenAt rows tracks stream place
+    pub refuses-exactly : (place : ℕ) → sizesFit rows tracks ≡ true
+        → (checkAnswer stream rows tracks ≡ Refused (refusal Stream place)) ↔ BrokenAt rows tracks stream place
     refuses-exactly place fits = (
       λ h. refused-exactly rows tracks stream place .0 (refused-at (readStream rows tracks stream) place .0 (sym (checked fits) ∙ h)),
       λ h. checked fits ∙ refused-at (readStream rows tracks stream) place .1 (refused-exactly rows tracks stream place .1 h),
@@ -58,7 +62,11 @@ module _ (rows tracks : ℕ) where
     pub pack-answers : packAnswer cells rows tracks room ≡ Packed n → n ≡ packedLength (rowsOf rows tracks cells)
     pack-answers = sized (not (both (sizesFit rows tracks) (eqb (length cells) (cellBytes rows tracks)))) (ltb room (packedLength (rowsOf rows tracks cells)))
       where
-        sized : (b d : Bool) → cond b (PackingRefused (refusal Sizes 0)) (cond d (PackingRefused (refusal Room (packedLength (rowsOf rows tracks cells)))) (Packed (packedLength (rowsOf rows tracks cells)))) ≡ Packed n → n ≡ packedLength (rowsOf rows tracks cells)
+        sized : (b d : Bool)
+            → cond b (PackingRefused (refusal Sizes 0))
+            (cond d (PackingRefused (refusal Room (packedLength (rowsOf rows tracks cells)))) (Packed (packedLength (rowsOf rows tracks cells))))
+            ≡ Packed n
+            → n ≡ packedLength (rowsOf rows tracks cells)
         sized true d e = absurd (let z : _≡_ {A = ℕ} 0 1 = cc in omega arith)
         sized false true e = absurd (let z : _≡_ {A = ℕ} 0 1 = cc in omega arith)
         sized false false e = cc
@@ -67,7 +75,11 @@ module _ (rows tracks : ℕ) where
     unfolding placeOf numberIn
     pack-needs = sized (not (both (sizesFit rows tracks) (eqb (length cells) (cellBytes rows tracks)))) (ltb room (packedLength (rowsOf rows tracks cells)))
       where
-        sized : (b d : Bool) → cond b (PackingRefused (refusal Sizes 0)) (cond d (PackingRefused (refusal Room (packedLength (rowsOf rows tracks cells)))) (Packed (packedLength (rowsOf rows tracks cells)))) ≡ PackingRefused (refusal Room n) → n ≡ packedLength (rowsOf rows tracks cells)
+        sized : (b d : Bool)
+            → cond b (PackingRefused (refusal Sizes 0))
+            (cond d (PackingRefused (refusal Room (packedLength (rowsOf rows tracks cells)))) (Packed (packedLength (rowsOf rows tracks cells))))
+            ≡ PackingRefused (refusal Room n)
+            → n ≡ packedLength (rowsOf rows tracks cells)
         sized true d e = absurd (let z : _≡_ {A = ℕ} 16 17 = ap numberIn e in omega arith)
         sized false true e = sym (ap placeOf e)
         sized false false e = absurd (let z : _≡_ {A = ℕ} 0 1 = cc in omega arith)

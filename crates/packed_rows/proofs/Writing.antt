@@ -29,7 +29,9 @@ module _ (out₀ : List ℕ) (to : ℕ) (all : List ℕ) where
 
   module _ {out : List ℕ} {at : ℕ} where
     -- The next values are written, by stores or by a call.
-    pub writing-more : (xs rest : List ℕ) {out′ : List ℕ} {at′ : ℕ} → Writing out₀ to all out at (xs ++ rest) → length out′ ≡ length out → at′ ≡ at + length xs → take at′ out′ ≡ take at out ++ xs → Writing out₀ to all out′ at′ rest
+    pub writing-more : (xs rest : List ℕ) {out′ : List ℕ} {at′ : ℕ} → Writing out₀ to all out at (xs ++ rest)
+        → length out′ ≡ length out → at′ ≡ at + length xs → take at′ out′ ≡ take at out ++ xs
+        → Writing out₀ to all out′ at′ rest
     writing-more xs rest {out′} {at′} w l p e =
         record {
           room = l ∙ w .room;
@@ -42,7 +44,9 @@ module _ (out₀ : List ℕ) (to : ℕ) (all : List ℕ) where
     writing-room xs more rest w e = omega (arith, w .place, ap length e ∙ length-append xs more)
 
     -- A value is stored, and the place moves behind it where it is kept.
-    pub writing-kept : (b : Bool) (v : ℕ) (rest : List ℕ) {at′ : ℕ} → Writing out₀ to all out at (kept b v ++ rest) → at < length out → at′ ≡ at + cond b 1 0 → Writing out₀ to all (set out at v) at′ rest
+    pub writing-kept : (b : Bool) (v : ℕ) (rest : List ℕ) {at′ : ℕ} → Writing out₀ to all out at (kept b v ++ rest)
+        → at < length out → at′ ≡ at + cond b 1 0
+        → Writing out₀ to all (set out at v) at′ rest
     writing-kept b v rest w h p =
         writing-more (kept b v) rest w (length-set out at v) (omega (arith, length-kept b v)) (rw p (go b))
       where
@@ -59,7 +63,10 @@ length-blocks (suc n) size bytes = ap suc (length-blocks n size (drop size bytes
 
 -- The next field of a cell that is written, and the next track of a row that is listed.
 module _ {out₀ : List ℕ} {to : ℕ} {all out : List ℕ} {at at′ : ℕ} where
-  pub fields-turn : (cells : List ℕ) (from field : ℕ) → from + 6 ≤ length cells → field < 6 → Writing out₀ to all out at (nonZeros (drop field (cellAt cells from))) → at < length out → at′ ≡ at + oneIf (getD cells (from + field) 0) → Writing out₀ to all (set out at (getD cells (from + field) 0)) at′ (nonZeros (drop (field + 1) (cellAt cells from)))
+  pub fields-turn : (cells : List ℕ) (from field : ℕ) → from + 6 ≤ length cells → field < 6
+      → Writing out₀ to all out at (nonZeros (drop field (cellAt cells from))) → at < length out
+      → at′ ≡ at + oneIf (getD cells (from + field) 0)
+      → Writing out₀ to all (set out at (getD cells (from + field) 0)) at′ (nonZeros (drop (field + 1) (cellAt cells from)))
   fields-turn cells from field i f w h p =
       writing-kept out₀ to all (nonZero value) value _ (rw turn at w) h p
     where
@@ -76,7 +83,10 @@ module _ {out₀ : List ℕ} {to : ℕ} {all out : List ℕ} {at at′ : ℕ} wh
           )
           (nonZeros-first value (drop (suc field) (cellAt cells from)))
 
-  pub tracks-turn : (row : List ℕ) (tracks track : ℕ) → track < tracks → Writing out₀ to all out at (filledTracks track (drop track (rowOf tracks row))) → at < length out → at′ ≡ at + cond (nonEmpty (cellAt row (track * 6))) 1 0 → Writing out₀ to all (set out at track) at′ (filledTracks (track + 1) (drop (track + 1) (rowOf tracks row)))
+  pub tracks-turn : (row : List ℕ) (tracks track : ℕ) → track < tracks
+      → Writing out₀ to all out at (filledTracks track (drop track (rowOf tracks row))) → at < length out
+      → at′ ≡ at + cond (nonEmpty (cellAt row (track * 6))) 1 0
+      → Writing out₀ to all (set out at track) at′ (filledTracks (track + 1) (drop (track + 1) (rowOf tracks row)))
   tracks-turn row tracks track f w h p =
       writing-kept out₀ to all (nonEmpty cell) track _ (rw turn at w) h p
     where
@@ -113,11 +123,13 @@ module _ (row : List ℕ) where
   tracks-listed (suc left) track h =
       rw (tracks-next left track) (go (nonEmpty (cellAt row (track * 6))) (tracks-listed left (suc track) (omega arith)))
     where
-      go : (b : Bool) → Listed row (filledTracks (suc track) (tracksLeft left (suc track))) → Listed row (cond b (track ∷ filledTracks (suc track) (tracksLeft left (suc track))) (filledTracks (suc track) (tracksLeft left (suc track))))
+      go : (b : Bool) → Listed row (filledTracks (suc track) (tracksLeft left (suc track)))
+          → Listed row (cond b (track ∷ filledTracks (suc track) (tracksLeft left (suc track))) (filledTracks (suc track) (tracksLeft left (suc track))))
       go true l = (omega arith, l)
       go false l = l
 
-  pub tracks-entries : (left track : ℕ) → entriesAt row (filledTracks track (tracksLeft left track)) ≡ joined (map entryBytes (entriesFrom (suc track) (tracksLeft left track)))
+  pub tracks-entries : (left track : ℕ)
+      → entriesAt row (filledTracks track (tracksLeft left track)) ≡ joined (map entryBytes (entriesFrom (suc track) (tracksLeft left track)))
   tracks-entries zero track = refl
   tracks-entries (suc left) track =
       rw (tracks-next left track) (go (nonEmpty (cellAt row (track * 6))) (tracks-entries left (suc track)))
@@ -131,7 +143,8 @@ module _ (row : List ℕ) where
       es : List Entry
       es = entriesFrom (suc (suc track)) (tracksLeft left (suc track))
 
-      go : (b : Bool) → entriesAt row ts ≡ joined (map entryBytes es) → entriesAt row (cond b (track ∷ ts) ts) ≡ joined (map entryBytes (cond b (packedEntry (suc track) cell ∷ es) es))
+      go : (b : Bool) → entriesAt row ts ≡ joined (map entryBytes es)
+          → entriesAt row (cond b (track ∷ ts) ts) ≡ joined (map entryBytes (cond b (packedEntry (suc track) cell ∷ es) es))
       go true e = rw (add-one track, e)
       go false e = e
 
@@ -141,24 +154,36 @@ abbrev pub EntryFits : List ℕ → ℕ → List ℕ → ℕ → Type 0
 EntryFits row from out at = (from + 6 ≤ length row) × (at + 2 + length (nonZeros (cellAt row from)) < length out)
 
 module _ (row list : List ℕ) (n i from : ℕ) where
-  entries-first : i < n → n ≤ length list → from ≡ getD list i 0 * 6 → entriesAt row (drop i (take n list)) ≡ entryBytes (packedEntry (getD list i 0 + 1) (cellAt row from)) ++ entriesAt row (drop (i + 1) (take n list))
+  entries-first : i < n → n ≤ length list → from ≡ getD list i 0 * 6
+      → entriesAt row (drop i (take n list))
+      ≡ entryBytes (packedEntry (getD list i 0 + 1) (cellAt row from)) ++ entriesAt row (drop (i + 1) (take n list))
   entries-first h k e =
       rw (e, add-one i, drop-cons (take n list) i 0 (omega (arith, length-take-le n list k)), getD-take n list i 0 h)
 
   module _ {out₀ : List ℕ} {to : ℕ} {all out : List ℕ} {at : ℕ} where
-    pub entries-fit : i < n → n ≤ length list → from ≡ getD list i 0 * 6 → Listed row (take n list) → to + length all < length out₀ → Writing out₀ to all out at (entriesAt row (drop i (take n list))) → EntryFits row from out at
+    pub entries-fit : i < n → n ≤ length list → from ≡ getD list i 0 * 6 → Listed row (take n list)
+        → to + length all < length out₀ → Writing out₀ to all out at (entriesAt row (drop i (take n list)))
+        → EntryFits row from out at
     entries-fit h k e l r w =
-        let there : getD list i 0 * 6 + 6 ≤ length row = rw (getD-take n list i 0 h) at (listed-at row (take n list) i l (omega (arith, length-take-le n list k))) in
+        let there : getD list i 0 * 6 + 6 ≤ length row =
+        rw (getD-take n list i 0 h) at (listed-at row (take n list) i l (omega (arith, length-take-le n list k))) in
         let room = writing-room out₀ to all (entryBytes (packedEntry (getD list i 0 + 1) (cellAt row from))) _ _ w (entries-first h k e) in
         (omega arith, omega (arith, w .room))
 
-    pub entries-turn : (track mask : ℕ) {out′ : List ℕ} {at′ : ℕ} → i < n → n ≤ length list → from ≡ getD list i 0 * 6 → track ≡ getD list i 0 + 1 → mask ≡ packedEntry 0 (cellAt row from) .mask → EntryFits row from out at → Writing out₀ to all out at (entriesAt row (drop i (take n list))) → length out′ ≡ length out → at′ ≡ at + 2 + length (nonZeros (cellAt row from)) → take at′ out′ ≡ take (at + 2) (set (set out at track) (at + 1) mask) ++ nonZeros (cellAt row from) → Writing out₀ to all out′ at′ (entriesAt row (drop (i + 1) (take n list)))
+    pub entries-turn : (track mask : ℕ) {out′ : List ℕ} {at′ : ℕ} → i < n → n ≤ length list → from ≡ getD list i 0 * 6
+        → track ≡ getD list i 0 + 1 → mask ≡ packedEntry 0 (cellAt row from) .mask → EntryFits row from out at
+        → Writing out₀ to all out at (entriesAt row (drop i (take n list))) → length out′ ≡ length out
+        → at′ ≡ at + 2 + length (nonZeros (cellAt row from))
+        → take at′ out′ ≡ take (at + 2) (set (set out at track) (at + 1) mask) ++ nonZeros (cellAt row from)
+        → Writing out₀ to all out′ at′ (entriesAt row (drop (i + 1) (take n list)))
     entries-turn track mask h k e t m r w l p q =
         let fields : List ℕ = nonZeros (cellAt row from) in
         let rest : List ℕ = entriesAt row (drop (i + 1) (take n list)) in
         let w₀ : Writing out₀ to all out at (track ∷ mask ∷ (fields ++ rest)) = rw (t, m, ← (entries-first h k e)) w in
-        let w₁ : Writing out₀ to all (set out at track) (at + 1) (mask ∷ (fields ++ rest)) = writing-kept out₀ to all true track (mask ∷ (fields ++ rest)) w₀ (omega arith) refl in
-        let w₂ : Writing out₀ to all (set (set out at track) (at + 1) mask) (at + 2) (fields ++ rest) = writing-kept out₀ to all true mask (fields ++ rest) w₁ (simp length-set (omega arith)) (omega arith) in
+        let w₁ : Writing out₀ to all (set out at track) (at + 1) (mask ∷ (fields ++ rest)) =
+        writing-kept out₀ to all true track (mask ∷ (fields ++ rest)) w₀ (omega arith) refl in
+        let w₂ : Writing out₀ to all (set (set out at track) (at + 1) mask) (at + 2) (fields ++ rest) =
+        writing-kept out₀ to all true mask (fields ++ rest) w₁ (simp length-set (omega arith)) (omega arith) in
         writing-more out₀ to all fields rest w₂ (simp length-set l) p q
 
 pub entries-past : (row list : List ℕ) (n i : ℕ) → n ≤ i → n ≤ length list → entriesAt row (drop i (take n list)) ≡ []
@@ -171,7 +196,10 @@ module _ (row : List ℕ) (tracks : ℕ) (out₀ : List ℕ) (to : ℕ) {listed 
       let longer = length-append (joined (map entryBytes (packedEntries (rowOf tracks row)))) (0 ∷ []) in
       rw (e, tracks-entries row tracks 0) (omega arith)
 
-  pub row-written : (out : List ℕ) (end : ℕ) → length out ≡ length out₀ → end < length out → end ≡ to + length (entriesAt row listed) → take end out ≡ take to out₀ ++ entriesAt row listed → (end + 1 ≡ to + length (rowStream (packedEntries (rowOf tracks row)))) × (take (end + 1) (set out end 0) ≡ take to out₀ ++ rowStream (packedEntries (rowOf tracks row)))
+  pub row-written : (out : List ℕ) (end : ℕ) → length out ≡ length out₀ → end < length out
+      → end ≡ to + length (entriesAt row listed) → take end out ≡ take to out₀ ++ entriesAt row listed
+      → (end + 1 ≡ to + length (rowStream (packedEntries (rowOf tracks row))))
+      × (take (end + 1) (set out end 0) ≡ take to out₀ ++ rowStream (packedEntries (rowOf tracks row)))
   row-written out end l h p q =
       let entries : List ℕ = joined (map entryBytes (packedEntries (rowOf tracks row))) in
       let all : List ℕ = entries ++ (0 ∷ []) in
@@ -191,12 +219,14 @@ module _ (cells : List ℕ) (from left tracks : ℕ) where
   abbrev pub nextRow : List ℕ
   nextRow = rowStream (packedEntries (rowOf tracks (take (from + tracks * 6 - from) (drop from cells))))
 
-  rows-first : 0 < left → packedStream (rowsOf left tracks (drop from cells)) ≡ nextRow ++ packedStream (rowsOf (left - 1) tracks (drop (from + tracks * 6) cells))
+  rows-first : 0 < left
+      → packedStream (rowsOf left tracks (drop from cells)) ≡ nextRow ++ packedStream (rowsOf (left - 1) tracks (drop (from + tracks * 6) cells))
   rows-first h =
       let more : left ≡ suc (left - 1) = omega arith in
       go (left - 1) more
     where
-      go : (less : ℕ) → left ≡ suc less → packedStream (rowsOf left tracks (drop from cells)) ≡ nextRow ++ packedStream (rowsOf less tracks (drop (from + tracks * 6) cells))
+      go : (less : ℕ) → left ≡ suc less
+          → packedStream (rowsOf left tracks (drop from cells)) ≡ nextRow ++ packedStream (rowsOf less tracks (drop (from + tracks * 6) cells))
       go less e =
           let cut : from + tracks * 6 - from ≡ tracks * 6 = omega arith in
           rw (e, cut, drop-drop (tracks * 6) from cells)
@@ -205,10 +235,15 @@ module _ (cells : List ℕ) (from left tracks : ℕ) where
     pub rows-room : 0 < left → Writing out₀ to all out at (packedStream (rowsOf left tracks (drop from cells))) → at + length nextRow ≤ to + length all
     rows-room h w = writing-room out₀ to all nextRow _ _ w (rows-first h)
 
-    pub rows-turn : {out′ : List ℕ} {at′ : ℕ} → 0 < left → Writing out₀ to all out at (packedStream (rowsOf left tracks (drop from cells))) → length out′ ≡ length out → at′ ≡ at + length nextRow → take at′ out′ ≡ take at out ++ nextRow → Writing out₀ to all out′ at′ (packedStream (rowsOf (left - 1) tracks (drop (from + tracks * 6) cells)))
+    pub rows-turn : {out′ : List ℕ} {at′ : ℕ} → 0 < left
+        → Writing out₀ to all out at (packedStream (rowsOf left tracks (drop from cells))) → length out′ ≡ length out
+        → at′ ≡ at + length nextRow → take at′ out′ ≡ take at out ++ nextRow
+        → Writing out₀ to all out′ at′ (packedStream (rowsOf (left - 1) tracks (drop (from + tracks * 6) cells)))
     rows-turn h w l p q = writing-more out₀ to all nextRow _ (rw (rows-first h) at w) l p q
 
-pub rows-last : (cells : List ℕ) (from left tracks : ℕ) (out₀ all out : List ℕ) (at : ℕ) → left ≡ 0 → length out₀ ≡ length all → Writing out₀ 0 all out at (packedStream (rowsOf left tracks (drop from cells))) → out ≡ all
+pub rows-last : (cells : List ℕ) (from left tracks : ℕ) (out₀ all out : List ℕ) (at : ℕ) → left ≡ 0 → length out₀ ≡ length all
+    → Writing out₀ 0 all out at (packedStream (rowsOf left tracks (drop from cells)))
+    → out ≡ all
 rows-last cells from left tracks out₀ all out at z l w =
     let end = writing-last out₀ 0 all _ w (rw z) in
     sym (take-all at out (omega (arith, w .room, end .0))) ∙ end .1

@@ -1,6 +1,6 @@
 -- What each call answers, and what its lent output then holds: FORMAT.md, F1 to F9 (document 01, "Refusal numbers and their
 -- order"). In each answer the refusals stand in the order in which they are given.
-use Prim.Native.Nat.{ℕ, _+_, _-_}
+use Prim.Native.Nat.{ℕ, _-_}
 use mathlib.Core.List.{List, [], _∷_, _++_}
 use mathlib.Core.Bool.{Bool, cond, not}
 use lib.ListN.{length, getD, drop}

@@ -1,7 +1,7 @@
 -- FORMAT.md, R2 to R6 (document 01, "Packed rows"): masks, entries, and what carrying out an entry does.
 -- Source document 000 decides on the order: the track, then the mask (002 has the mask first), and command 1 before command 2
 -- (003 swaps the two).
-use Prim.Native.Nat.{ℕ, zero, suc, _+_, _-_, _/_, _%_}
+use Prim.Native.Nat.{ℕ, zero, suc, _-_, _/_, _%_}
 use mathlib.Core.List.{List, [], _∷_, _++_, map}
 use mathlib.Core.Bool.{Bool, true, false}
 use lib.ListN.{length, getD, drop, set}

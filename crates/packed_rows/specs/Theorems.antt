@@ -1,6 +1,6 @@
 -- The terms that the theorems of proofs/Theorems.antt use beside those of the reader and the packer. None of them reads a stream, but for
 -- the last record, which is about the answers of two calls.
-use Prim.Native.Nat.{ℕ, _+_, _<_}
+use Prim.Native.Nat.{ℕ, _<_}
 use mathlib.Core.Path.{_≡_}
 use mathlib.Core.List.{List, [], _∷_, _++_, map, List·Permᴰ}
 use mathlib.Core.Bool.{Bool, true, false}
@@ -32,7 +32,9 @@ pub record StreamOf (rows tracks : ℕ) (stream : List ℕ) (entries : List (Lis
 -- W6: row by row the packer's entries for that row, each once and unchanged, in some order, and then the row end.
 pub data Reordered : List Row → List ℕ → Type 0 where
   end : Reordered [] []
-  next : {row : Row} {rows : List Row} {stream : List ℕ} (entries : List Entry) → List·Permᴰ entries (packedEntries row) → Reordered rows stream → Reordered (row ∷ rows) (rowStream entries ++ stream)
+  next : {row : Row} {rows : List Row} {stream : List ℕ} (entries : List Entry)
+      → List·Permᴰ entries (packedEntries row) → Reordered rows stream
+      → Reordered (row ∷ rows) (rowStream entries ++ stream)
 
 -- R3: an entry is of this track and names this field (0 to 5).
 abbrev pub names : ℕ → ℕ → Entry → Bool
@@ -49,7 +51,8 @@ storedIn e field = getD (e .fields) (count (take field (named (e .mask)))) 0
 -- R5, R6: what the last entry of the track that names the field stored, else 0.
 pub data LastStored (track field : ℕ) (entries : List Entry) : ℕ → Type 0 where
   never : noneNames track field entries → LastStored track field entries 0
-  by : (before after : List Entry) (e : Entry) → entries ≡ before ++ (e ∷ after) → names track field e ≡ true → noneNames track field after → LastStored track field entries (storedIn e field)
+  by : (before after : List Entry) (e : Entry) → entries ≡ before ++ (e ∷ after)
+      → names track field e ≡ true → noneNames track field after → LastStored track field entries (storedIn e field)
 
 -- F2 with no reader: what is wrong after some full rows and the entries of an unfinished one, where these bytes follow. One case for each
 -- of document 01's three places of 15: the first byte of the faulty entry, the first byte left over after the last row end, and the

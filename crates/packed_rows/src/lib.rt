@@ -28,7 +28,9 @@ ghost use Rattle.cells.specs.Shown.{shownCell};
 ghost use Rattle.packed_rows.specs.Stream.{readStream};
 ghost use Rattle.packed_rows.specs.Packer.{packedLength, packedStream};
 ghost use Rattle.packed_rows.specs.Steps.{cellAt, cellRead, rowsRead};
-ghost use Rattle.packed_rows.specs.Answers.{packedIf, outputPacked, checkAnswer, unpackAnswer, unpackOutput, packAnswer, packOutput, repackAnswer, repackOutput, cellThere, cellOf, verdictOf, unpackingNumbers, packingNumbers, cellNumbers};
+ghost use Rattle.packed_rows.specs.Answers.{packedIf, outputPacked, checkAnswer, unpackAnswer, unpackOutput};
+ghost use Rattle.packed_rows.specs.Answers.{packAnswer, packOutput, repackAnswer, repackOutput, cellThere, cellOf};
+ghost use Rattle.packed_rows.specs.Answers.{verdictOf, unpackingNumbers, packingNumbers, cellNumbers};
 
 // What unpacking answers: the length written, or a refusal.
 pub enum Unpacking {
@@ -74,7 +76,8 @@ pub fn check(stream: &[u8], rows: usize, tracks: usize) -> Verdict
 
 // Unpacks a stream: 16, 17, 15.
 pub fn unpack(stream: &[u8], rows: usize, tracks: usize, out: &mut [u8]) -> Unpacking
-    ensures { λ r. ⌜ IsAnswer unpackingNumbers r (unpackAnswer (now (stream .entry)) rows tracks (length (now (out .entry)))) × (now (out .exit) ≡ unpackOutput (now (stream .entry)) rows tracks (now (out .entry))) ⌝ }
+    ensures { λ r. ⌜ IsAnswer unpackingNumbers r (unpackAnswer (now (stream .entry)) rows tracks (length (now (out .entry))))
+        × (now (out .exit) ≡ unpackOutput (now (stream .entry)) rows tracks (now (out .entry))) ⌝ }
 {
     if !sizes_fit(rows, tracks) {
         return Unpacking::Refused(refuse(Cause::Sizes, 0));
@@ -92,7 +95,8 @@ pub fn unpack(stream: &[u8], rows: usize, tracks: usize, out: &mut [u8]) -> Unpa
 
 // Packs a pattern's cells: 16, 17.
 pub fn pack(cells: &[u8], rows: usize, tracks: usize, out: &mut [u8]) -> Packing
-    ensures { λ r. ⌜ IsAnswer packingNumbers r (packAnswer (now (cells .entry)) rows tracks (length (now (out .entry)))) × (now (out .exit) ≡ packOutput (now (cells .entry)) rows tracks (now (out .entry))) ⌝ }
+    ensures { λ r. ⌜ IsAnswer packingNumbers r (packAnswer (now (cells .entry)) rows tracks (length (now (out .entry))))
+        × (now (out .exit) ≡ packOutput (now (cells .entry)) rows tracks (now (out .entry))) ⌝ }
 {
     if !sizes_fit(rows, tracks) {
         return Packing::Refused(refuse(Cause::Sizes, 0));
@@ -117,7 +121,8 @@ fn repack_accepted(
     out: &mut [u8],
 ) -> Packing
     requires { ⌜ (verdictOf (readStream rows tracks (now stream)) ≡ Accepted) × (length (now line) ≡ tracks * 6) × (rows < 65536) × (tracks < 255) ⌝ }
-    ensures { λ r. ⌜ (r ≡ packedIf (packedLength (rowsRead (now (stream .entry)) rows tracks)) (length (now (out .entry)))) × (now (out .exit) ≡ outputPacked r (packedStream (rowsRead (now (stream .entry)) rows tracks)) (now (out .entry))) ⌝ }
+    ensures { λ r. ⌜ (r ≡ packedIf (packedLength (rowsRead (now (stream .entry)) rows tracks)) (length (now (out .entry))))
+        × (now (out .exit) ≡ outputPacked r (packedStream (rowsRead (now (stream .entry)) rows tracks)) (now (out .entry))) ⌝ }
 {
     let needed = repacked_length(stream, rows, tracks, line);
     if out.len() < needed {
@@ -129,7 +134,8 @@ fn repack_accepted(
 
 // Repacks a stream: 16, 15, 17.
 pub fn repack(stream: &[u8], rows: usize, tracks: usize, out: &mut [u8]) -> Packing
-    ensures { λ r. ⌜ IsAnswer packingNumbers r (repackAnswer (now (stream .entry)) rows tracks (length (now (out .entry)))) × (now (out .exit) ≡ repackOutput (now (stream .entry)) rows tracks (now (out .entry))) ⌝ }
+    ensures { λ r. ⌜ IsAnswer packingNumbers r (repackAnswer (now (stream .entry)) rows tracks (length (now (out .entry))))
+        × (now (out .exit) ≡ repackOutput (now (stream .entry)) rows tracks (now (out .entry))) ⌝ }
 {
     if !sizes_fit(rows, tracks) {
         return Packing::Refused(refuse(Cause::Sizes, 0));

@@ -46,7 +46,9 @@ fn non_zero_bytes(bytes: &[u8]) -> usize
 // Four bytes as one number.
 fn quad(bytes: &[u8], at: usize) -> usize
     requires { ⌜ at + 4 ≤ length (now bytes) ⌝ }
-    ensures { λ r. ⌜ (r ≡ getD (now (bytes .entry)) at 0 + 256 * getD (now (bytes .entry)) (at + 1) 0 + 65536 * getD (now (bytes .entry)) (at + 2) 0 + 16777216 * getD (now (bytes .entry)) (at + 3) 0) × (r < 4294967296) ⌝ }
+    ensures { λ r. ⌜ (r ≡ getD (now (bytes .entry)) at 0 + 256 * getD (now (bytes .entry)) (at + 1) 0
+        + 65536 * getD (now (bytes .entry)) (at + 2) 0 + 16777216 * getD (now (bytes .entry)) (at + 3) 0)
+        × (r < 4294967296) ⌝ }
 {
     wide(bytes[at])
         + 256 * wide(bytes[at + 1])
@@ -117,7 +119,8 @@ fn mask_of(cells: &[u8], at: usize) -> u8
 // Writes the fields of the cell at `from` that are not 0 to `to`, and answers the place behind them, which it may write too.
 fn write_fields(cells: &[u8], from: usize, out: &mut [u8], to: usize) -> usize
     requires { ⌜ (from + 6 ≤ length (now cells)) × (to + length (nonZeros (cellAt (now cells) from)) < length (now out)) ⌝ }
-    ensures { λ r. ⌜ (r ≡ to + length (nonZeros (cellAt (now (cells .entry)) from))) × (take r (now (out .exit)) ≡ take to (now (out .entry)) ++ nonZeros (cellAt (now (cells .entry)) from)) ⌝ }
+    ensures { λ r. ⌜ (r ≡ to + length (nonZeros (cellAt (now (cells .entry)) from)))
+        × (take r (now (out .exit)) ≡ take to (now (out .entry)) ++ nonZeros (cellAt (now (cells .entry)) from)) ⌝ }
 {
     let mut at = to;
     let mut field: usize = 0;
@@ -132,8 +135,10 @@ fn write_fields(cells: &[u8], from: usize, out: &mut [u8], to: usize) -> usize
 
 // Writes the entries of the listed tracks of a row to `to`, and answers the place behind them, which it may write too.
 fn write_entries(row: &[u8], list: &[u8], n: usize, out: &mut [u8], to: usize) -> usize
-    requires { ⌜ (length (now row) < 1530) × (n ≤ length (now list)) × Listed (now row) (take n (now list)) × (to + length (entriesAt (now row) (take n (now list))) < length (now out)) ⌝ }
-    ensures { λ r. ⌜ (r ≡ to + length (entriesAt (now (row .entry)) (take n (now (list .entry))))) × (take r (now (out .exit)) ≡ take to (now (out .entry)) ++ entriesAt (now (row .entry)) (take n (now (list .entry)))) ⌝ }
+    requires { ⌜ (length (now row) < 1530) × (n ≤ length (now list)) × Listed (now row) (take n (now list))
+        × (to + length (entriesAt (now row) (take n (now list))) < length (now out)) ⌝ }
+    ensures { λ r. ⌜ (r ≡ to + length (entriesAt (now (row .entry)) (take n (now (list .entry)))))
+        × (take r (now (out .exit)) ≡ take to (now (out .entry)) ++ entriesAt (now (row .entry)) (take n (now (list .entry)))) ⌝ }
 {
     let mut at = to;
     let mut i: usize = 0;
@@ -150,8 +155,10 @@ fn write_entries(row: &[u8], list: &[u8], n: usize, out: &mut [u8], to: usize) -
 
 // Writes the packer's entries for a row and the row end to `to`, and answers the place behind them.
 pub fn write_row(row: &[u8], tracks: usize, list: &mut [u8], out: &mut [u8], to: usize) -> usize
-    requires { ⌜ (length (now row) ≡ tracks * 6) × (tracks < 255) × (tracks ≤ length (now list)) × (to + length (rowStream (packedEntries (rowOf tracks (now row)))) ≤ length (now out)) ⌝ }
-    ensures { λ r. ⌜ (r ≡ to + length (rowStream (packedEntries (rowOf tracks (now (row .entry)))))) × (take r (now (out .exit)) ≡ take to (now (out .entry)) ++ rowStream (packedEntries (rowOf tracks (now (row .entry))))) ⌝ }
+    requires { ⌜ (length (now row) ≡ tracks * 6) × (tracks < 255) × (tracks ≤ length (now list))
+        × (to + length (rowStream (packedEntries (rowOf tracks (now row)))) ≤ length (now out)) ⌝ }
+    ensures { λ r. ⌜ (r ≡ to + length (rowStream (packedEntries (rowOf tracks (now (row .entry))))))
+        × (take r (now (out .exit)) ≡ take to (now (out .entry)) ++ rowStream (packedEntries (rowOf tracks (now (row .entry))))) ⌝ }
 {
     let n = list_filled(row, tracks, list);
     let end = write_entries(row, list, n, out, to);

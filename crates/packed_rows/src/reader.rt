@@ -11,7 +11,8 @@ ghost use Rattle.refusal.specs.declared.Verdict.the-variants.{Accepted};
 ghost use Rattle.packed_rows.specs.Entries.{bits, count, fieldsNamed};
 ghost use Rattle.packed_rows.specs.Stream.{front, readStream, cellsRead};
 ghost use Rattle.packed_rows.specs.Answers.{verdictOf};
-ghost use Rattle.packed_rows.specs.Steps.{entryLengths, entryLength, pieceLength, frontLength, storedFrom, storedAt, RowAhead, Carried, Loaded, Skipped, RowsRead, AfterRows};
+ghost use Rattle.packed_rows.specs.Steps.{entryLengths, entryLength, pieceLength, frontLength, storedFrom, storedAt};
+ghost use Rattle.packed_rows.specs.Steps.{RowAhead, Carried, Loaded, Skipped, RowsRead, AfterRows};
 
 // How long an entry with each sound mask is, in bytes: the track, the mask and the named fields.
 const LENGTHS: [u8; 64] = [

@@ -29,7 +29,8 @@ pub fn repacked_length(s: &[u8], rows: usize, tracks: usize, line: &mut [u8]) ->
 
 // Writes the packer's stream of the pattern that an accepted stream holds into an output of just its length.
 pub fn repack_rows(s: &[u8], rows: usize, tracks: usize, line: &mut [u8], out: &mut [u8])
-    requires { ⌜ (verdictOf (readStream rows tracks (now s)) ≡ Accepted) × (length (now line) ≡ tracks * 6) × (tracks < 255) × (length (now out) ≡ packedLength (rowsRead (now s) rows tracks)) ⌝ }
+    requires { ⌜ (verdictOf (readStream rows tracks (now s)) ≡ Accepted) × (length (now line) ≡ tracks * 6)
+        × (tracks < 255) × (length (now out) ≡ packedLength (rowsRead (now s) rows tracks)) ⌝ }
     ensures { λ r. ⌜ now (out .exit) ≡ packedStream (rowsRead (now (s .entry)) rows tracks) ⌝ }
 {
     let mut list = [0u8; 256];

@@ -18,30 +18,87 @@ returns : tie.Need-returns
 returns c = is-answer cellNumbers (simp (← c .before .before .sizes-fit .ensures, c .before .if1 .taken, c .refuse .ensures))
 
 returns-2 : tie.Need-returns-2
-returns-2 c = is-answer cellNumbers (simp (← c .before .before .before .before .sizes-fit .ensures, c .before .before .before .if1 .left, ← c .before .before .cell-there .ensures, c .before .if2 .taken, c .refuse2 .ensures))
+returns-2 c =
+    let sizes-fit = c .before .before .before .before .sizes-fit in
+    is-answer cellNumbers (simp (
+      ← sizes-fit .ensures,
+      c .before .before .before .if1 .left,
+      ← c .before .before .cell-there .ensures,
+      c .before .if2 .taken,
+      c .refuse2 .ensures,
+    ))
 
 returns-3 : tie.Need-returns-3
-returns-3 c = is-answer cellNumbers (simp (← c .before .before .before .before .before .before .before .sizes-fit .ensures, c .before .before .before .before .before .before .if1 .left, ← c .before .before .before .before .before .cell-there .ensures, c .before .before .before .before .if2 .left) (cell-refused (readStream (c .before .before .before .before .before .before .before .before .before .args .rows) (c .before .before .before .before .before .before .before .before .before .args .tracks) (c .before .before .before .before .before .before .before .before .before .args .stream .now)) (c .before .before .before .before .before .before .before .before .before .args .tracks) (c .before .before .before .before .before .before .before .before .before .args .row) (c .before .before .before .before .before .before .before .before .before .args .track) (c .before .r .given .0 .0) (sym (c .before .before .before .check-stream .ensures) ∙ c .before .r .given .1)))
+returns-3 c =
+    let entry = c .before .before .before .before .before .before .before .before .before in
+    let tracks = entry .args .tracks in
+    let sizes-fit = c .before .before .before .before .before .before .before .sizes-fit in
+    let if1 = c .before .before .before .before .before .before .if1 in
+    let cell-there = c .before .before .before .before .before .cell-there in
+    let if2 = c .before .before .before .before .if2 in
+    let r = c .before .r in
+    is-answer cellNumbers (simp (← sizes-fit .ensures, if1 .left, ← cell-there .ensures, if2 .left)
+    (cell-refused (readStream (entry .args .rows) tracks (entry .args .stream .now)) tracks (entry .args .row)
+    (entry .args .track) (r .given .0 .0) (sym (c .before .before .before .check-stream .ensures) ∙ r .given .1)))
 
 enum-told : tie.Need-enum-told
 enum-told c = search needs
 
 mul-width : tie.Need-mul-width
-mul-width c = let fits = sizes (c .before .before .before .before .before .before .before .before .args .rows) (c .before .before .before .before .before .before .before .before .args .tracks) (sym (c .before .before .before .before .before .before .sizes-fit .ensures) ∙ not-false _ (c .before .before .before .before .before .if1 .left)) in omega arith
+mul-width c =
+    let entry = c .before .before .before .before .before .before .before .before in
+    let sizes-fit = c .before .before .before .before .before .before .sizes-fit in
+    let if1 = c .before .before .before .before .before .if1 in
+    let fits = sizes (entry .args .rows) (entry .args .tracks) (sym (sizes-fit .ensures) ∙ not-false _ (if1 .left)) in
+    omega arith
 
 array-borrow-prefix-line : tie.Need-array-borrow-prefix-line
-array-borrow-prefix-line c = let fits = sizes (c .before .before .before .before .before .before .before .before .args .rows) (c .before .before .before .before .before .before .before .before .args .tracks) (sym (c .before .before .before .before .before .before .sizes-fit .ensures) ∙ not-false _ (c .before .before .before .before .before .if1 .left)) in omega arith
+array-borrow-prefix-line c =
+    let entry = c .before .before .before .before .before .before .before .before in
+    let sizes-fit = c .before .before .before .before .before .before .sizes-fit in
+    let if1 = c .before .before .before .before .before .if1 in
+    let fits = sizes (entry .args .rows) (entry .args .tracks) (sym (sizes-fit .ensures) ∙ not-false _ (if1 .left)) in
+    omega arith
 
 slice-aggregate-read-cell : tie.Need-slice-aggregate-read-cell
-slice-aggregate-read-cell c = let fits = sizes (c .before .before .before .before .before .before .before .before .before .args .rows) (c .before .before .before .before .before .before .before .before .before .args .tracks) (sym (c .before .before .before .before .before .before .before .sizes-fit .ensures) ∙ not-false _ (c .before .before .before .before .before .before .if1 .left)) in sym (length-take-le (c .before .before .before .before .before .before .before .before .before .args .tracks * 6) (replicate {A = ℕ} 1524 0) (let h : c .before .before .before .before .before .before .before .before .before .args .tracks * 6 ≤ 1524 = omega arith in h))
+slice-aggregate-read-cell c =
+    let entry = c .before .before .before .before .before .before .before .before .before in
+    let tracks = entry .args .tracks in
+    let sizes-fit = c .before .before .before .before .before .before .before .sizes-fit in
+    let if1 = c .before .before .before .before .before .before .if1 in
+    let fits = sizes (entry .args .rows) tracks (sym (sizes-fit .ensures) ∙ not-false _ (if1 .left)) in
+    sym (length-take-le (tracks * 6) (replicate {A = ℕ} 1524 0) (let h : tracks * 6 ≤ 1524 = omega arith in h))
 
 read-cell-requires : tie.Need-read-cell-requires
-read-cell-requires c κs = let fits = sizes (c .before .before .before .before .before .before .before .before .before .args .rows) (c .before .before .before .before .before .before .before .before .before .args .tracks) (sym (c .before .before .before .before .before .before .before .sizes-fit .ensures) ∙ not-false _ (c .before .before .before .before .before .before .if1 .left)) in (sym (c .before .before .before .check-stream .ensures) ∙ c .before .enum-told .given .1, sym (c .before .before .before .before .before .cell-there .ensures) ∙ not-false _ (c .before .before .before .before .if2 .left), length-take-le (c .before .before .before .before .before .before .before .before .before .args .tracks * 6) (replicate {A = ℕ} 1524 0) (let h : c .before .before .before .before .before .before .before .before .before .args .tracks * 6 ≤ 1524 = omega arith in h))
+read-cell-requires c κs =
+    let entry = c .before .before .before .before .before .before .before .before .before in
+    let tracks = entry .args .tracks in
+    let sizes-fit = c .before .before .before .before .before .before .before .sizes-fit in
+    let if1 = c .before .before .before .before .before .before .if1 in
+    let cell-there = c .before .before .before .before .before .cell-there in
+    let if2 = c .before .before .before .before .if2 in
+    let fits = sizes (entry .args .rows) tracks (sym (sizes-fit .ensures) ∙ not-false _ (if1 .left)) in (
+      sym (c .before .before .before .check-stream .ensures) ∙ c .before .enum-told .given .1,
+      sym (cell-there .ensures) ∙ not-false _ (if2 .left),
+      length-take-le (tracks * 6) (replicate {A = ℕ} 1524 0) (let h : tracks * 6 ≤ 1524 = omega arith in h),
+    )
 
 returns-4 : tie.Need-returns-4
-returns-4 c = is-answer cellNumbers (simp (← c .before .before .before .before .before .before .before .before .before .sizes-fit .ensures, c .before .before .before .before .before .before .before .before .if1 .left, ← c .before .before .before .before .before .before .before .cell-there .ensures, c .before .before .before .before .before .before .if2 .left) (ap Found (c .before .read-cell .ensures) ∙ cell-found (c .before .before .before .before .before .before .before .before .before .before .before .args .stream .now) (c .before .before .before .before .before .before .before .before .before .before .before .args .rows) (c .before .before .before .before .before .before .before .before .before .before .before .args .tracks) (c .before .before .before .before .before .before .before .before .before .before .before .args .row) (c .before .before .before .before .before .before .before .before .before .before .before .args .track) (sym (c .before .before .before .before .before .check-stream .ensures) ∙ c .before .before .before .enum-told .given .1)))
+returns-4 c =
+    let entry = c .before .before .before .before .before .before .before .before .before .before .before in
+    let sizes-fit = c .before .before .before .before .before .before .before .before .before .sizes-fit in
+    let if1 = c .before .before .before .before .before .before .before .before .if1 in
+    let cell-there = c .before .before .before .before .before .before .before .cell-there in
+    let if2 = c .before .before .before .before .before .before .if2 in
+    let check-stream = c .before .before .before .before .before .check-stream in
+    is-answer cellNumbers (simp (← sizes-fit .ensures, if1 .left, ← cell-there .ensures, if2 .left)
+    (ap Found (c .before .read-cell .ensures)
+    ∙ cell-found (entry .args .stream .now) (entry .args .rows) (entry .args .tracks) (entry .args .row) (entry .args .track)
+    (sym (check-stream .ensures) ∙ c .before .before .before .enum-told .given .1)))
 
 pub cell-spec : {M : Type 1} → statement M
 cell-spec =
     tie.close
-    (tie.spec (λ c κs. search needs) (λ c κs. search needs) returns (λ c κs. search needs) (λ c κs. search needs) returns-2 (λ c κs. search needs) (λ c. search needs) returns-3 enum-told mul-width array-borrow-prefix-line slice-aggregate-read-cell read-cell-requires returns-4)
+    (tie.spec (λ c κs. search needs) (λ c κs. search needs) returns (λ c κs. search needs) (λ c κs. search needs) returns-2
+    (λ c κs. search needs) (λ c. search needs) returns-3 enum-told mul-width array-borrow-prefix-line
+    slice-aggregate-read-cell read-cell-requires returns-4)

@@ -15,7 +15,12 @@ abbrev μ-loop : tie.MeasureT-loop
 μ-loop bytes count₀ i₀ count i = length bytes - i
 
 loop-again : tie.Need-loop-again Inv-loop μ-loop
-loop-again c = (omega arith, omega arith, omega (arith, nonZeros-turn (c .before .before .before .before .before .args .bytes .now) (c .before .before .before .loop .i) (omega arith)))
+loop-again c =
+    let entry = c .before .before .before .before .before in (
+      omega arith,
+      omega arith,
+      omega (arith, nonZeros-turn (entry .args .bytes .now) (c .before .before .before .loop .i) (omega arith)),
+    )
 
 returns : tie.Need-returns Inv-loop μ-loop
 returns c = omega (arith, nonZeros-past (c .before .before .before .args .bytes .now) (c .before .loop .i) (omega arith))
@@ -23,4 +28,5 @@ returns c = omega (arith, nonZeros-past (c .before .before .before .args .bytes 
 pub count-few-spec : {M : Type 1} → statement M
 count-few-spec =
     tie.close
-    (tie.spec Inv-loop μ-loop (λ c. search needs) (λ c. search needs) (λ c κs. search needs) (λ c. search needs) (λ c. search needs) (λ c. search needs) loop-again returns)
+    (tie.spec Inv-loop μ-loop (λ c. search needs) (λ c. search needs) (λ c κs. search needs) (λ c. search needs)
+    (λ c. search needs) (λ c. search needs) loop-again returns)

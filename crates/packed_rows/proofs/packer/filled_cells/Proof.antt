@@ -19,7 +19,8 @@ filled-requires : tie.Need-filled-requires Inv-loop μ-loop
 filled-requires c κs = counts-inside _ _ _ _ (c .before .loop .inv) (omega arith) .0
 
 add-count : tie.Need-add-count Inv-loop μ-loop
-add-count c = omega (arith, counts-inside _ _ _ _ (c .before .before .loop .inv) (omega arith) .1, byte-one (c .filled .result), one-le (c .filled .result))
+add-count c =
+    omega (arith, counts-inside _ _ _ _ (c .before .before .loop .inv) (omega arith) .1, byte-one (c .filled .result), one-le (c .filled .result))
 
 loop-again : tie.Need-loop-again Inv-loop μ-loop
 loop-again c = rw (byte-one (c .filled .result), c .filled .ensures) (counts-turn _ _ _ _ (c .before .before .loop .inv) (omega arith))

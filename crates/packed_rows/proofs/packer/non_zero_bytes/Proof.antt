@@ -19,21 +19,39 @@ count-few-requires : tie.Need-count-few-requires Inv-loop μ-loop
 count-few-requires c κs = simp length-take (omega arith)
 
 add-count : tie.Need-add-count Inv-loop μ-loop
-add-count c = omega (arith, nonZeros-part (c .before .before .before .before .before .before .args .bytes .now) (c .before .before .before .before .loop .at) (c .before .before .before .before .loop .at + 192) (omega arith), non-zeros-most (c .before .before .before .before .before .before .args .bytes .now))
+add-count c =
+    let entry = c .before .before .before .before .before .before in
+    let bytes = entry .args .bytes .now in
+    let loop = c .before .before .before .before .loop in
+    omega (arith, nonZeros-part bytes (loop .at) (loop .at + 192) (omega arith), non-zeros-most bytes)
 
 loop-again : tie.Need-loop-again Inv-loop μ-loop
-loop-again c = (search needs, omega (arith, nonZeros-part (c .before .before .before .before .before .before .args .bytes .now) (c .before .before .before .before .loop .at) (c .before .before .before .before .loop .at + 192) (omega arith)))
+loop-again c =
+    let entry = c .before .before .before .before .before .before in
+    let loop = c .before .before .before .before .loop in
+    (search needs, omega (arith, nonZeros-part (entry .args .bytes .now) (loop .at) (loop .at + 192) (omega arith)))
 
 count-few-requires-2 : tie.Need-count-few-requires-2 Inv-loop μ-loop
 count-few-requires-2 c κs = simp length-take (omega arith)
 
 add-result : tie.Need-add-result Inv-loop μ-loop
-add-result c = omega (arith, nonZeros-part (c .before .before .before .before .before .before .args .bytes .now) (c .before .before .before .before .loop .at) (length (c .before .before .before .before .before .before .args .bytes .now)) (omega arith), non-zeros-most (c .before .before .before .before .before .before .args .bytes .now))
+add-result c =
+    let entry = c .before .before .before .before .before .before in
+    let bytes = entry .args .bytes .now in
+    let loop = c .before .before .before .before .loop in
+    omega (arith, nonZeros-part bytes (loop .at) (length bytes) (omega arith), non-zeros-most bytes)
 
 returns : tie.Need-returns Inv-loop μ-loop
-returns c = omega (arith, nonZeros-part (c .before .before .before .before .before .before .args .bytes .now) (c .before .before .before .before .loop .at) (length (c .before .before .before .before .before .before .args .bytes .now)) (omega arith), nonZeros-past (c .before .before .before .before .before .before .args .bytes .now) (length (c .before .before .before .before .before .before .args .bytes .now)) (omega arith))
+returns c =
+    let entry = c .before .before .before .before .before .before in
+    let bytes = entry .args .bytes .now in
+    let loop = c .before .before .before .before .loop in
+    omega (arith, nonZeros-part bytes (loop .at) (length bytes) (omega arith), nonZeros-past bytes (length bytes) (omega arith))
 
 pub non-zero-bytes-spec : {M : Type 1} → statement M
 non-zero-bytes-spec =
     tie.close
-    (tie.spec Inv-loop μ-loop (λ c. search needs) (λ c. search needs) (λ c. search needs) (λ c. search needs) (λ c. search needs) (λ c. search needs) count-few-requires (λ c κs. search needs) add-count (λ c. search needs) (λ c. search needs) loop-again (λ c. search needs) (λ c. search needs) (λ c. search needs) count-few-requires-2 (λ c κs. search needs) add-result returns)
+    (tie.spec Inv-loop μ-loop (λ c. search needs) (λ c. search needs) (λ c. search needs) (λ c. search needs)
+    (λ c. search needs) (λ c. search needs) count-few-requires (λ c κs. search needs) add-count (λ c. search needs)
+    (λ c. search needs) loop-again (λ c. search needs) (λ c. search needs) (λ c. search needs) count-few-requires-2
+    (λ c κs. search needs) add-result returns)

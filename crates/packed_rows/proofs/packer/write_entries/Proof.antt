@@ -14,8 +14,14 @@ Inv-loop row list n out₀ to at₀ i₀ out at i = (i ≤ n) × Writing out₀ 
 abbrev μ-loop : tie.MeasureT-loop
 μ-loop row list n out₀ to at₀ i₀ out at i = n - i
 
-fits : (c : tie.After-wide Inv-loop μ-loop) → EntryFits (c .before .before .before .before .before .before .before .args .row .now) (c .wide .result * 6) (c .before .before .before .loop .out) (c .before .before .before .loop .at)
-fits c = entries-fit (c .before .before .before .before .before .before .before .args .row .now) (c .before .before .before .before .before .before .before .args .list .now) (c .before .before .before .before .before .before .before .args .n) (c .before .before .before .loop .i) (c .wide .result * 6) (omega arith) (c .before .before .before .before .before .before .before .pre .1) (omega arith) (c .before .before .before .before .before .before .before .pre .2) (c .before .before .before .before .before .before .before .pre .3) (c .before .before .before .loop .inv .1)
+fits : (c : tie.After-wide Inv-loop μ-loop)
+    → EntryFits (c .before .before .before .before .before .before .before .args .row .now) (c .wide .result * 6)
+    (c .before .before .before .loop .out) (c .before .before .before .loop .at)
+fits c =
+    let entry = c .before .before .before .before .before .before .before in
+    let loop = c .before .before .before .loop in
+    entries-fit (entry .args .row .now) (entry .args .list .now) (entry .args .n) (loop .i) (c .wide .result * 6)
+    (omega arith) (entry .pre .1) (omega arith) (entry .pre .2) (entry .pre .3) (loop .inv .1)
 
 loop-holds : tie.Need-loop-holds Inv-loop μ-loop
 loop-holds c = (search needs, writing-first _ _ _)
@@ -42,12 +48,28 @@ write-fields-requires : tie.Need-write-fields-requires Inv-loop μ-loop
 write-fields-requires c κs = (fits (c .before .before) .0, simp length-set (fits (c .before .before) .1))
 
 loop-again : tie.Need-loop-again Inv-loop μ-loop
-loop-again c = (search needs, entries-turn (c .before .before .before .before .before .before .before .before .before .before .before .before .args .row .now) (c .before .before .before .before .before .before .before .before .before .before .before .before .args .list .now) (c .before .before .before .before .before .before .before .before .before .before .before .before .args .n) (c .before .before .before .before .before .before .before .before .loop .i) _ _ _ (omega arith) (c .before .before .before .before .before .before .before .before .before .before .before .before .pre .1) (omega arith) refl (c .before .before .before .before .mask-of .ensures) (fits (c .before .before .before .before .before)) (c .before .before .before .before .before .before .before .before .loop .inv .1) (simp length-set at (c .before .before .write-fields .kept .1 .1 .0)) (c .before .before .write-fields .ensures .0) (c .before .before .write-fields .ensures .1))
+loop-again c =
+    let entry = c .before .before .before .before .before .before .before .before .before .before .before .before in
+    let loop = c .before .before .before .before .before .before .before .before .loop in
+    let mask-of = c .before .before .before .before .mask-of in
+    let write-fields = c .before .before .write-fields in (
+      search needs,
+      entries-turn (entry .args .row .now) (entry .args .list .now) (entry .args .n) (loop .i) _ _ _ (omega arith)
+          (entry .pre .1) (omega arith) refl (mask-of .ensures) (fits (c .before .before .before .before .before))
+          (loop .inv .1) (simp length-set at (write-fields .kept .1 .1 .0)) (write-fields .ensures .0)
+          (write-fields .ensures .1),
+    )
 
 returns : tie.Need-returns Inv-loop μ-loop
-returns c = writing-last _ _ _ _ (c .before .loop .inv .1) (entries-past (c .before .before .before .before .before .args .row .now) (c .before .before .before .before .before .args .list .now) (c .before .before .before .before .before .args .n) (c .before .loop .i) (omega arith) (c .before .before .before .before .before .pre .1))
+returns c =
+    let entry = c .before .before .before .before .before in
+    let loop = c .before .loop in
+    writing-last _ _ _ _ (loop .inv .1)
+    (entries-past (entry .args .row .now) (entry .args .list .now) (entry .args .n) (loop .i) (omega arith) (entry .pre .1))
 
 pub write-entries-spec : {M : Type 1} → statement M
 write-entries-spec =
     tie.close
-    (tie.spec Inv-loop μ-loop loop-holds (λ c. search needs) (λ c κs. search needs) mul-from add-out slice-write-out mask-of-requires (λ c. search needs) slice-write-out-2 add-write-fields write-fields-requires (λ c. search needs) (λ c. search needs) loop-again (λ c. search needs) returns)
+    (tie.spec Inv-loop μ-loop loop-holds (λ c. search needs) (λ c κs. search needs) mul-from add-out slice-write-out
+    mask-of-requires (λ c. search needs) slice-write-out-2 add-write-fields write-fields-requires (λ c. search needs)
+    (λ c. search needs) loop-again (λ c. search needs) returns)

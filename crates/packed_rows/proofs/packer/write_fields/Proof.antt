@@ -9,7 +9,8 @@ use Rattle.packed_rows.proofs.packer.write_fields.Statement.{statement}
 use Rattle.packed_rows.proofs.packer.write_fields.Tie as tie
 
 abbrev Inv-loop : tie.InvT-loop
-Inv-loop cells from out₀ to at₀ field₀ out at field = (field ≤ 6) × Writing out₀ to (nonZeros (cellAt cells from)) out at (nonZeros (drop field (cellAt cells from)))
+Inv-loop cells from out₀ to at₀ field₀ out at field =
+    (field ≤ 6) × Writing out₀ to (nonZeros (cellAt cells from)) out at (nonZeros (drop field (cellAt cells from)))
 
 abbrev μ-loop : tie.MeasureT-loop
 μ-loop cells from out₀ to at₀ field₀ out at field = 6 - field
@@ -18,12 +19,23 @@ loop-holds : tie.Need-loop-holds Inv-loop μ-loop
 loop-holds c = (search needs, writing-first _ _ _)
 
 loop-again : tie.Need-loop-again Inv-loop μ-loop
-loop-again c = (search needs, fields-turn (c .before .before .before .before .before .before .before .args .cells .now) (c .before .before .before .before .before .before .before .args .from) (c .before .before .before .before .loop .field) (c .before .before .before .before .before .before .before .pre .0) (omega arith) (c .before .before .before .before .loop .inv .1) (omega arith) (omega arith))
+loop-again c =
+    let entry = c .before .before .before .before .before .before .before in
+    let loop = c .before .before .before .before .loop in (
+      search needs,
+      fields-turn (entry .args .cells .now) (entry .args .from) (loop .field) (entry .pre .0) (omega arith) (loop .inv .1)
+          (omega arith) (omega arith),
+    )
 
 returns : tie.Need-returns Inv-loop μ-loop
-returns c = writing-last _ _ _ _ (c .before .loop .inv .1) (fields-past (c .before .before .before .before .args .cells .now) (c .before .before .before .before .args .from) (c .before .loop .field) (c .before .before .before .before .pre .0) (omega arith))
+returns c =
+    let entry = c .before .before .before .before in
+    let loop = c .before .loop in
+    writing-last _ _ _ _ (loop .inv .1)
+    (fields-past (entry .args .cells .now) (entry .args .from) (loop .field) (entry .pre .0) (omega arith))
 
 pub write-fields-spec : {M : Type 1} → statement M
 write-fields-spec =
     tie.close
-    (tie.spec Inv-loop μ-loop loop-holds (λ c. search needs) (λ c. search needs) (λ c. search needs) (λ c κs. search needs) (λ c κs. search needs) (λ c. search needs) (λ c. search needs) (λ c. search needs) loop-again (λ c. search needs) returns)
+    (tie.spec Inv-loop μ-loop loop-holds (λ c. search needs) (λ c. search needs) (λ c. search needs) (λ c κs. search needs)
+    (λ c κs. search needs) (λ c. search needs) (λ c. search needs) (λ c. search needs) loop-again (λ c. search needs) returns)

@@ -18,42 +18,133 @@ loop-holds : tie.Need-loop-holds Inv-loop μ-loop
 loop-holds c = (refl, λ ahead. carrying-first _ _ _ ahead)
 
 shared-slice-read-if1 : tie.Need-shared-slice-read-if1 Inv-loop μ-loop
-shared-slice-read-if1 c = omega (arith, carrying-inside (c .before .before .before .before .args .s .now) (c .before .before .before .before .args .start) (c .before .before .before .before .args .row .now) (c .before .before .before .before .pre) (c .before .loop .row) (c .before .loop .at) (c .before .loop .inv .1 (c .before .before .before .before .pre)) (c .before .loop .inv .0))
+shared-slice-read-if1 c =
+    let entry = c .before .before .before .before in
+    let loop = c .before .loop in
+    omega (
+      arith,
+      carrying-inside (entry .args .s .now) (entry .args .start) (entry .args .row .now) (entry .pre) (loop .row) (loop .at)
+          (loop .inv .1 (entry .pre)) (loop .inv .0),
+    )
 
 shared-slice-read-wide : tie.Need-shared-slice-read-wide Inv-loop μ-loop
-shared-slice-read-wide c = omega (arith, carrying-inside (c .before .before .before .before .before .before .args .s .now) (c .before .before .before .before .before .before .args .start) (c .before .before .before .before .before .before .args .row .now) (c .before .before .before .before .before .before .pre) (c .before .before .before .loop .row) (c .before .before .before .loop .at) (c .before .before .before .loop .inv .1 (c .before .before .before .before .before .before .pre)) (c .before .before .before .loop .inv .0))
+shared-slice-read-wide c =
+    let entry = c .before .before .before .before .before .before in
+    let loop = c .before .before .before .loop in
+    omega (
+      arith,
+      carrying-inside (entry .args .s .now) (entry .args .start) (entry .args .row .now) (entry .pre) (loop .row) (loop .at)
+          (loop .inv .1 (entry .pre)) (loop .inv .0),
+    )
 
 add-mask : tie.Need-add-mask Inv-loop μ-loop
-add-mask c = omega (arith, carrying-inside (c .before .before .before .before .before .before .before .args .s .now) (c .before .before .before .before .before .before .before .args .start) (c .before .before .before .before .before .before .before .args .row .now) (c .before .before .before .before .before .before .before .pre) (c .before .before .before .before .loop .row) (c .before .before .before .before .loop .at) (c .before .before .before .before .loop .inv .1 (c .before .before .before .before .before .before .before .pre)) (c .before .before .before .before .loop .inv .0))
+add-mask c =
+    let entry = c .before .before .before .before .before .before .before in
+    let loop = c .before .before .before .before .loop in
+    omega (
+      arith,
+      carrying-inside (entry .args .s .now) (entry .args .start) (entry .args .row .now) (entry .pre) (loop .row) (loop .at)
+          (loop .inv .1 (entry .pre)) (loop .inv .0),
+    )
 
 shared-slice-read-mask : tie.Need-shared-slice-read-mask Inv-loop μ-loop
-shared-slice-read-mask c = omega (arith, carrying-ready (c .before .before .before .before .before .before .before .before .args .s .now) (c .before .before .before .before .before .before .before .before .args .start) (c .before .before .before .before .before .before .before .before .args .row .now) (c .before .before .before .before .before .before .before .before .pre) (c .before .before .before .before .before .loop .row) (c .before .before .before .before .before .loop .at) (c .before .before .before .before .before .loop .inv .1 (c .before .before .before .before .before .before .before .before .pre)) (c .before .before .before .before .before .loop .inv .0) (c .before .before .before .if1 .taken))
+shared-slice-read-mask c =
+    let entry = c .before .before .before .before .before .before .before .before in
+    let loop = c .before .before .before .before .before .loop in
+    omega (
+      arith,
+      carrying-ready (entry .args .s .now) (entry .args .start) (entry .args .row .now) (entry .pre) (loop .row) (loop .at)
+          (loop .inv .1 (entry .pre)) (loop .inv .0) (c .before .before .before .if1 .taken),
+    )
 
 add-store-fields : tie.Need-add-store-fields Inv-loop μ-loop
-add-store-fields c = omega (arith, carrying-ready (c .before .before .before .before .before .before .before .before .args .s .now) (c .before .before .before .before .before .before .before .before .args .start) (c .before .before .before .before .before .before .before .before .args .row .now) (c .before .before .before .before .before .before .before .before .pre) (c .before .before .before .before .before .loop .row) (c .before .before .before .before .before .loop .at) (c .before .before .before .before .before .loop .inv .1 (c .before .before .before .before .before .before .before .before .pre)) (c .before .before .before .before .before .loop .inv .0) (c .before .before .before .if1 .taken))
+add-store-fields c =
+    let entry = c .before .before .before .before .before .before .before .before in
+    let loop = c .before .before .before .before .before .loop in
+    omega (
+      arith,
+      carrying-ready (entry .args .s .now) (entry .args .start) (entry .args .row .now) (entry .pre) (loop .row) (loop .at)
+          (loop .inv .1 (entry .pre)) (loop .inv .0) (c .before .before .before .if1 .taken),
+    )
 
 sub-store-fields : tie.Need-sub-store-fields Inv-loop μ-loop
-sub-store-fields c = omega (arith, carrying-ready (c .before .before .before .before .before .before .before .before .before .args .s .now) (c .before .before .before .before .before .before .before .before .before .args .start) (c .before .before .before .before .before .before .before .before .before .args .row .now) (c .before .before .before .before .before .before .before .before .before .pre) (c .before .before .before .before .before .before .loop .row) (c .before .before .before .before .before .before .loop .at) (c .before .before .before .before .before .before .loop .inv .1 (c .before .before .before .before .before .before .before .before .before .pre)) (c .before .before .before .before .before .before .loop .inv .0) (c .before .before .before .before .if1 .taken))
+sub-store-fields c =
+    let entry = c .before .before .before .before .before .before .before .before .before in
+    let loop = c .before .before .before .before .before .before .loop in
+    let if1 = c .before .before .before .before .if1 in
+    omega (
+      arith,
+      carrying-ready (entry .args .s .now) (entry .args .start) (entry .args .row .now) (entry .pre) (loop .row) (loop .at)
+          (loop .inv .1 (entry .pre)) (loop .inv .0) (if1 .taken),
+    )
 
 store-fields-requires : tie.Need-store-fields-requires Inv-loop μ-loop
-store-fields-requires c κs = let ready = carrying-ready (c .before .before .before .before .before .before .before .before .before .args .s .now) (c .before .before .before .before .before .before .before .before .before .args .start) (c .before .before .before .before .before .before .before .before .before .args .row .now) (c .before .before .before .before .before .before .before .before .before .pre) (c .before .before .before .before .before .before .loop .row) (c .before .before .before .before .before .before .loop .at) (c .before .before .before .before .before .before .loop .inv .1 (c .before .before .before .before .before .before .before .before .before .pre)) (c .before .before .before .before .before .before .loop .inv .0) (c .before .before .before .before .if1 .taken) in let cell = carrying-cell (c .before .before .before .before .before .before .before .before .before .args .s .now) (c .before .before .before .before .before .before .before .before .before .args .start) (c .before .before .before .before .before .before .before .before .before .args .row .now) (c .before .before .before .before .before .before .before .before .before .pre) (c .before .before .before .before .before .before .loop .row) (c .before .before .before .before .before .before .loop .at) (c .before .before .before .before .before .before .loop .inv .1 (c .before .before .before .before .before .before .before .before .before .pre)) (c .before .before .before .before .before .before .loop .inv .0) (c .before .before .before .before .if1 .taken) in (omega arith, omega arith)
+store-fields-requires c κs =
+    let entry = c .before .before .before .before .before .before .before .before .before in
+    let s = entry .args .s .now in
+    let start = entry .args .start in
+    let row = entry .args .row .now in
+    let loop = c .before .before .before .before .before .before .loop in
+    let if1 = c .before .before .before .before .if1 in
+    let ready =
+    carrying-ready s start row (entry .pre) (loop .row) (loop .at) (loop .inv .1 (entry .pre)) (loop .inv .0) (if1 .taken) in
+    let cell =
+    carrying-cell s start row (entry .pre) (loop .row) (loop .at) (loop .inv .1 (entry .pre)) (loop .inv .0) (if1 .taken) in
+    (omega arith, omega arith)
 
 add-at : tie.Need-add-at Inv-loop μ-loop
-add-at c = let ready = carrying-ready (c .before .before .before .before .before .before .before .before .before .before .before .before .before .before .args .s .now) (c .before .before .before .before .before .before .before .before .before .before .before .before .before .before .args .start) (c .before .before .before .before .before .before .before .before .before .before .before .before .before .before .args .row .now) (c .before .before .before .before .before .before .before .before .before .before .before .before .before .before .pre) (c .before .before .before .before .before .before .before .before .before .before .before .loop .row) (c .before .before .before .before .before .before .before .before .before .before .before .loop .at) (c .before .before .before .before .before .before .before .before .before .before .before .loop .inv .1 (c .before .before .before .before .before .before .before .before .before .before .before .before .before .before .pre)) (c .before .before .before .before .before .before .before .before .before .before .before .loop .inv .0) (c .before .before .before .before .before .before .before .before .before .if1 .taken) in omega arith
+add-at c =
+    let entry = c .before .before .before .before .before .before .before .before .before .before .before .before .before .before in
+    let loop = c .before .before .before .before .before .before .before .before .before .before .before .loop in
+    let if1 = c .before .before .before .before .before .before .before .before .before .if1 in
+    let ready = carrying-ready (entry .args .s .now) (entry .args .start) (entry .args .row .now) (entry .pre) (loop .row)
+    (loop .at) (loop .inv .1 (entry .pre)) (loop .inv .0) (if1 .taken) in
+    omega arith
 
 loop-less : tie.Need-loop-less Inv-loop μ-loop
-loop-less c = let ready = carrying-ready (c .before .before .before .before .before .before .before .before .before .before .before .before .before .before .args .s .now) (c .before .before .before .before .before .before .before .before .before .before .before .before .before .before .args .start) (c .before .before .before .before .before .before .before .before .before .before .before .before .before .before .args .row .now) (c .before .before .before .before .before .before .before .before .before .before .before .before .before .before .pre) (c .before .before .before .before .before .before .before .before .before .before .before .loop .row) (c .before .before .before .before .before .before .before .before .before .before .before .loop .at) (c .before .before .before .before .before .before .before .before .before .before .before .loop .inv .1 (c .before .before .before .before .before .before .before .before .before .before .before .before .before .before .pre)) (c .before .before .before .before .before .before .before .before .before .before .before .loop .inv .0) (c .before .before .before .before .before .before .before .before .before .if1 .taken) in omega arith
+loop-less c =
+    let entry = c .before .before .before .before .before .before .before .before .before .before .before .before .before .before in
+    let loop = c .before .before .before .before .before .before .before .before .before .before .before .loop in
+    let if1 = c .before .before .before .before .before .before .before .before .before .if1 in
+    let ready = carrying-ready (entry .args .s .now) (entry .args .start) (entry .args .row .now) (entry .pre) (loop .row)
+    (loop .at) (loop .inv .1 (entry .pre)) (loop .inv .0) (if1 .taken) in
+    omega arith
 
 loop-again : tie.Need-loop-again Inv-loop μ-loop
-loop-again c = (c .before .before .before .before .store-fields .kept .1 .1 .1 .0 ∙ c .before .before .before .before .before .before .before .before .before .before .before .loop .inv .0, λ ahead. carrying-turn (c .before .before .before .before .before .before .before .before .before .before .before .before .before .before .args .s .now) (c .before .before .before .before .before .before .before .before .before .before .before .before .before .before .args .start) (c .before .before .before .before .before .before .before .before .before .before .before .before .before .before .args .row .now) ahead (c .before .before .before .before .before .before .before .before .before .before .before .loop .row) (c .before .before .before .before .before .before .before .before .before .before .before .loop .at) (c .before .before .before .before .before .before .before .before .before .before .before .loop .inv .1 ahead) (c .before .before .before .before .before .before .before .before .before .before .before .loop .inv .0) (c .before .before .before .before .before .before .before .before .before .if1 .taken) (c .before .before .before .before .before .before .before .wide .result) _ (c .entry-length .result) _ (c .before .before .before .before .before .before .before .wide .ensures .0) refl (c .entry-length .ensures .0) (c .before .before .before .before .store-fields .ensures))
+loop-again c =
+    let entry = c .before .before .before .before .before .before .before .before .before .before .before .before .before .before in
+    let loop = c .before .before .before .before .before .before .before .before .before .before .before .loop in
+    let if1 = c .before .before .before .before .before .before .before .before .before .if1 in
+    let wide = c .before .before .before .before .before .before .before .wide in
+    let store-fields = c .before .before .before .before .store-fields in (
+      store-fields .kept .1 .1 .1 .0 ∙ loop .inv .0,
+      λ ahead.
+          carrying-turn (entry .args .s .now) (entry .args .start) (entry .args .row .now) ahead (loop .row) (loop .at)
+          (loop .inv .1 ahead) (loop .inv .0) (if1 .taken) (wide .result) _ (c .entry-length .result) _ (wide .ensures .0)
+          refl (c .entry-length .ensures .0) (store-fields .ensures),
+    )
 
 add-result : tie.Need-add-result Inv-loop μ-loop
-add-result c = omega (arith, carrying-inside (c .before .before .before .before .before .args .s .now) (c .before .before .before .before .before .args .start) (c .before .before .before .before .before .args .row .now) (c .before .before .before .before .before .pre) (c .before .before .loop .row) (c .before .before .loop .at) (c .before .before .loop .inv .1 (c .before .before .before .before .before .pre)) (c .before .before .loop .inv .0))
+add-result c =
+    let entry = c .before .before .before .before .before in
+    let loop = c .before .before .loop in
+    omega (
+      arith,
+      carrying-inside (entry .args .s .now) (entry .args .start) (entry .args .row .now) (entry .pre) (loop .row) (loop .at)
+          (loop .inv .1 (entry .pre)) (loop .inv .0),
+    )
 
 returns : tie.Need-returns Inv-loop μ-loop
-returns c = λ ahead. carrying-last (c .before .before .before .before .before .args .s .now) (c .before .before .before .before .before .args .start) (c .before .before .before .before .before .args .row .now) ahead (c .before .before .loop .row) (c .before .before .loop .at) (c .before .before .loop .inv .1 ahead) (c .before .before .loop .inv .0) (c .if1 .left)
+returns c =
+    let entry = c .before .before .before .before .before in
+    let loop = c .before .before .loop in
+    λ ahead.
+    carrying-last (entry .args .s .now) (entry .args .start) (entry .args .row .now) ahead (loop .row) (loop .at)
+    (loop .inv .1 ahead) (loop .inv .0) (c .if1 .left)
 
 pub carry-row-spec : {M : Type 1} → statement M
 carry-row-spec =
     tie.close
-    (tie.spec Inv-loop μ-loop loop-holds shared-slice-read-if1 shared-slice-read-wide (λ c κs. search needs) add-mask shared-slice-read-mask add-store-fields sub-store-fields (λ c. omega arith) store-fields-requires (λ c. search needs) (λ c κs. search needs) add-at loop-less loop-again add-result (λ c. search needs) returns)
+    (tie.spec Inv-loop μ-loop loop-holds shared-slice-read-if1 shared-slice-read-wide (λ c κs. search needs) add-mask
+    shared-slice-read-mask add-store-fields sub-store-fields (λ c. omega arith) store-fields-requires (λ c. search needs)
+    (λ c κs. search needs) add-at loop-less loop-again add-result (λ c. search needs) returns)

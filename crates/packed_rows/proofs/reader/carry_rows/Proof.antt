@@ -10,7 +10,8 @@ use Rattle.packed_rows.proofs.reader.carry_rows.Statement.{statement}
 use Rattle.packed_rows.proofs.reader.carry_rows.Tie as tie
 
 abbrev Inv-loop : tie.InvT-loop
-Inv-loop s rows tracks out₀ width at₀ base₀ left₀ out at base left = (width ≡ tracks * 6) × (length out ≡ length out₀) × CarryingRows s rows tracks out at base left
+Inv-loop s rows tracks out₀ width at₀ base₀ left₀ out at base left =
+    (width ≡ tracks * 6) × (length out ≡ length out₀) × CarryingRows s rows tracks out at base left
 
 abbrev μ-loop : tie.MeasureT-loop
 μ-loop s rows tracks out₀ width at₀ base₀ left₀ out at base left = left
@@ -19,24 +20,78 @@ loop-holds : tie.Need-loop-holds Inv-loop μ-loop
 loop-holds c = (refl, refl, rows-first _ _ _ _ (c .before .before .pre .0) (c .before .before .pre .1))
 
 add-carry-row : tie.Need-add-carry-row Inv-loop μ-loop
-add-carry-row c = let some : c .before .loop .left ≡ suc (c .before .loop .left - 1) = omega arith in let size = rows-length (c .before .before .before .before .args .s .now) (c .before .before .before .before .args .rows) (c .before .before .before .before .args .tracks) (c .before .loop .out) (c .before .loop .at) (c .before .loop .base) (c .before .loop .left) (c .before .loop .inv .2) in let more = ap (_* (c .before .before .before .before .args .tracks * 6)) some ∙ suc-mul (c .before .loop .left - 1) (c .before .before .before .before .args .tracks * 6) in omega arith
+add-carry-row c =
+    let entry = c .before .before .before .before in
+    let tracks = entry .args .tracks in
+    let loop = c .before .loop in
+    let some : loop .left ≡ suc (loop .left - 1) = omega arith in
+    let size = rows-length (entry .args .s .now) (entry .args .rows) tracks (loop .out) (loop .at) (loop .base) (loop .left)
+    (loop .inv .2) in
+    let more = ap (_* (tracks * 6)) some ∙ suc-mul (loop .left - 1) (tracks * 6) in
+    omega arith
 
 part-carry-row-end : tie.Need-part-carry-row-end Inv-loop μ-loop
-part-carry-row-end c = let some : c .before .loop .left ≡ suc (c .before .loop .left - 1) = omega arith in let size = rows-length (c .before .before .before .before .args .s .now) (c .before .before .before .before .args .rows) (c .before .before .before .before .args .tracks) (c .before .loop .out) (c .before .loop .at) (c .before .loop .base) (c .before .loop .left) (c .before .loop .inv .2) in let more = ap (_* (c .before .before .before .before .args .tracks * 6)) some ∙ suc-mul (c .before .loop .left - 1) (c .before .before .before .before .args .tracks * 6) in omega arith
+part-carry-row-end c =
+    let entry = c .before .before .before .before in
+    let tracks = entry .args .tracks in
+    let loop = c .before .loop in
+    let some : loop .left ≡ suc (loop .left - 1) = omega arith in
+    let size = rows-length (entry .args .s .now) (entry .args .rows) tracks (loop .out) (loop .at) (loop .base) (loop .left)
+    (loop .inv .2) in
+    let more = ap (_* (tracks * 6)) some ∙ suc-mul (loop .left - 1) (tracks * 6) in
+    omega arith
 
 carry-row-requires : tie.Need-carry-row-requires Inv-loop μ-loop
-carry-row-requires c κs = let some : c .before .before .loop .left ≡ suc (c .before .before .loop .left - 1) = omega arith in let size = rows-length (c .before .before .before .before .before .args .s .now) (c .before .before .before .before .before .args .rows) (c .before .before .before .before .before .args .tracks) (c .before .before .loop .out) (c .before .before .loop .at) (c .before .before .loop .base) (c .before .before .loop .left) (c .before .before .loop .inv .2) in let more = ap (_* (c .before .before .before .before .before .args .tracks * 6)) some ∙ suc-mul (c .before .before .loop .left - 1) (c .before .before .before .before .before .args .tracks * 6) in rows-ahead (c .before .before .before .before .before .args .s .now) (c .before .before .before .before .before .args .rows) (c .before .before .before .before .before .args .tracks) (c .before .before .loop .out) (c .before .before .loop .at) (c .before .before .loop .base) (c .before .before .loop .left) (c .before .before .loop .inv .2) (c .before .before .loop .left - 1) some (c .before .before .loop .base + c .before .before .before .before .before .args .tracks * 6 - c .before .before .loop .base) (omega arith)
+carry-row-requires c κs =
+    let entry = c .before .before .before .before .before in
+    let s = entry .args .s .now in
+    let rows = entry .args .rows in
+    let tracks = entry .args .tracks in
+    let loop = c .before .before .loop in
+    let some : loop .left ≡ suc (loop .left - 1) = omega arith in
+    let size = rows-length s rows tracks (loop .out) (loop .at) (loop .base) (loop .left) (loop .inv .2) in
+    let more = ap (_* (tracks * 6)) some ∙ suc-mul (loop .left - 1) (tracks * 6) in
+    rows-ahead s rows tracks (loop .out) (loop .at) (loop .base) (loop .left) (loop .inv .2) (loop .left - 1) some
+    (loop .base + tracks * 6 - loop .base) (omega arith)
 
 add-base : tie.Need-add-base Inv-loop μ-loop
-add-base c = let some : c .before .before .before .before .before .loop .left ≡ suc (c .before .before .before .before .before .loop .left - 1) = omega arith in let size = rows-length (c .before .before .before .before .before .before .before .before .args .s .now) (c .before .before .before .before .before .before .before .before .args .rows) (c .before .before .before .before .before .before .before .before .args .tracks) (c .before .before .before .before .before .loop .out) (c .before .before .before .before .before .loop .at) (c .before .before .before .before .before .loop .base) (c .before .before .before .before .before .loop .left) (c .before .before .before .before .before .loop .inv .2) in let more = ap (_* (c .before .before .before .before .before .before .before .before .args .tracks * 6)) some ∙ suc-mul (c .before .before .before .before .before .loop .left - 1) (c .before .before .before .before .before .before .before .before .args .tracks * 6) in omega arith
+add-base c =
+    let entry = c .before .before .before .before .before .before .before .before in
+    let tracks = entry .args .tracks in
+    let loop = c .before .before .before .before .before .loop in
+    let some : loop .left ≡ suc (loop .left - 1) = omega arith in
+    let size = rows-length (entry .args .s .now) (entry .args .rows) tracks (loop .out) (loop .at) (loop .base) (loop .left)
+    (loop .inv .2) in
+    let more = ap (_* (tracks * 6)) some ∙ suc-mul (loop .left - 1) (tracks * 6) in
+    omega arith
 
 loop-again : tie.Need-loop-again Inv-loop μ-loop
-loop-again c = let some : c .before .before .before .before .before .loop .left ≡ suc (c .before .before .before .before .before .loop .left - 1) = omega arith in let size = rows-length (c .before .before .before .before .before .before .before .before .args .s .now) (c .before .before .before .before .before .before .before .before .args .rows) (c .before .before .before .before .before .before .before .before .args .tracks) (c .before .before .before .before .before .loop .out) (c .before .before .before .before .before .loop .at) (c .before .before .before .before .before .loop .base) (c .before .before .before .before .before .loop .left) (c .before .before .before .before .before .loop .inv .2) in let more = ap (_* (c .before .before .before .before .before .before .before .before .args .tracks * 6)) some ∙ suc-mul (c .before .before .before .before .before .loop .left - 1) (c .before .before .before .before .before .before .before .before .args .tracks * 6) in (refl, same-len-mid (c .before .before .before .before .before .loop .base) (c .before .before .before .before .before .loop .base + c .before .before .before .before .before .before .before .before .args .tracks * 6 - c .before .before .before .before .before .loop .base) (c .before .before .before .before .before .loop .out) (c .before .before .carry-row .last .1 .1 .0) (c .before .before .carry-row .kept .1 .1 .0) ∙ c .before .before .before .before .before .loop .inv .1, rows-turn (c .before .before .before .before .before .before .before .before .args .s .now) (c .before .before .before .before .before .before .before .before .args .rows) (c .before .before .before .before .before .before .before .before .args .tracks) (c .before .before .before .before .before .loop .out) (c .before .before .before .before .before .loop .at) (c .before .before .before .before .before .loop .base) (c .before .before .before .before .before .loop .left) (c .before .before .before .before .before .loop .inv .2) (c .before .before .before .before .before .loop .left - 1) some (c .before .before .before .before .before .loop .base + c .before .before .before .before .before .before .before .before .args .tracks * 6 - c .before .before .before .before .before .loop .base) (omega arith) _ (c .before .before .carry-row .result) (c .before .before .carry-row .ensures))
+loop-again c =
+    let entry = c .before .before .before .before .before .before .before .before in
+    let s = entry .args .s .now in
+    let rows = entry .args .rows in
+    let tracks = entry .args .tracks in
+    let loop = c .before .before .before .before .before .loop in
+    let carry-row = c .before .before .carry-row in
+    let some : loop .left ≡ suc (loop .left - 1) = omega arith in
+    let size = rows-length s rows tracks (loop .out) (loop .at) (loop .base) (loop .left) (loop .inv .2) in
+    let more = ap (_* (tracks * 6)) some ∙ suc-mul (loop .left - 1) (tracks * 6) in (
+      refl,
+      same-len-mid (loop .base) (loop .base + tracks * 6 - loop .base) (loop .out) (carry-row .last .1 .1 .0) (carry-row .kept .1 .1 .0)
+          ∙ loop .inv .1,
+      rows-turn s rows tracks (loop .out) (loop .at) (loop .base) (loop .left) (loop .inv .2) (loop .left - 1) some
+          (loop .base + tracks * 6 - loop .base) (omega arith) _ (carry-row .result) (carry-row .ensures),
+    )
 
 returns : tie.Need-returns Inv-loop μ-loop
-returns c = rows-last (c .before .before .before .before .args .s .now) (c .before .before .before .before .args .rows) (c .before .before .before .before .args .tracks) (c .before .loop .out) (c .before .loop .at) (c .before .loop .base) (c .before .loop .left) (c .before .loop .inv .2) (omega arith)
+returns c =
+    let entry = c .before .before .before .before in
+    let loop = c .before .loop in
+    rows-last (entry .args .s .now) (entry .args .rows) (entry .args .tracks) (loop .out) (loop .at) (loop .base) (loop .left)
+    (loop .inv .2) (omega arith)
 
 pub carry-rows-spec : {M : Type 1} → statement M
 carry-rows-spec =
     tie.close
-    (tie.spec Inv-loop μ-loop (λ c. omega arith) loop-holds add-carry-row (λ c. search needs) (λ c. search needs) part-carry-row-end carry-row-requires add-base (λ c. search needs) (λ c. search needs) loop-again (λ c. search needs) returns)
+    (tie.spec Inv-loop μ-loop (λ c. omega arith) loop-holds add-carry-row (λ c. search needs) (λ c. search needs)
+    part-carry-row-end carry-row-requires add-base (λ c. search needs) (λ c. search needs) loop-again (λ c. search needs) returns)

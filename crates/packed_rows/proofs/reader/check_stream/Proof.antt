@@ -20,36 +20,112 @@ loop-holds : tie.Need-loop-holds Inv-loop μ-loop
 loop-holds c = (search needs, refl)
 
 returns : tie.Need-returns Inv-loop μ-loop
-returns c = let some : c .before .before .before .before .before .loop .left ≡ suc (c .before .before .before .before .before .loop .left - 1) = omega arith in ap Refused (c .refuse .ensures) ∙ sym (check-broken (c .before .before .before .before .before .before .before .args .s .now) (c .before .before .before .before .before .before .before .args .tracks) (c .before .before .before .before .before .loop .left - 1) (c .before .before .before .before .before .loop .left) (c .before .before .before .before .before .loop .at) (c .before .before .front-length .result) some (c .before .before .front-length .ensures) (c .before .if1 .taken)) ∙ c .before .before .before .before .before .loop .inv .1
+returns c =
+    let entry = c .before .before .before .before .before .before .before in
+    let loop = c .before .before .before .before .before .loop in
+    let front-length = c .before .before .front-length in
+    let some : loop .left ≡ suc (loop .left - 1) = omega arith in
+    ap Refused (c .refuse .ensures)
+    ∙ sym (check-broken (entry .args .s .now) (entry .args .tracks) (loop .left - 1) (loop .left) (loop .at)
+    (front-length .result) some (front-length .ensures) (c .before .if1 .taken))
+    ∙ loop .inv .1
 
 shared-slice-read-if2 : tie.Need-shared-slice-read-if2 Inv-loop μ-loop
-shared-slice-read-if2 c = omega (arith, front-inside (c .before .before .before .before .before .before .before .args .s .now) (c .before .before .before .before .before .before .before .args .tracks) (c .before .before .before .before .before .loop .at) (c .before .before .front-length .result) (c .before .before .front-length .ensures) (c .before .if1 .left))
+shared-slice-read-if2 c =
+    let entry = c .before .before .before .before .before .before .before in
+    let loop = c .before .before .before .before .before .loop in
+    let front-length = c .before .before .front-length in
+    omega (
+      arith,
+      front-inside (entry .args .s .now) (entry .args .tracks) (loop .at) (front-length .result) (front-length .ensures)
+          (c .before .if1 .left),
+    )
 
 add-at : tie.Need-add-at Inv-loop μ-loop
-add-at c = omega (arith, front-inside (c .before .before .before .before .before .before .before .before .args .s .now) (c .before .before .before .before .before .before .before .before .args .tracks) (c .before .before .before .before .before .before .loop .at) (c .before .before .before .front-length .result) (c .before .before .before .front-length .ensures) (c .before .before .if1 .left))
+add-at c =
+    let entry = c .before .before .before .before .before .before .before .before in
+    let loop = c .before .before .before .before .before .before .loop in
+    let front-length = c .before .before .before .front-length in
+    omega (
+      arith,
+      front-inside (entry .args .s .now) (entry .args .tracks) (loop .at) (front-length .result) (front-length .ensures)
+          (c .before .before .if1 .left),
+    )
 
 loop-less : tie.Need-loop-less Inv-loop μ-loop
-loop-less c = omega (arith, front-inside (c .before .before .before .before .before .before .before .before .args .s .now) (c .before .before .before .before .before .before .before .before .args .tracks) (c .before .before .before .before .before .before .loop .at) (c .before .before .before .front-length .result) (c .before .before .before .front-length .ensures) (c .before .before .if1 .left))
+loop-less c =
+    let entry = c .before .before .before .before .before .before .before .before in
+    let loop = c .before .before .before .before .before .before .loop in
+    let front-length = c .before .before .before .front-length in
+    omega (
+      arith,
+      front-inside (entry .args .s .now) (entry .args .tracks) (loop .at) (front-length .result) (front-length .ensures)
+          (c .before .before .if1 .left),
+    )
 
 loop-again : tie.Need-loop-again Inv-loop μ-loop
-loop-again c = let some : c .before .before .before .before .before .before .loop .left ≡ suc (c .before .before .before .before .before .before .loop .left - 1) = omega arith in let turn = check-row-end (c .before .before .before .before .before .before .before .before .args .s .now) (c .before .before .before .before .before .before .before .before .args .tracks) (c .before .before .before .before .before .before .loop .left - 1) (c .before .before .before .before .before .before .loop .left) (c .before .before .before .before .before .before .loop .at) (c .before .before .before .front-length .result) some (c .before .before .before .front-length .ensures) (c .before .before .if1 .left) (c .if2 .taken) in (turn .1, turn .0 ∙ c .before .before .before .before .before .before .loop .inv .1)
+loop-again c =
+    let entry = c .before .before .before .before .before .before .before .before in
+    let loop = c .before .before .before .before .before .before .loop in
+    let front-length = c .before .before .before .front-length in
+    let some : loop .left ≡ suc (loop .left - 1) = omega arith in
+    let turn = check-row-end (entry .args .s .now) (entry .args .tracks) (loop .left - 1) (loop .left) (loop .at)
+    (front-length .result) some (front-length .ensures) (c .before .before .if1 .left) (c .if2 .taken) in
+    (turn .1, turn .0 ∙ loop .inv .1)
 
 add-at-2 : tie.Need-add-at-2 Inv-loop μ-loop
-add-at-2 c = omega (arith, front-inside (c .before .before .before .before .before .before .before .before .args .s .now) (c .before .before .before .before .before .before .before .before .args .tracks) (c .before .before .before .before .before .before .loop .at) (c .before .before .before .front-length .result) (c .before .before .before .front-length .ensures) (c .before .before .if1 .left))
+add-at-2 c =
+    let entry = c .before .before .before .before .before .before .before .before in
+    let loop = c .before .before .before .before .before .before .loop in
+    let front-length = c .before .before .before .front-length in
+    omega (
+      arith,
+      front-inside (entry .args .s .now) (entry .args .tracks) (loop .at) (front-length .result) (front-length .ensures)
+          (c .before .before .if1 .left),
+    )
 
 loop-less-2 : tie.Need-loop-less-2 Inv-loop μ-loop
-loop-less-2 c = omega (arith, front-inside (c .before .before .before .before .before .before .before .before .args .s .now) (c .before .before .before .before .before .before .before .before .args .tracks) (c .before .before .before .before .before .before .loop .at) (c .before .before .before .front-length .result) (c .before .before .before .front-length .ensures) (c .before .before .if1 .left))
+loop-less-2 c =
+    let entry = c .before .before .before .before .before .before .before .before in
+    let loop = c .before .before .before .before .before .before .loop in
+    let front-length = c .before .before .before .front-length in
+    omega (
+      arith,
+      front-inside (entry .args .s .now) (entry .args .tracks) (loop .at) (front-length .result) (front-length .ensures)
+          (c .before .before .if1 .left),
+    )
 
 loop-again-2 : tie.Need-loop-again-2 Inv-loop μ-loop
-loop-again-2 c = let some : c .before .before .before .before .before .before .loop .left ≡ suc (c .before .before .before .before .before .before .loop .left - 1) = omega arith in let turn = check-entry (c .before .before .before .before .before .before .before .before .args .s .now) (c .before .before .before .before .before .before .before .before .args .tracks) (c .before .before .before .before .before .before .loop .left - 1) (c .before .before .before .before .before .before .loop .left) (c .before .before .before .before .before .before .loop .at) (c .before .before .before .front-length .result) some (c .before .before .before .front-length .ensures) (c .before .before .if1 .left) (c .if2 .left) in (turn .1, turn .0 ∙ c .before .before .before .before .before .before .loop .inv .1)
+loop-again-2 c =
+    let entry = c .before .before .before .before .before .before .before .before in
+    let loop = c .before .before .before .before .before .before .loop in
+    let front-length = c .before .before .before .front-length in
+    let some : loop .left ≡ suc (loop .left - 1) = omega arith in
+    let turn = check-entry (entry .args .s .now) (entry .args .tracks) (loop .left - 1) (loop .left) (loop .at)
+    (front-length .result) some (front-length .ensures) (c .before .before .if1 .left) (c .if2 .left) in
+    (turn .1, turn .0 ∙ loop .inv .1)
 
 returns-2 : tie.Need-returns-2 Inv-loop μ-loop
-returns-2 c = let none : c .before .before .before .loop .left ≡ 0 = omega arith in let same = rw none at (c .before .before .before .loop .inv .1) in ap Refused (c .refuse2 .ensures) ∙ sym (check-over (c .before .before .before .before .before .args .s .now) (c .before .before .before .before .before .args .tracks) (c .before .before .before .loop .at) (c .before .if3 .taken)) ∙ same
+returns-2 c =
+    let entry = c .before .before .before .before .before in
+    let loop = c .before .before .before .loop in
+    let none : loop .left ≡ 0 = omega arith in
+    let same = rw none at (loop .inv .1) in
+    ap Refused (c .refuse2 .ensures)
+    ∙ sym (check-over (entry .args .s .now) (entry .args .tracks) (loop .at) (c .before .if3 .taken))
+    ∙ same
 
 returns-3 : tie.Need-returns-3 Inv-loop μ-loop
-returns-3 c = let none : c .before .before .loop .left ≡ 0 = omega arith in let same = rw none at (c .before .before .loop .inv .1) in sym (check-end (c .before .before .before .before .args .s .now) (c .before .before .before .before .args .tracks) (c .before .before .loop .at) (c .if3 .left)) ∙ same
+returns-3 c =
+    let entry = c .before .before .before .before in
+    let loop = c .before .before .loop in
+    let none : loop .left ≡ 0 = omega arith in
+    let same = rw none at (loop .inv .1) in
+    sym (check-end (entry .args .s .now) (entry .args .tracks) (loop .at) (c .if3 .left)) ∙ same
 
 pub check-stream-spec : {M : Type 1} → statement M
 check-stream-spec =
     tie.close
-    (tie.spec Inv-loop μ-loop loop-holds (λ c. search needs) (λ c κs. search needs) (λ c κs. search needs) returns shared-slice-read-if2 (λ c. search needs) add-at loop-less loop-again add-at-2 loop-less-2 loop-again-2 (λ c κs. search needs) returns-2 returns-3)
+    (tie.spec Inv-loop μ-loop loop-holds (λ c. search needs) (λ c κs. search needs) (λ c κs. search needs) returns
+    shared-slice-read-if2 (λ c. search needs) add-at loop-less loop-again add-at-2 loop-less-2 loop-again-2
+    (λ c κs. search needs) returns-2 returns-3)

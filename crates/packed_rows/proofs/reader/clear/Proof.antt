@@ -20,10 +20,19 @@ loop-holds : tie.Need-loop-holds Inv-loop μ-loop
 loop-holds c = (search needs, search needs, fill-none _ 0)
 
 loop-again : tie.Need-loop-again Inv-loop μ-loop
-loop-again c = (omega arith, search needs, ap (λ (l : List ℕ). set l (c .before .loop .i) 0) (c .before .loop .inv .2) ∙ fill-more (c .before .loop .i) 0 (c .before .before .args .out .now) (omega arith))
+loop-again c =
+    let loop = c .before .loop in (
+      omega arith,
+      search needs,
+      ap (λ (l : List ℕ). set l (loop .i) 0) (loop .inv .2)
+          ∙ fill-more (loop .i) 0 (c .before .before .args .out .now) (omega arith),
+    )
 
 returns : tie.Need-returns Inv-loop μ-loop
-returns c = let e : c .before .loop .i ≡ length (c .before .before .args .out .now) = omega arith in c .before .loop .inv .2 ∙ rw (e, drop-length, append-nil)
+returns c =
+    let loop = c .before .loop in
+    let e : loop .i ≡ length (c .before .before .args .out .now) = omega arith in
+    loop .inv .2 ∙ rw (e, drop-length, append-nil)
 
 pub clear-spec : {M : Type 1} → statement M
 clear-spec =

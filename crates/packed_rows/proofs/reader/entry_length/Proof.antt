@@ -14,7 +14,15 @@ returns : tie.Need-returns
 returns c = (length-unsound (c .before .before .args .mask) (c .if1 .taken), omega arith)
 
 returns-2 : tie.Need-returns-2
-returns-2 c = let same = c .wide2 .ensures .0 ∙ ap (λ (m : ℕ). getD (c .before .before .before .before .before .args .lengths .now) m 0) (c .before .before .wide .ensures .0) ∙ length-read (c .before .before .before .before .before .args .lengths .now) (c .before .before .before .before .before .args .mask) (c .before .before .before .before .before .pre) (omega arith) in (same, omega (arith, same, entry-length-most (c .before .before .before .before .before .args .mask)))
+returns-2 c =
+    let entry = c .before .before .before .before .before in
+    let lengths = entry .args .lengths .now in
+    let mask = entry .args .mask in
+    let same =
+    c .wide2 .ensures .0
+    ∙ ap (λ (m : ℕ). getD lengths m 0) (c .before .before .wide .ensures .0)
+    ∙ length-read lengths mask (entry .pre) (omega arith) in
+    (same, omega (arith, same, entry-length-most mask))
 
 pub entry-length-spec : {M : Type 1} → statement M
 entry-length-spec =

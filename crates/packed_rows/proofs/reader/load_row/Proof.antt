@@ -4,7 +4,10 @@ use Rattle.packed_rows.proofs.reader.load_row.Statement.{statement}
 use Rattle.packed_rows.proofs.reader.load_row.Tie as tie
 
 carry-row-requires : tie.Need-carry-row-requires
-carry-row-requires c κs = ahead-of _ _ _ (c .before .before .before .clear .last .0) (c .before .before .before .clear .kept .0) (c .before .before .before .before .before .before .before .pre)
+carry-row-requires c κs =
+    let entry = c .before .before .before .before .before .before .before in
+    let clear = c .before .before .before .clear in
+    ahead-of _ _ _ (clear .last .0) (clear .kept .0) (entry .pre)
 
 returns : tie.Need-returns
 returns c = loaded _ _ _ _ _ _ (c .before .before .before .before .before .before .clear .ensures) (c .before .before .carry-row .ensures)

@@ -17,30 +17,78 @@ loop-holds : tie.Need-loop-holds Inv-loop μ-loop
 loop-holds c = λ size ahead. skipping-first _ _ size ahead
 
 shared-slice-read-if1 : tie.Need-shared-slice-read-if1 Inv-loop μ-loop
-shared-slice-read-if1 c = omega (arith, skipping-inside (c .before .before .before .args .s .now) (c .before .before .before .args .start) (c .before .before .before .pre .0) (c .before .before .before .pre .1) (c .before .loop .at) (c .before .loop .inv (c .before .before .before .pre .0) (c .before .before .before .pre .1)))
+shared-slice-read-if1 c =
+    let entry = c .before .before .before in
+    let loop = c .before .loop in
+    omega (
+      arith,
+      skipping-inside (entry .args .s .now) (entry .args .start) (entry .pre .0) (entry .pre .1) (loop .at)
+          (loop .inv (entry .pre .0) (entry .pre .1)),
+    )
 
 add-entry-length : tie.Need-add-entry-length Inv-loop μ-loop
-add-entry-length c = omega (arith, skipping-inside (c .before .before .before .before .args .s .now) (c .before .before .before .before .args .start) (c .before .before .before .before .pre .0) (c .before .before .before .before .pre .1) (c .before .before .loop .at) (c .before .before .loop .inv (c .before .before .before .before .pre .0) (c .before .before .before .before .pre .1)))
+add-entry-length c =
+    let entry = c .before .before .before .before in
+    let loop = c .before .before .loop in
+    omega (
+      arith,
+      skipping-inside (entry .args .s .now) (entry .args .start) (entry .pre .0) (entry .pre .1) (loop .at)
+          (loop .inv (entry .pre .0) (entry .pre .1)),
+    )
 
 shared-slice-read-entry-length : tie.Need-shared-slice-read-entry-length Inv-loop μ-loop
-shared-slice-read-entry-length c = omega (arith, skipping-ready (c .before .before .before .before .before .args .s .now) (c .before .before .before .before .before .args .start) (c .before .before .before .before .before .pre .0) (c .before .before .before .before .before .pre .1) (c .before .before .before .loop .at) (c .before .before .before .loop .inv (c .before .before .before .before .before .pre .0) (c .before .before .before .before .before .pre .1)) (c .before .if1 .taken))
+shared-slice-read-entry-length c =
+    let entry = c .before .before .before .before .before in
+    let loop = c .before .before .before .loop in
+    omega (
+      arith,
+      skipping-ready (entry .args .s .now) (entry .args .start) (entry .pre .0) (entry .pre .1) (loop .at)
+          (loop .inv (entry .pre .0) (entry .pre .1)) (c .before .if1 .taken),
+    )
 
 add-at : tie.Need-add-at Inv-loop μ-loop
-add-at c = let ready = skipping-ready (c .before .before .before .before .before .before .before .args .s .now) (c .before .before .before .before .before .before .before .args .start) (c .before .before .before .before .before .before .before .pre .0) (c .before .before .before .before .before .before .before .pre .1) (c .before .before .before .before .before .loop .at) (c .before .before .before .before .before .loop .inv (c .before .before .before .before .before .before .before .pre .0) (c .before .before .before .before .before .before .before .pre .1)) (c .before .before .before .if1 .taken) in omega arith
+add-at c =
+    let entry = c .before .before .before .before .before .before .before in
+    let loop = c .before .before .before .before .before .loop in
+    let ready = skipping-ready (entry .args .s .now) (entry .args .start) (entry .pre .0) (entry .pre .1) (loop .at)
+    (loop .inv (entry .pre .0) (entry .pre .1)) (c .before .before .before .if1 .taken) in
+    omega arith
 
 loop-less : tie.Need-loop-less Inv-loop μ-loop
-loop-less c = let ready = skipping-ready (c .before .before .before .before .before .before .before .args .s .now) (c .before .before .before .before .before .before .before .args .start) (c .before .before .before .before .before .before .before .pre .0) (c .before .before .before .before .before .before .before .pre .1) (c .before .before .before .before .before .loop .at) (c .before .before .before .before .before .loop .inv (c .before .before .before .before .before .before .before .pre .0) (c .before .before .before .before .before .before .before .pre .1)) (c .before .before .before .if1 .taken) in omega arith
+loop-less c =
+    let entry = c .before .before .before .before .before .before .before in
+    let loop = c .before .before .before .before .before .loop in
+    let ready = skipping-ready (entry .args .s .now) (entry .args .start) (entry .pre .0) (entry .pre .1) (loop .at)
+    (loop .inv (entry .pre .0) (entry .pre .1)) (c .before .before .before .if1 .taken) in
+    omega arith
 
 loop-again : tie.Need-loop-again Inv-loop μ-loop
-loop-again c = λ size ahead. skipping-turn (c .before .before .before .before .before .before .before .args .s .now) (c .before .before .before .before .before .before .before .args .start) size ahead (c .before .before .before .before .before .loop .at) (c .before .before .before .before .before .loop .inv size ahead) (c .before .before .before .if1 .taken) (c .entry-length .result) (c .entry-length .ensures .0)
+loop-again c =
+    let entry = c .before .before .before .before .before .before .before in
+    let loop = c .before .before .before .before .before .loop in
+    λ size ahead.
+    skipping-turn (entry .args .s .now) (entry .args .start) size ahead (loop .at) (loop .inv size ahead)
+    (c .before .before .before .if1 .taken) (c .entry-length .result) (c .entry-length .ensures .0)
 
 add-result : tie.Need-add-result Inv-loop μ-loop
-add-result c = omega (arith, skipping-inside (c .before .before .before .before .args .s .now) (c .before .before .before .before .args .start) (c .before .before .before .before .pre .0) (c .before .before .before .before .pre .1) (c .before .before .loop .at) (c .before .before .loop .inv (c .before .before .before .before .pre .0) (c .before .before .before .before .pre .1)))
+add-result c =
+    let entry = c .before .before .before .before in
+    let loop = c .before .before .loop in
+    omega (
+      arith,
+      skipping-inside (entry .args .s .now) (entry .args .start) (entry .pre .0) (entry .pre .1) (loop .at)
+          (loop .inv (entry .pre .0) (entry .pre .1)),
+    )
 
 returns : tie.Need-returns Inv-loop μ-loop
-returns c = λ size ahead. skipping-last (c .before .before .before .before .args .s .now) (c .before .before .before .before .args .start) size ahead (c .before .before .loop .at) (c .before .before .loop .inv size ahead) (c .if1 .left)
+returns c =
+    let entry = c .before .before .before .before in
+    let loop = c .before .before .loop in
+    λ size ahead.
+    skipping-last (entry .args .s .now) (entry .args .start) size ahead (loop .at) (loop .inv size ahead) (c .if1 .left)
 
 pub skip-row-spec : {M : Type 1} → statement M
 skip-row-spec =
     tie.close
-    (tie.spec Inv-loop μ-loop loop-holds shared-slice-read-if1 add-entry-length shared-slice-read-entry-length (λ c. search needs) (λ c κs. search needs) add-at loop-less loop-again add-result returns)
+    (tie.spec Inv-loop μ-loop loop-holds shared-slice-read-if1 add-entry-length shared-slice-read-entry-length
+    (λ c. search needs) (λ c κs. search needs) add-at loop-less loop-again add-result returns)

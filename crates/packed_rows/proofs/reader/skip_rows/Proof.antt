@@ -17,13 +17,29 @@ loop-holds : tie.Need-loop-holds Inv-loop μ-loop
 loop-holds c = λ all. skips-first _ _ all
 
 skip-row-requires : tie.Need-skip-row-requires Inv-loop μ-loop
-skip-row-requires c κs = let some : c .before .loop .left ≡ suc (c .before .loop .left - 1) = omega arith in (c .before .before .before .pre .tracks * 6, skips-ahead (c .before .before .before .args .s .now) (c .before .before .before .args .n) (c .before .before .before .pre) (c .before .loop .at) (c .before .loop .left) (c .before .loop .inv (c .before .before .before .pre)) (c .before .loop .left - 1) some)
+skip-row-requires c κs =
+    let entry = c .before .before .before in
+    let loop = c .before .loop in
+    let some : loop .left ≡ suc (loop .left - 1) = omega arith in (
+      entry .pre .tracks * 6,
+      skips-ahead (entry .args .s .now) (entry .args .n) (entry .pre) (loop .at) (loop .left) (loop .inv (entry .pre))
+          (loop .left - 1) some,
+    )
 
 loop-again : tie.Need-loop-again Inv-loop μ-loop
-loop-again c = λ all. let some : c .before .before .loop .left ≡ suc (c .before .before .loop .left - 1) = omega arith in skips-turn (c .before .before .before .before .args .s .now) (c .before .before .before .before .args .n) all (c .before .before .loop .at) (c .before .before .loop .left) (c .before .before .loop .inv all) (c .before .before .loop .left - 1) some (c .skip-row .result) (c .skip-row .ensures)
+loop-again c =
+    let entry = c .before .before .before .before in
+    let loop = c .before .before .loop in
+    λ all.
+    let some : loop .left ≡ suc (loop .left - 1) = omega arith in
+    skips-turn (entry .args .s .now) (entry .args .n) all (loop .at) (loop .left) (loop .inv all) (loop .left - 1) some
+    (c .skip-row .result) (c .skip-row .ensures)
 
 returns : tie.Need-returns Inv-loop μ-loop
-returns c = λ all. skips-last (c .before .before .before .args .s .now) (c .before .before .before .args .n) all (c .before .loop .at) (c .before .loop .left) (c .before .loop .inv all) (omega arith)
+returns c =
+    let entry = c .before .before .before in
+    let loop = c .before .loop in
+    λ all. skips-last (entry .args .s .now) (entry .args .n) all (loop .at) (loop .left) (loop .inv all) (omega arith)
 
 pub skip-rows-spec : {M : Type 1} → statement M
 skip-rows-spec =

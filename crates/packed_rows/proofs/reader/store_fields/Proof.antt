@@ -6,16 +6,31 @@ use Rattle.packed_rows.proofs.reader.store_fields.Statement.{statement}
 use Rattle.packed_rows.proofs.reader.store_fields.Tie as tie
 
 store-some-requires : tie.Need-store-some-requires
-store-some-requires c κs = (first-inside (c .before .before .before .args .mask) (c .before .before .before .args .from) _ (c .before .before .before .pre .0), omega (arith, c .before .before .before .pre .1))
+store-some-requires c κs =
+    let entry = c .before .before .before in
+    (first-inside (entry .args .mask) (entry .args .from) _ (entry .pre .0), omega (arith, entry .pre .1))
 
 store-some-requires-2 : tie.Need-store-some-requires-2
-store-some-requires-2 c κs = (last-inside (c .before .before .before .before .before .before .before .before .args .mask) (c .before .before .before .before .before .before .before .before .args .from) _ (c .before .before .before .before .before .before .before .before .pre .0) _ (c .before .before .before .before .store-some .ensures .0), omega (arith, c .before .before .before .before .before .before .before .before .pre .1))
+store-some-requires-2 c κs =
+    let entry = c .before .before .before .before .before .before .before .before in
+    let store-some = c .before .before .before .before .store-some in (
+      last-inside (entry .args .mask) (entry .args .from) _ (entry .pre .0) _ (store-some .ensures .0),
+      omega (arith, entry .pre .1),
+    )
 
 returns : tie.Need-returns
-returns c = c .before .before .store-some2 .ensures .1 ∙ cell-stored (c .before .before .before .before .before .before .before .before .before .before .before .args .s .now) (c .before .before .before .before .before .before .before .before .before .before .before .args .from) (c .before .before .before .before .before .before .before .before .before .before .before .args .mask) _ _ (c .before .before .before .before .before .before .before .before .before .before .before .pre .1) _ _ (c .before .before .before .before .before .before .before .store-some .ensures .0) (c .before .before .before .before .before .before .before .store-some .ensures .1)
+returns c =
+    let entry = c .before .before .before .before .before .before .before .before .before .before .before in
+    let store-some = c .before .before .before .before .before .before .before .store-some in
+    c .before .before .store-some2 .ensures .1
+    ∙ cell-stored (entry .args .s .now) (entry .args .from) (entry .args .mask) _ _ (entry .pre .1) _ _ (store-some .ensures .0) (store-some .ensures .1)
 
 returns-2 : tie.Need-returns-2
-returns-2 c = cell-short (c .before .before .before .before .before .before .before .args .s .now) (c .before .before .before .before .before .before .before .args .from) (c .before .before .before .before .before .before .before .args .mask) _ _ (c .before .before .before .before .before .before .before .pre .1) _ _ (c .before .before .before .store-some .ensures .0) (c .before .before .before .store-some .ensures .1) (omega arith) (c .if1 .left)
+returns-2 c =
+    let entry = c .before .before .before .before .before .before .before in
+    let store-some = c .before .before .before .store-some in
+    cell-short (entry .args .s .now) (entry .args .from) (entry .args .mask) _ _ (entry .pre .1) _ _ (store-some .ensures .0)
+    (store-some .ensures .1) (omega arith) (c .if1 .left)
 
 pub store-fields-spec : {M : Type 1} → statement M
 store-fields-spec =
