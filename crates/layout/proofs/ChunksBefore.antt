@@ -35,7 +35,19 @@ module _ (cs : List Chunk) (identifier : ℕ) where
       go false t = simp t
 
   pub present-in : presentIn (placesOf cs) identifier ≡ (covered identifier && occurs identifier cs)
-  present-in = simp (present-one NAME, present-one INFO, present-one SONG, present-one INST, present-one PATT, present-one SMPL, present-one VENV, present-one PENV, or-assoc, and-or-distrib-right)
+  present-in =
+      simp (
+        present-one NAME,
+        present-one INFO,
+        present-one SONG,
+        present-one INST,
+        present-one PATT,
+        present-one SMPL,
+        present-one VENV,
+        present-one PENV,
+        or-assoc,
+        and-or-distrib-right,
+      )
 
 pub rules-placed : (m : List ℕ) (cs : List Chunk) (at : ℕ) → firstBroken (placedRules m at (placesOf cs)) ≡ firstBroken (chunkRules m cs at)
 rules-placed m cs at = rw (present-in cs (number32 m at), present-of INFO cs)
@@ -47,9 +59,12 @@ behind true false o x y z z′ h more = refl
 behind false true o x y z z′ h more = more h
 behind false false o x y z z′ h more = more refl
 
-more-of : (k : ℕ) (c : Chunk) (cs : List Chunk) → (eqb (c .identifier) k && occurs k cs) ≡ false → placeOf k (cs ++ (c ∷ [])) ≡ cond (eqb (c .identifier) k) (standing c) (placeOf k cs)
+more-of : (k : ℕ) (c : Chunk) (cs : List Chunk) → (eqb (c .identifier) k && occurs k cs) ≡ false
+    → placeOf k (cs ++ (c ∷ [])) ≡ cond (eqb (c .identifier) k) (standing c) (placeOf k cs)
 more-of k c [] h = refl
-more-of k c (d ∷ ds) h = behind (eqb (d .identifier) k) (eqb (c .identifier) k) (occurs k ds) (standing d) (standing c) (placeOf k ds) (placeOf k (ds ++ (c ∷ []))) h (more-of k c ds)
+more-of k c (d ∷ ds) h =
+    behind (eqb (d .identifier) k) (eqb (c .identifier) k) (occurs k ds) (standing d) (standing c) (placeOf k ds)
+    (placeOf k (ds ++ (c ∷ []))) h (more-of k c ds)
 
 module _ (c : Chunk) (cs : List Chunk) (new : (covered (c .identifier) && occurs (c .identifier) cs) ≡ false) where
   not-before : (k : ℕ) → covered k ≡ true → (eqb (c .identifier) k && occurs k cs) ≡ false
@@ -66,4 +81,14 @@ module _ (c : Chunk) (cs : List Chunk) (new : (covered (c .identifier) && occurs
   more-places k is = more-of k c cs (not-before k is)
 
   pub put-more : putIn (placesOf cs) (c .identifier) (standing c) ≡ placesOf (cs ++ (c ∷ []))
-  put-more = simp (more-places NAME refl, more-places INFO refl, more-places SONG refl, more-places INST refl, more-places PATT refl, more-places SMPL refl, more-places VENV refl, more-places PENV refl)
+  put-more =
+      simp (
+        more-places NAME refl,
+        more-places INFO refl,
+        more-places SONG refl,
+        more-places INST refl,
+        more-places PATT refl,
+        more-places SMPL refl,
+        more-places VENV refl,
+        more-places PENV refl,
+      )

@@ -21,7 +21,8 @@ use Rattle.layout.proofs.ChunksBefore.{rules-placed, put-more}
 use Rattle.layout.proofs.Others.{other-end, other-holds, other-stays}
 
 -- An accepted chunk is no second one of a covered kind.
-not-repeated : (m : List ℕ) (before : List Chunk) (at : ℕ) → firstBroken (chunkRules m before at) ≡ Accepted → (covered (number32 m at) && occurs (number32 m at) before) ≡ false
+not-repeated : (m : List ℕ) (before : List Chunk) (at : ℕ) → firstBroken (chunkRules m before at) ≡ Accepted
+    → (covered (number32 m at) && occurs (number32 m at) before) ≡ false
 not-repeated m before at e = not-true (covered (number32 m at) && occurs (number32 m at) before) (rules-held (chunkRules m before at) e .1 .1 .1 .0)
 
 -- Where the loop stands: behind these chunks, with steps enough to come to the end.
@@ -42,7 +43,9 @@ unfolding chunksFrom
 chunks-end zero m before at h = refl
 chunks-end (suc steps) m before at h = simp (le-leb _ _ h)
 
-chunks-next : (steps : ℕ) (m : List ℕ) (before : List Chunk) (at : ℕ) → at < length m → chunksFrom (suc steps) m before at ≡ goOn (firstBroken (chunkRules m before at)) (chunksFrom steps m (before ++ (chunkAt m at ∷ [])) (chunkEnd (chunkAt m at)))
+chunks-next : (steps : ℕ) (m : List ℕ) (before : List Chunk) (at : ℕ) → at < length m
+    → chunksFrom (suc steps) m before at
+    ≡ goOn (firstBroken (chunkRules m before at)) (chunksFrom steps m (before ++ (chunkAt m at ∷ [])) (chunkEnd (chunkAt m at)))
 unfolding chunksFrom
 chunks-next steps m before at h = simp (lt-leb (length m) at h)
 
@@ -53,24 +56,31 @@ module _ (m : List ℕ) (p : Places) (at : ℕ) (w : Walking m p at) where
   by-chunks : (v : Verdict) → firstBroken (placedRules m at p) ≡ v → firstBroken (chunkRules m (w .before) at) ≡ v
   by-chunks v e = sym (rules-placed m (w .before) at) ∙ ap (λ (q : Places). firstBroken (placedRules m at q)) (sym (w .placed)) ∙ e
 
-  walking-step : at < length m → (v : Verdict) → firstBroken (placedRules m at p) ≡ v → (steps : ℕ) × (suc steps ≡ w .steps) × (goOn v (chunksFrom steps m (w .before ++ (chunkAt m at ∷ [])) (chunkEnd (chunkAt m at))) ≡ chunks m)
+  walking-step : at < length m → (v : Verdict) → firstBroken (placedRules m at p) ≡ v
+      → (steps : ℕ) × (suc steps ≡ w .steps) × (goOn v (chunksFrom steps m (w .before ++ (chunkAt m at ∷ [])) (chunkEnd (chunkAt m at))) ≡ chunks m)
   walking-step h v e = go (w .steps) refl
     where
-      go : (steps : ℕ) → w .steps ≡ steps → (s : ℕ) × (suc s ≡ w .steps) × (goOn v (chunksFrom s m (w .before ++ (chunkAt m at ∷ [])) (chunkEnd (chunkAt m at))) ≡ chunks m)
+      go : (steps : ℕ) → w .steps ≡ steps
+          → (s : ℕ) × (suc s ≡ w .steps) × (goOn v (chunksFrom s m (w .before ++ (chunkAt m at ∷ [])) (chunkEnd (chunkAt m at))) ≡ chunks m)
       go zero q = absurd (omega (arith, w .enough))
       go (suc s) q = (s, sym q, rw (← by-chunks v e, ← chunks-next s m (w .before) at h, ← q) (w .same))
 
   pub walking-refused : at < length m → (r : Refusal) → firstBroken (placedRules m at p) ≡ Refused r → walked (chunks m) ≡ WalkRefused r
   walking-refused h r e = sym (ap walked (walking-step h (Refused r) e .2))
 
-  pub walking-turn : at < length m → firstBroken (placedRules m at p) ≡ Accepted → (p′ : Places) → p′ ≡ putIn p (number32 m at) (standing (chunkAt m at)) → Walking m p′ (at + 8 + number32 m (at + 4))
+  pub walking-turn : at < length m → firstBroken (placedRules m at p) ≡ Accepted → (p′ : Places)
+      → p′ ≡ putIn p (number32 m at) (standing (chunkAt m at))
+      → Walking m p′ (at + 8 + number32 m (at + 4))
   walking-turn h e p′ put =
       let next = walking-step h Accepted e in
       record {
         steps = next .0;
         before = w .before ++ (chunkAt m at ∷ []);
         enough = omega (arith, w .enough, next .1);
-        placed = put ∙ ap (λ (q : Places). putIn q (number32 m at) (standing (chunkAt m at))) (w .placed) ∙ put-more (chunkAt m at) (w .before) (not-repeated m (w .before) at (by-chunks Accepted e));
+        placed =
+            put
+            ∙ ap (λ (q : Places). putIn q (number32 m at) (standing (chunkAt m at))) (w .placed)
+            ∙ put-more (chunkAt m at) (w .before) (not-repeated m (w .before) at (by-chunks Accepted e));
         same = next .2;
       }
 
@@ -79,4 +89,5 @@ pub walking-others : (m : List ℕ) (p : Places) (n at end : ℕ) → OthersTo m
 walking-others m p zero at end e w = rw (← e) w
 walking-others m p (suc n) at end (is, more) w =
     let behind : at + 8 + number32 m (at + 4) ≤ length m = other-end m at is in
-    walking-others m p n (at + 8 + number32 m (at + 4)) end more (walking-turn m p at w (omega (arith, behind)) (other-holds m at is p) p (other-stays m at is p (standing (chunkAt m at))))
+    walking-others m p n (at + 8 + number32 m (at + 4)) end more
+    (walking-turn m p at w (omega (arith, behind)) (other-holds m at is p) p (other-stays m at is p (standing (chunkAt m at))))

@@ -32,7 +32,16 @@ placeOf identifier [] = absent
 placeOf identifier (c ∷ cs) = cond (eqb (c .identifier) identifier) (standing c) (placeOf identifier cs)
 
 abbrev pub placesOf : List Chunk → Places
-placesOf cs = record { name = placeOf NAME cs; info = placeOf INFO cs; song = placeOf SONG cs; inst = placeOf INST cs; patt = placeOf PATT cs; smpl = placeOf SMPL cs; venv = placeOf VENV cs; penv = placeOf PENV cs }
+placesOf cs = record {
+  name = placeOf NAME cs;
+  info = placeOf INFO cs;
+  song = placeOf SONG cs;
+  inst = placeOf INST cs;
+  patt = placeOf PATT cs;
+  smpl = placeOf SMPL cs;
+  venv = placeOf VENV cs;
+  penv = placeOf PENV cs;
+}
 
 -- M3, M9: version and revision stand in the header, the five numbers in INFO's data.
 abbrev pub layoutWith : List ℕ → Places → Layout

@@ -20,7 +20,14 @@ use Rattle.layout.specs.declared.walk.Walked.the-variants.{Whole, Refuse
 
 abbrev pub presentIn : Places → ℕ → Bool
 presentIn p identifier =
-    (eqb identifier NAME && p .name .present) || ((eqb identifier INFO && p .info .present) || ((eqb identifier SONG && p .song .present) || ((eqb identifier INST && p .inst .present) || ((eqb identifier PATT && p .patt .present) || ((eqb identifier SMPL && p .smpl .present) || ((eqb identifier VENV && p .venv .present) || (eqb identifier PENV && p .penv .present)))))))
+    (eqb identifier NAME && p .name .present)
+    || ((eqb identifier INFO && p .info .present)
+    || ((eqb identifier SONG && p .song .present)
+    || ((eqb identifier INST && p .inst .present)
+    || ((eqb identifier PATT && p .patt .present)
+    || ((eqb identifier SMPL && p .smpl .present)
+    || ((eqb identifier VENV && p .venv .present)
+    || (eqb identifier PENV && p .penv .present)))))))
 
 abbrev pub putIn : Places → ℕ → Place → Places
 putIn p identifier place = record {

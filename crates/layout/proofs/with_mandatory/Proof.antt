@@ -4,10 +4,14 @@ use Rattle.layout.proofs.with_mandatory.Statement.{statement}
 use Rattle.layout.proofs.with_mandatory.Tie as tie
 
 returns : tie.Need-returns
-returns c = simp (← c .before .before .all-present .ensures, not-true (c .before .before .all-present .result) (c .before .if1 .taken), c .refuse .ensures)
+returns c =
+    let all-present = c .before .before .all-present in
+    simp (← all-present .ensures, not-true (all-present .result) (c .before .if1 .taken), c .refuse .ensures)
 
 returns-2 : tie.Need-returns-2
-returns-2 c = simp (← c .before .before .all-present .ensures, not-false (c .before .before .all-present .result) (c .before .if1 .left), c .layout-with .ensures)
+returns-2 c =
+    let all-present = c .before .before .all-present in
+    simp (← all-present .ensures, not-false (all-present .result) (c .before .if1 .left), c .layout-with .ensures)
 
 pub with-mandatory-spec : {M : Type 1} → statement M
 with-mandatory-spec =
