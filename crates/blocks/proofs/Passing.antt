@@ -23,7 +23,9 @@ passing-first = record { same = refl; room = omega arith }
 
 module _ {rules : ℕ → List Rule} {size : ℕ → ℕ} {n start left at : ℕ} (p : Passing rules size n start left at) where
   -- The rules of this place, and then those of the next.
-  ahead : 0 < left → firstBroken (rules at ++ rulesOfEach rules (placesFrom size (left - 1) (at + size at))) ≡ firstBroken (rulesOfEach rules (placesFrom size n start))
+  ahead : 0 < left
+      → firstBroken (rules at ++ rulesOfEach rules (placesFrom size (left - 1) (at + size at)))
+      ≡ firstBroken (rulesOfEach rules (placesFrom size n start))
   ahead some = let e : left ≡ suc (left - 1) = omega arith in rw e at (p .same)
 
   pub passing-turn : {s : ℕ} → 0 < left → firstBroken (rules at) ≡ Accepted → (s ≡ size at) × (s < 0x800000000) → Passing rules size n start (left - 1) (at + s)
@@ -38,16 +40,25 @@ module _ {rules : ℕ → List Rule} {size : ℕ → ℕ} {n start left at : ℕ
     all : firstBroken (rulesOfEach rules (placesFrom size n start)) ≡ firstBroken (rulesOfEach rules (placesFrom size count begin))
     all = rw (counted, begun) refl
 
-    pub passing-stopped : {r told : Refusal} → 0 < left → firstBroken (rules at) ≡ Refused r → told ≡ r → Refused told ≡ firstBroken (rulesOfEach rules (placesFrom size count begin))
-    passing-stopped some refused e = ap Refused e ∙ sym (broken-stopped (rulesOfEach rules (placesFrom size (left - 1) (at + size at))) (rules at) refused) ∙ ahead some ∙ all
+    pub passing-stopped : {r told : Refusal} → 0 < left → firstBroken (rules at) ≡ Refused r → told ≡ r
+        → Refused told ≡ firstBroken (rulesOfEach rules (placesFrom size count begin))
+    passing-stopped some refused e =
+        ap Refused e
+        ∙ sym (broken-stopped (rulesOfEach rules (placesFrom size (left - 1) (at + size at))) (rules at) refused)
+        ∙ ahead some
+        ∙ all
 
     pub passing-last : left ≤ 0 → Accepted ≡ firstBroken (rulesOfEach rules (placesFrom size count begin))
     passing-last none = let e : left ≡ 0 = omega arith in (rw e at (p .same)) ∙ all
 
 -- The same where one rule stands at each place.
-module _ {holds : ℕ → Bool} {cause : Cause} {place size : ℕ → ℕ} {n start left at : ℕ} (p : Passing (λ at. rule (holds at) cause (place at) ∷ []) size n start left at) where
-  pub rule-turn : {s : ℕ} → 0 < left → holds at ≡ true → (s ≡ size at) × (s < 0x800000000) → Passing (λ at. rule (holds at) cause (place at) ∷ []) size n start (left - 1) (at + s)
+module _ {holds : ℕ → Bool} {cause : Cause} {place size : ℕ → ℕ} {n start left at : ℕ}
+    (p : Passing (λ at. rule (holds at) cause (place at) ∷ []) size n start left at) where
+  pub rule-turn : {s : ℕ} → 0 < left → holds at ≡ true → (s ≡ size at) × (s < 0x800000000)
+      → Passing (λ at. rule (holds at) cause (place at) ∷ []) size n start (left - 1) (at + s)
   rule-turn some held sized = passing-turn p some (rw held) sized
 
-  pub rule-stopped : {count begin : ℕ} {told : Refusal} → n ≡ count → start ≡ begin → 0 < left → holds at ≡ false → told ≡ refusal cause (place at) → Refused told ≡ firstBroken (rulesOfEach (λ at. rule (holds at) cause (place at) ∷ []) (placesFrom size count begin))
+  pub rule-stopped : {count begin : ℕ} {told : Refusal} → n ≡ count → start ≡ begin → 0 < left → holds at ≡ false
+      → told ≡ refusal cause (place at)
+      → Refused told ≡ firstBroken (rulesOfEach (λ at. rule (holds at) cause (place at) ∷ []) (placesFrom size count begin))
   rule-stopped counted begun some failed e = passing-stopped p counted begun some (rw failed) e

@@ -5,7 +5,9 @@ use Rattle.layout.specs.declared.Layout.{Layout}
 use Rattle.layout.specs.declared.Place.{Place}
 use Rattle.blocks.specs.Sizes.{envelopeCount}
 use Rattle.blocks.specs.declared.Kind.{Kind}
-use Rattle.blocks.specs.declared.Kind.the-variants.{Song as SongKind, Instrument as InstrumentKind, Pattern as PatternKind, Sample as SampleKind, Envelope as EnvelopeKind}
+use Rattle.blocks.specs.declared.Kind.the-variants.{Song as SongKind, Instrument as InstrumentKind}
+use Rattle.blocks.specs.declared.Kind.the-variants.{Pattern as PatternKind, Sample as SampleKind}
+use Rattle.blocks.specs.declared.Kind.the-variants.{Envelope as EnvelopeKind}
 use Rattle.blocks.specs.declared.Thing.{Thing}
 use Rattle.blocks.specs.declared.Thing.the-variants.{Song, Instrument, Pattern, Sample, VolumeEnvelope, PanningEnvelope}
 

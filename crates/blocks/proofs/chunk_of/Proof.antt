@@ -26,4 +26,5 @@ returns-6 c = rw (c .before .enum-told6 .given .1)
 pub chunk-of-spec : {M : Type 1} → statement M
 chunk-of-spec =
     tie.close
-    (tie.spec enum-told (λ c. search needs) (λ c. search needs) (λ c. search needs) (λ c. search needs) (λ c. search needs) returns returns-2 returns-3 returns-4 returns-5 returns-6)
+    (tie.spec enum-told (λ c. search needs) (λ c. search needs) (λ c. search needs) (λ c. search needs) (λ c. search needs)
+    returns returns-2 returns-3 returns-4 returns-5 returns-6)

@@ -7,7 +7,9 @@ returns : tie.Need-returns
 returns c = rw (not-true (c .before .before .before .args .chunk .present) (c .if1 .taken))
 
 returns-2 : tie.Need-returns-2
-returns-2 c = simp (c .fills .ensures, c .before .envelope-count .ensures, not-false (c .before .before .before .before .before .args .chunk .present) (c .before .before .if1 .left))
+returns-2 c =
+    let entry = c .before .before .before .before .before in
+    simp (c .fills .ensures, c .before .envelope-count .ensures, not-false (entry .args .chunk .present) (c .before .before .if1 .left))
 
 pub envelopes-fill-spec : {M : Type 1} → statement M
 envelopes-fill-spec = tie.close (tie.spec returns (λ c κs. search needs) (λ c κs. search needs) returns-2)

@@ -11,7 +11,11 @@ add-result : tie.Need-add-result
 add-result c = omega (arith, frames-below (c .before .args .frames) (c .width .result) (search needs) (c .width .ensures .1))
 
 returns : tie.Need-returns
-returns c = (rw (c .width .ensures .0), omega (arith, frames-below (c .before .args .frames) (c .width .result) (search needs) (c .width .ensures .1)))
+returns c =
+    let width = c .width in (
+      rw (width .ensures .0),
+      omega (arith, frames-below (c .before .args .frames) (width .result) (search needs) (width .ensures .1)),
+    )
 
 pub sample-size-spec : {M : Type 1} → statement M
 sample-size-spec = tie.close (tie.spec (λ c κs. search needs) mul-result add-result returns)
