@@ -19,4 +19,5 @@ returns-2 c = rw (c .before .number32 .ensures, c .number322 .ensures)
 pub eight-bytes-spec : {M : Type 1} → statement M
 eight-bytes-spec =
     tie.close
-    (tie.spec returns (λ c κs. search needs) (λ c. search needs) (λ c. search needs) (λ c κs. search needs) (λ c. search needs) (λ c. search needs) (λ c. search needs) returns-2)
+    (tie.spec returns (λ c κs. search needs) (λ c. search needs) (λ c. search needs) (λ c κs. search needs)
+    (λ c. search needs) (λ c. search needs) (λ c. search needs) returns-2)

@@ -21,11 +21,17 @@ loop-holds c = (search needs, search needs, fill-none _ 170)
 loop-again : tie.Need-loop-again Inv-loop μ-loop
 loop-again c =
     let args = c .before .before .args in
-    let loop = c .before .loop in
-    (omega arith, search needs, ap (λ (l : List ℕ). set l (loop .i) 170) (loop .inv .2) ∙ fill-more (loop .i) 170 (args .out .now) (omega arith))
+    let loop = c .before .loop in (
+      omega arith,
+      search needs,
+      ap (λ (l : List ℕ). set l (loop .i) 170) (loop .inv .2) ∙ fill-more (loop .i) 170 (args .out .now) (omega arith),
+    )
 
 returns : tie.Need-returns Inv-loop μ-loop
-returns c = let e : c .before .loop .i ≡ length (c .before .before .args .out .now) = omega arith in c .before .loop .inv .2 ∙ rw (e, drop-length, append-nil)
+returns c =
+    let loop = c .before .loop in
+    let e : loop .i ≡ length (c .before .before .args .out .now) = omega arith in
+    loop .inv .2 ∙ rw (e, drop-length, append-nil)
 
 pub fill-spec : {M : Type 1} → statement M
 fill-spec =

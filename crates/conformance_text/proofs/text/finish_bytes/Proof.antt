@@ -12,7 +12,8 @@ returns c =
     let put = c .before .before .before .before .before .before .before .before .before .before .put in
     let put-hex = c .before .before .before .before .before .before .put-hex in
     let finish = c .before .before .finish in
-    let both = both-put (args .line .now) (args .at) (32 ∷ []) (hexText (args .bytes .now)) (put .ensures) (put-hex .ensures) in
+    let both =
+    both-put (args .line .now) (args .at) (32 ∷ []) (hexText (args .bytes .now)) (put .ensures) (put-hex .ensures) in
     finish .ensures ∙ going-on (args .line .now) (args .at) (32 ∷ hexText (args .bytes .now)) newline both .same
 
 pub finish-bytes-spec : {M : Type 1} → statement M

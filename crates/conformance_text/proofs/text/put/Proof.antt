@@ -24,17 +24,26 @@ loop-again : tie.Need-loop-again Inv-loop μ-loop
 loop-again c =
     let args = c .before .before .before .before .before .before .before .before .args in
     let within = c .before .before .before .before .within in
-    let loop = c .before .before .loop in
-    (search needs, search needs, put-turn (args .line .now) (args .at) (args .text .now) (within .result) (loop .line) (loop .i) (loop .inv .2) (omega arith))
+    let loop = c .before .before .loop in (
+      search needs,
+      search needs,
+      put-turn (args .line .now) (args .at) (args .text .now) (within .result) (loop .line) (loop .i) (loop .inv .2)
+          (omega arith),
+    )
 
 returns : tie.Need-returns Inv-loop μ-loop
 returns c =
     let args = c .before .before .before .before .before .before .before .args in
     let within = c .before .before .before .within in
-    let loop = c .before .loop in
-    (omega arith, put-last (args .line .now) (args .at) (args .text .now) (within .result) (loop .line) (loop .i) (loop .inv .2) (omega arith) (omega arith))
+    let loop = c .before .loop in (
+      omega arith,
+      put-last (args .line .now) (args .at) (args .text .now) (within .result) (loop .line) (loop .i) (loop .inv .2)
+          (omega arith) (omega arith),
+    )
 
 pub put-spec : {M : Type 1} → statement M
 put-spec =
     tie.close
-    (tie.spec Inv-loop μ-loop (λ c κs. search needs) (λ c. search needs) (λ c κs. search needs) loop-holds (λ c. search needs) (λ c. search needs) (λ c. search needs) (λ c. search needs) (λ c. search needs) loop-again (λ c. search needs) (λ c. search needs) returns)
+    (tie.spec Inv-loop μ-loop (λ c κs. search needs) (λ c. search needs) (λ c κs. search needs) loop-holds (λ c. search needs)
+    (λ c. search needs) (λ c. search needs) (λ c. search needs) (λ c. search needs) loop-again (λ c. search needs)
+    (λ c. search needs) returns)

@@ -31,9 +31,11 @@ returns : tie.Need-returns Inv-loop μ-loop
 returns c =
     let args = c .before .before .before .before .args in
     let loop = c .before .loop in
-    going-end (args .line .now) (args .at) (numbersText (args .numbers .now)) spaced (args .numbers .now) (loop .i) (omega arith) (loop .inv .1)
+    going-end (args .line .now) (args .at) (numbersText (args .numbers .now)) spaced (args .numbers .now) (loop .i)
+    (omega arith) (loop .inv .1)
 
 pub put-numbers-spec : {M : Type 1} → statement M
 put-numbers-spec =
     tie.close
-    (tie.spec Inv-loop μ-loop loop-holds (λ c. search needs) (λ c. search needs) (λ c. search needs) (λ c κs. search needs) (λ c. search needs) (λ c. search needs) loop-again (λ c. search needs) returns)
+    (tie.spec Inv-loop μ-loop loop-holds (λ c. search needs) (λ c. search needs) (λ c. search needs) (λ c κs. search needs)
+    (λ c. search needs) (λ c. search needs) loop-again (λ c. search needs) returns)
