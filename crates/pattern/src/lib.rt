@@ -32,7 +32,8 @@ pub extern "C" fn dbm0_unpack_pattern(
     tracks: usize,
     out: &mut [u8],
 ) -> LengthAnswer
-    ensures { λ r. ⌜ (lengthNumbers r ≡ unpackingNumbers (unpackAnswer (now (stream .entry)) rows tracks (length (now (out .entry))))) × (now (out .exit) ≡ unpackOutput (now (stream .entry)) rows tracks (now (out .entry))) ⌝ }
+    ensures { λ r. ⌜ (lengthNumbers r ≡ unpackingNumbers (unpackAnswer (now (stream .entry)) rows tracks (length (now (out .entry)))))
+        × (now (out .exit) ≡ unpackOutput (now (stream .entry)) rows tracks (now (out .entry))) ⌝ }
 {
     match packed_rows::unpack(stream, rows, tracks, out) {
         Unpacking::Unpacked(n) => written(n),
@@ -48,7 +49,8 @@ pub extern "C" fn dbm0_pack_pattern(
     tracks: usize,
     out: &mut [u8],
 ) -> LengthAnswer
-    ensures { λ r. ⌜ (lengthNumbers r ≡ packingNumbers (packAnswer (now (cells .entry)) rows tracks (length (now (out .entry))))) × (now (out .exit) ≡ packOutput (now (cells .entry)) rows tracks (now (out .entry))) ⌝ }
+    ensures { λ r. ⌜ (lengthNumbers r ≡ packingNumbers (packAnswer (now (cells .entry)) rows tracks (length (now (out .entry)))))
+        × (now (out .exit) ≡ packOutput (now (cells .entry)) rows tracks (now (out .entry))) ⌝ }
 {
     match packed_rows::pack(cells, rows, tracks, out) {
         Packing::Packed(n) => written(n),

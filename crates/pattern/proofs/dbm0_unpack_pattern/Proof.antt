@@ -6,12 +6,23 @@ use Rattle.pattern.proofs.dbm0_unpack_pattern.Statement.{statement}
 use Rattle.pattern.proofs.dbm0_unpack_pattern.Tie as tie
 
 returns : tie.Need-returns
-returns c = (ap lengthNumbers (c .written .ensures) ∙ sym (ap unpackingNumbers (sym (c .before .before .before .before .before .before .unpack .ensures .0 .0) ∙ c .before .before .n .given .1)), c .before .before .before .before .before .before .unpack .ensures .1)
+returns c =
+    let unpack = c .before .before .before .before .before .before .unpack in (
+      ap lengthNumbers (c .written .ensures)
+          ∙ sym (ap unpackingNumbers (sym (unpack .ensures .0 .0) ∙ c .before .before .n .given .1)),
+      unpack .ensures .1,
+    )
 
 returns-2 : tie.Need-returns-2
-returns-2 c = (ap lengthNumbers (c .refused .ensures) ∙ sym (ap unpackingNumbers (sym (c .before .before .before .before .before .before .unpack .ensures .0 .0) ∙ c .before .before .r .given .1)), c .before .before .before .before .before .before .unpack .ensures .1)
+returns-2 c =
+    let unpack = c .before .before .before .before .before .before .unpack in (
+      ap lengthNumbers (c .refused .ensures)
+          ∙ sym (ap unpackingNumbers (sym (unpack .ensures .0 .0) ∙ c .before .before .r .given .1)),
+      unpack .ensures .1,
+    )
 
 pub dbm0-unpack-pattern-spec : {M : Type 1} → statement M
 dbm0-unpack-pattern-spec =
     tie.close
-    (tie.spec (λ c κs. search needs) (λ c. search needs) (λ c κs. search needs) (λ c. search needs) (λ c κs. search needs) (λ c. search needs) returns (λ c. search needs) returns-2)
+    (tie.spec (λ c κs. search needs) (λ c. search needs) (λ c κs. search needs) (λ c. search needs) (λ c κs. search needs)
+    (λ c. search needs) returns (λ c. search needs) returns-2)
