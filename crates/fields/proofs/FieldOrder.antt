@@ -29,19 +29,30 @@ module _ (m : List ℕ) (l : Layout) where
   panningPart = rulesOfEach (envelopeRules m (l .instruments) (eqb (l .version) 3)) (envelopeBlocks m (l .places .penv))
 
 -- An envelope: its head, its points, its values.
+abbrev rulesAfterHead : List ℕ → Bool → ℕ → List Rule
+rulesAfterHead m signed at =
+    envelopePointRules m (envelopeFlags m at) (envelopeSections m at) at ++ valuesRules m signed (envelopeSections m at) at
+
 module _ (m : List ℕ) (instruments : ℕ) (signed : Bool) (at : ℕ) {head : Verdict} (head-is : head ≡ firstBroken (envelopeHeadRules m instruments at)) where
   pub head-stopped : {r : Refusal} → head ≡ Refused r → Refused r ≡ firstBroken (envelopeRules m instruments signed at)
-  head-stopped e = rules-stopped (envelopeHeadRules m instruments at) (envelopePointRules m (envelopeFlags m at) (envelopeSections m at) at ++ valuesRules m signed (envelopeSections m at) at) head-is e
+  head-stopped e = rules-stopped (envelopeHeadRules m instruments at) (rulesAfterHead m signed at) head-is e
 
-  module _ {flags sections : ℕ} {points : Verdict} (head-passed : head ≡ Accepted) (flags-are : flags ≡ envelopeFlags m at) (sections-are : sections ≡ envelopeSections m at) (points-are : points ≡ firstBroken (envelopePointRules m flags sections at)) where
+  module _ {flags sections : ℕ} {points : Verdict} (head-passed : head ≡ Accepted) (flags-are : flags ≡ envelopeFlags m at)
+      (sections-are : sections ≡ envelopeSections m at)
+      (points-are : points ≡ firstBroken (envelopePointRules m flags sections at)) where
     points-told : points ≡ firstBroken (envelopePointRules m (envelopeFlags m at) (envelopeSections m at) at)
     points-told = rw (← flags-are, ← sections-are) points-are
 
-    behind-head : {v : Verdict} → v ≡ firstBroken (envelopePointRules m (envelopeFlags m at) (envelopeSections m at) at ++ valuesRules m signed (envelopeSections m at) at) → v ≡ firstBroken (envelopeRules m instruments signed at)
-    behind-head e = rules-passed (envelopeHeadRules m instruments at) (envelopePointRules m (envelopeFlags m at) (envelopeSections m at) at ++ valuesRules m signed (envelopeSections m at) at) head-is head-passed e
+    behind-head : {v : Verdict} → v ≡ firstBroken (rulesAfterHead m signed at) → v ≡ firstBroken (envelopeRules m instruments signed at)
+    behind-head e = rules-passed (envelopeHeadRules m instruments at) (rulesAfterHead m signed at) head-is head-passed e
 
     pub points-stopped : {r : Refusal} → points ≡ Refused r → Refused r ≡ firstBroken (envelopeRules m instruments signed at)
-    points-stopped e = behind-head (rules-stopped (envelopePointRules m (envelopeFlags m at) (envelopeSections m at) at) (valuesRules m signed (envelopeSections m at) at) points-told e)
+    points-stopped e =
+        behind-head (rules-stopped (envelopePointRules m (envelopeFlags m at) (envelopeSections m at) at)
+        (valuesRules m signed (envelopeSections m at) at) points-told e)
 
-    pub values-told : {v : Verdict} → points ≡ Accepted → v ≡ firstBroken (valuesRules m signed sections at) → v ≡ firstBroken (envelopeRules m instruments signed at)
-    values-told e values-are = behind-head (rules-passed (envelopePointRules m (envelopeFlags m at) (envelopeSections m at) at) (valuesRules m signed (envelopeSections m at) at) points-told e (rw (← sections-are) values-are))
+    pub values-told : {v : Verdict} → points ≡ Accepted → v ≡ firstBroken (valuesRules m signed sections at)
+        → v ≡ firstBroken (envelopeRules m instruments signed at)
+    values-told e values-are =
+        behind-head (rules-passed (envelopePointRules m (envelopeFlags m at) (envelopeSections m at) at)
+        (valuesRules m signed (envelopeSections m at) at) points-told e (rw (← sections-are) values-are))

@@ -17,10 +17,16 @@ loop-holds : tie.Need-loop-holds Inv-loop μ-loop
 loop-holds c = passing-first
 
 returns : tie.Need-returns Inv-loop μ-loop
-returns c = passing-stopped (c .before .before .before .before .loop .inv) (c .before .before .before .before .before .song-length .ensures) refl (c .before .before .before .loop-test .taken) (simp (← c .before .before .number16 .ensures, le-ltb _ _ (c .before .if1 .taken))) (c .refuse .ensures)
+returns c =
+    let song-length = c .before .before .before .before .before .song-length in
+    let loop = c .before .before .before .before .loop in
+    passing-stopped (loop .inv) (song-length .ensures) refl (c .before .before .before .loop-test .taken)
+    (simp (← c .before .before .number16 .ensures, le-ltb _ _ (c .before .if1 .taken))) (c .refuse .ensures)
 
 loop-again : tie.Need-loop-again Inv-loop μ-loop
-loop-again c = passing-turn (c .before .before .before .loop .inv) (c .before .before .loop-test .taken) (simp (← c .before .number16 .ensures, lt-ltb _ _ (c .if1 .left))) (refl, omega arith)
+loop-again c =
+    passing-turn (c .before .before .before .loop .inv) (c .before .before .loop-test .taken)
+    (simp (← c .before .number16 .ensures, lt-ltb _ _ (c .if1 .left))) (refl, omega arith)
 
 returns-2 : tie.Need-returns-2 Inv-loop μ-loop
 returns-2 c = passing-last (c .before .loop .inv) (c .before .before .song-length .ensures) refl (c .loop-test .left)
@@ -28,4 +34,5 @@ returns-2 c = passing-last (c .before .loop .inv) (c .before .before .song-lengt
 pub check-song-spec : {M : Type 1} → statement M
 check-song-spec =
     tie.close
-    (tie.spec Inv-loop μ-loop (λ c. search needs) (λ c κs. search needs) loop-holds (λ c κs. search needs) (λ c κs. search needs) returns (λ c. search needs) (λ c. search needs) (λ c. search needs) loop-again returns-2)
+    (tie.spec Inv-loop μ-loop (λ c. search needs) (λ c κs. search needs) loop-holds (λ c κs. search needs)
+    (λ c κs. search needs) returns (λ c. search needs) (λ c. search needs) (λ c. search needs) loop-again returns-2)

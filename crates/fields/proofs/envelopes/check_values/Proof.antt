@@ -17,10 +17,21 @@ loop-holds : tie.Need-loop-holds Inv-loop μ-loop
 loop-holds c = passing-first
 
 returns : tie.Need-returns Inv-loop μ-loop
-returns c = passing-stopped (c .before .before .before .before .before .loop .inv) refl refl (c .before .before .before .before .loop-test .taken) (simp (← c .before .before .before .number16 .ensures, ← c .before .before .value-fits .ensures, not-true (c .before .before .value-fits .result) (c .before .if1 .taken))) (c .refuse .ensures)
+returns c =
+    let loop = c .before .before .before .before .before .loop in
+    let loop-test = c .before .before .before .before .loop-test in
+    let value-fits = c .before .before .value-fits in
+    passing-stopped (loop .inv) refl refl (loop-test .taken)
+    (simp (← c .before .before .before .number16 .ensures, ← value-fits .ensures, not-true (value-fits .result) (c .before .if1 .taken)))
+    (c .refuse .ensures)
 
 loop-again : tie.Need-loop-again Inv-loop μ-loop
-loop-again c = passing-turn (c .before .before .before .before .loop .inv) (c .before .before .before .loop-test .taken) (simp (← c .before .before .number16 .ensures, ← c .before .value-fits .ensures, not-false (c .before .value-fits .result) (c .if1 .left))) (refl, omega arith)
+loop-again c =
+    let loop = c .before .before .before .before .loop in
+    let value-fits = c .before .value-fits in
+    passing-turn (loop .inv) (c .before .before .before .loop-test .taken)
+    (simp (← c .before .before .number16 .ensures, ← value-fits .ensures, not-false (value-fits .result) (c .if1 .left)))
+    (refl, omega arith)
 
 returns-2 : tie.Need-returns-2 Inv-loop μ-loop
 returns-2 c = passing-last (c .before .loop .inv) refl refl (c .loop-test .left)
@@ -28,4 +39,6 @@ returns-2 c = passing-last (c .before .loop .inv) refl refl (c .loop-test .left)
 pub check-values-spec : {M : Type 1} → statement M
 check-values-spec =
     tie.close
-    (tie.spec Inv-loop μ-loop (λ c. search needs) (λ c. search needs) loop-holds (λ c. search needs) (λ c κs. search needs) (λ c κs. search needs) (λ c. search needs) (λ c κs. search needs) returns (λ c. search needs) (λ c. search needs) (λ c. search needs) loop-again returns-2)
+    (tie.spec Inv-loop μ-loop (λ c. search needs) (λ c. search needs) loop-holds (λ c. search needs) (λ c κs. search needs)
+    (λ c κs. search needs) (λ c. search needs) (λ c κs. search needs) returns (λ c. search needs) (λ c. search needs)
+    (λ c. search needs) loop-again returns-2)
