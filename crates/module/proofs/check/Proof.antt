@@ -10,7 +10,9 @@ returns : tie.Need-returns
 returns c = is-answer verdictNumbers (sym (ap verdictOf (c .enum-told .given .1)) ∙ ap verdictOf (c .before .before .«open» .ensures .0))
 
 returns-2 : tie.Need-returns-2
-returns-2 c = is-answer verdictNumbers (sym (ap verdictOf (c .before .r .given .1)) ∙ ap verdictOf (c .before .before .before .«open» .ensures .0))
+returns-2 c =
+    is-answer verdictNumbers
+    (sym (ap verdictOf (c .before .r .given .1)) ∙ ap verdictOf (c .before .before .before .«open» .ensures .0))
 
 pub check-spec : {M : Type 1} → statement M
 check-spec = tie.close (tie.spec (λ c κs. search needs) (λ c. search needs) (λ c. search needs) returns returns-2)

@@ -16,18 +16,34 @@ loop-holds : tie.Need-loop-holds Inv-loop μ-loop
 loop-holds c = passing-first
 
 returns : tie.Need-returns Inv-loop μ-loop
-returns c = passing-stopped (c .before .before .before .before .before .loop .inv) refl (rw (c .before .before .before .before .before .before .before .kind-in .ensures) at (c .before .before .before .before .before .before .block-at .ensures .0)) (c .before .before .before .before .loop-test .taken) (sym (c .before .before .before .check-at .ensures) ∙ c .before .r .given .1) refl
+returns c =
+    let kind-in = c .before .before .before .before .before .before .before .kind-in in
+    let block-at = c .before .before .before .before .before .before .block-at in
+    let loop = c .before .before .before .before .before .loop in
+    let loop-test = c .before .before .before .before .loop-test in
+    passing-stopped (loop .inv) refl (rw (kind-in .ensures) at (block-at .ensures .0)) (loop-test .taken)
+    (sym (c .before .before .before .check-at .ensures) ∙ c .before .r .given .1) refl
 
 enum-told : tie.Need-enum-told Inv-loop μ-loop
 enum-told c = search needs
 
 loop-again : tie.Need-loop-again Inv-loop μ-loop
-loop-again c = passing-turn (c .before .before .before .before .before .loop .inv) (c .before .before .before .before .loop-test .taken) (sym (c .before .before .before .check-at .ensures) ∙ c .before .enum-told .given .1) (rw (c .before .before .before .before .before .before .before .kind-in .ensures) at (c .size .ensures .0), c .size .ensures .1)
+loop-again c =
+    let kind-in = c .before .before .before .before .before .before .before .kind-in in
+    let loop = c .before .before .before .before .before .loop in
+    let loop-test = c .before .before .before .before .loop-test in
+    passing-turn (loop .inv) (loop-test .taken)
+    (sym (c .before .before .before .check-at .ensures) ∙ c .before .enum-told .given .1)
+    (rw (kind-in .ensures) at (c .size .ensures .0), c .size .ensures .1)
 
 returns-2 : tie.Need-returns-2 Inv-loop μ-loop
-returns-2 c = passing-last (c .before .loop .inv) refl (rw (c .before .before .before .kind-in .ensures) at (c .before .before .block-at .ensures .0)) (c .loop-test .left)
+returns-2 c =
+    passing-last (c .before .loop .inv) refl
+    (rw (c .before .before .before .kind-in .ensures) at (c .before .before .block-at .ensures .0)) (c .loop-test .left)
 
 pub check-pass-spec : {M : Type 1} → statement M
 check-pass-spec =
     tie.close
-    (tie.spec Inv-loop μ-loop (λ c κs. search needs) (λ c κs. search needs) loop-holds (λ c κs. search needs) (λ c. search needs) returns enum-told (λ c κs. search needs) (λ c. search needs) (λ c. search needs) (λ c. search needs) loop-again returns-2)
+    (tie.spec Inv-loop μ-loop (λ c κs. search needs) (λ c κs. search needs) loop-holds (λ c κs. search needs)
+    (λ c. search needs) returns enum-told (λ c κs. search needs) (λ c. search needs) (λ c. search needs) (λ c. search needs)
+    loop-again returns-2)
