@@ -18,7 +18,10 @@ enough (suc steps) zero n h k = absurd (omega arith)
 enough (suc steps) (suc more) n h k =
     go (ltb n 10) refl (enough steps more (n / 10))
   where
-    go : (b : Bool) → ltb n 10 ≡ b → (n / 10 < steps → n / 10 < more → digitsWithin steps (n / 10) ≡ digitsWithin more (n / 10)) → cond b (digit n ∷ []) (digitsWithin steps (n / 10) ++ (digit (n % 10) ∷ [])) ≡ cond b (digit n ∷ []) (digitsWithin more (n / 10) ++ (digit (n % 10) ∷ []))
+    go : (b : Bool) → ltb n 10 ≡ b
+        → (n / 10 < steps → n / 10 < more → digitsWithin steps (n / 10) ≡ digitsWithin more (n / 10))
+        → cond b (digit n ∷ []) (digitsWithin steps (n / 10) ++ (digit (n % 10) ∷ []))
+        ≡ cond b (digit n ∷ []) (digitsWithin more (n / 10) ++ (digit (n % 10) ∷ []))
     go true e same = refl
     go false e same = let t : 10 ≤ n = ltb-false _ _ e in rw (same (omega arith) (omega arith))
 

@@ -13,7 +13,9 @@ use Rattle.listing_text.specs.Steps.{Put, countLines}
 use Rattle.listing_text.proofs.Decimals.{decimal-short, decimal-long, decimal-longer, decimal-some}
 
 -- One thing behind the other.
-pub put-both : {text₀ text₁ text₂ : List ℕ} {at next last : ℕ} (xs ys : List ℕ) → Put text₀ at xs text₁ next → Put text₁ next ys text₂ last → Put text₀ at (xs ++ ys) text₂ last
+pub put-both : {text₀ text₁ text₂ : List ℕ} {at next last : ℕ} (xs ys : List ℕ) → Put text₀ at xs text₁ next
+    → Put text₁ next ys text₂ last
+    → Put text₀ at (xs ++ ys) text₂ last
 put-both {text₀} {text₁} {text₂} {at} xs ys p q =
     record {
       place = omega (arith, length-append xs ys, p .place, q .place);
@@ -25,10 +27,16 @@ pub put-whole : (text₀ xs text : List ℕ) (next : ℕ) → length text ≡ le
 put-whole text₀ xs text next l p = sym (take-all next text (omega (arith, p .place))) ∙ p .front
 
 -- The seven lines of an accepted module, from the version, the five numbers and the length.
-pub seven : {text₀ text₁ text₂ text₃ : List ℕ} {first second last : ℕ} (l : Layout) (bytes : ℕ) → Put text₀ 0 (versionLine (l .version) (l .revision)) text₁ first → Put text₁ first (countLines (l .instruments) (l .samples) (l .songs) (l .patterns) (l .tracks)) text₂ second → Put text₂ second (numberLine (ascii "accepted ") bytes) text₃ last → Put text₀ 0 (acceptedLines l bytes) text₃ last
+pub seven : {text₀ text₁ text₂ text₃ : List ℕ} {first second last : ℕ} (l : Layout) (bytes : ℕ)
+    → Put text₀ 0 (versionLine (l .version) (l .revision)) text₁ first
+    → Put text₁ first (countLines (l .instruments) (l .samples) (l .songs) (l .patterns) (l .tracks)) text₂ second
+    → Put text₂ second (numberLine (ascii "accepted ") bytes) text₃ last
+    → Put text₀ 0 (acceptedLines l bytes) text₃ last
 seven {text₀} {text₃ = text₃} {last = last} l bytes p q r =
     subst (λ (lines : List ℕ). Put text₀ 0 (versionLine (l .version) (l .revision) ++ lines) text₃ last)
-    (behind (numberLine (ascii "instruments ") (l .instruments)) (numberLine (ascii "samples ") (l .samples)) (numberLine (ascii "songs ") (l .songs)) (numberLine (ascii "patterns ") (l .patterns)) (numberLine (ascii "tracks ") (l .tracks)) (numberLine (ascii "accepted ") bytes))
+    (behind (numberLine (ascii "instruments ") (l .instruments)) (numberLine (ascii "samples ") (l .samples))
+    (numberLine (ascii "songs ") (l .songs)) (numberLine (ascii "patterns ") (l .patterns))
+    (numberLine (ascii "tracks ") (l .tracks)) (numberLine (ascii "accepted ") bytes))
     (put-both (versionLine (l .version) (l .revision)) _ p (put-both (countLines (l .instruments) (l .samples) (l .songs) (l .patterns) (l .tracks)) _ q r))
   where
     behind : (a b c d e rest : List ℕ) → (a ++ (b ++ (c ++ (d ++ e)))) ++ rest ≡ a ++ (b ++ (c ++ (d ++ (e ++ rest))))
@@ -38,7 +46,9 @@ seven {text₀} {text₃ = text₃} {last = last} l bytes p q r =
 pub word-first : (text : List ℕ) (at : ℕ) (word : List ℕ) → Put text at (take 0 word) text (at + 0)
 word-first text at word = record { place = refl; front = rw (add-zero at) (sym (append-nil (take at text))) }
 
-pub word-turn : {text₀ text : List ℕ} {at : ℕ} (word : List ℕ) (i : ℕ) → i < length word → at + i < length text → Put text₀ at (take i word) text (at + i) → Put text₀ at (take (i + 1) word) (set text (at + i) (getD word i 0)) (at + (i + 1))
+pub word-turn : {text₀ text : List ℕ} {at : ℕ} (word : List ℕ) (i : ℕ) → i < length word → at + i < length text
+    → Put text₀ at (take i word) text (at + i)
+    → Put text₀ at (take (i + 1) word) (set text (at + i) (getD word i 0)) (at + (i + 1))
 word-turn {text₀} {text} {at} word i h k p =
     let more : take (i + 1) word ≡ take i word ++ (getD word i 0 ∷ []) = rw (add-one i) (take-suc word i 0 h) in
     let place : at + (i + 1) ≡ suc (at + i) = omega arith in
@@ -47,7 +57,9 @@ word-turn {text₀} {text} {at} word i h k p =
       front = rw (place, more, take-suc-set text (at + i) (getD word i 0) k, p .front) (append-assoc (take at text₀) (take i word) (getD word i 0 ∷ []));
     }
 
-pub word-last : {text₀ text : List ℕ} {at : ℕ} (word : List ℕ) (i : ℕ) → length word ≤ i → Put text₀ at (take i word) text (at + i) → Put text₀ at word text (at + i)
+pub word-last : {text₀ text : List ℕ} {at : ℕ} (word : List ℕ) (i : ℕ) → length word ≤ i
+    → Put text₀ at (take i word) text (at + i)
+    → Put text₀ at word text (at + i)
 word-last word i h p = rw (take-all i word h) at p
 
 -- A number's digits from behind: `rest` is still to be put, its last digit at `to`. Behind that stand the digits that are put.
@@ -68,7 +80,11 @@ module _ {text₀ : List ℕ} {at n : ℕ} where
         fits = h;
         place = behind;
         kept = refl;
-        done = rw (behind, drop-of-length-le (take (at + length (decimal n)) text₀) {i = at + length (decimal n)} (omega (arith, length-take-le (at + length (decimal n)) text₀ h))) (append-nil (decimal n));
+        done = rw (
+          behind,
+          drop-of-length-le (take (at + length (decimal n)) text₀) {i = at + length (decimal n)}
+              (omega (arith, length-take-le (at + length (decimal n)) text₀ h)),
+        ) (append-nil (decimal n));
       }
 
   module _ {text : List ℕ} {rest to : ℕ} where
@@ -76,7 +92,8 @@ module _ {text₀ : List ℕ} {at n : ℕ} where
     pub spelling-inside : Spelling text₀ at n text rest to → (at ≤ to) × (to < at + length (decimal n))
     spelling-inside s =
         let some = decimal-some rest in
-        let all : length (decimal rest) + length (drop (to + 1) (take (at + length (decimal n)) text)) ≡ length (decimal n) = sym (length-append (decimal rest) _) ∙ ap length (s .done) in
+        let all : length (decimal rest) + length (drop (to + 1) (take (at + length (decimal n)) text)) ≡ length (decimal n) =
+        sym (length-append (decimal rest) _) ∙ ap length (s .done) in
         (omega (arith, s .place), omega (arith, s .place))
 
     pub spelling-write : Spelling text₀ at n text rest to → to < length text
@@ -87,10 +104,12 @@ module _ {text₀ : List ℕ} {at n : ℕ} where
     spelling-more h s = let some = decimal-some (rest / 10) in let longer = decimal-longer rest h in omega (arith, s .place)
 
     -- What stands from there on, once a digit is put.
-    spelling-put : (d : ℕ) → Spelling text₀ at n text rest to → drop to (take (at + length (decimal n)) (set text to d)) ≡ d ∷ drop (to + 1) (take (at + length (decimal n)) text)
+    spelling-put : (d : ℕ) → Spelling text₀ at n text rest to
+        → drop to (take (at + length (decimal n)) (set text to d)) ≡ d ∷ drop (to + 1) (take (at + length (decimal n)) text)
     spelling-put d s =
         let inside = spelling-inside s in
-        let long : length (take (at + length (decimal n)) text) ≡ at + length (decimal n) = length-take-le (at + length (decimal n)) text (omega (arith, s .room, s .fits)) in
+        let long : length (take (at + length (decimal n)) text) ≡ at + length (decimal n) =
+        length-take-le (at + length (decimal n)) text (omega (arith, s .room, s .fits)) in
         rw (
           take-set-lt (at + length (decimal n)) text to d (inside .1),
           drop-cons (set (take (at + length (decimal n)) text) to d) to 0 (rw length-set (omega (arith, inside .1))),
@@ -118,9 +137,14 @@ module _ {text₀ : List ℕ} {at n : ℕ} where
         let inside = spelling-inside s in
         let one : length (decimal rest) ≡ 1 = ap length (decimal-short rest h) in
         let here : to ≡ at = omega (arith, s .place) in
-        let behind : drop at (take (at + length (decimal n)) (set text to (digit rest))) ≡ decimal n = ap (λ (k : ℕ). drop k (take (at + length (decimal n)) (set text to (digit rest)))) (sym here) ∙ (spelling-put (digit rest) s ∙ (rw (decimal-short rest h) at (s .done))) in
-        let before : take at (take (at + length (decimal n)) (set text to (digit rest))) ≡ take at text₀ = rw (take-take at (at + length (decimal n)) (set text to (digit rest)) (omega arith), take-set-le at text to (digit rest) (inside .0)) (s .kept) in
+        let spelled : List ℕ = take (at + length (decimal n)) (set text to (digit rest)) in
+        let behind : drop at spelled ≡ decimal n =
+        ap (λ (k : ℕ). drop k spelled) (sym here)
+        ∙ (spelling-put (digit rest) s ∙ (rw (decimal-short rest h) at (s .done))) in
+        let before : take at spelled ≡ take at text₀ =
+        rw (take-take at (at + length (decimal n)) (set text to (digit rest)) (omega arith), take-set-le at text to (digit rest) (inside .0))
+        (s .kept) in
         record {
           place = refl;
-          front = sym (take-append-drop at (take (at + length (decimal n)) (set text to (digit rest)))) ∙ rw (before, behind);
+          front = sym (take-append-drop at spelled) ∙ rw (before, behind);
         }

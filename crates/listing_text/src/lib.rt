@@ -34,7 +34,8 @@ fn put_listing(text: &mut [u8], m: &[u8]) -> usize
 
 // Hands out a text: 17.
 fn hand_out(text: &[u8], out: &mut [u8]) -> Listing
-    ensures { λ r. ⌜ (r ≡ writtenIf (now (text .entry)) (length (now (out .entry)))) × (now (out .exit) ≡ outputWritten r (now (text .entry)) (now (out .entry))) ⌝ }
+    ensures { λ r. ⌜ (r ≡ writtenIf (now (text .entry)) (length (now (out .entry))))
+        × (now (out .exit) ≡ outputWritten r (now (text .entry)) (now (out .entry))) ⌝ }
 {
     let n = text.len();
     if out.len() < n {
@@ -46,7 +47,9 @@ fn hand_out(text: &[u8], out: &mut [u8]) -> Listing
 
 // Writes the listing of a module: 17. The listing has at most 256 bytes.
 pub fn lines(m: &[u8], out: &mut [u8]) -> Listing
-    ensures { λ r. ⌜ IsAnswer listingNumbers r (linesAnswer (now (m .entry)) (length (now (out .entry)))) × (now (out .exit) ≡ linesOutput (now (m .entry)) (now (out .entry))) × (length (listing (now (m .entry))) ≤ 256) ⌝ }
+    ensures { λ r. ⌜ IsAnswer listingNumbers r (linesAnswer (now (m .entry)) (length (now (out .entry))))
+        × (now (out .exit) ≡ linesOutput (now (m .entry)) (now (out .entry)))
+        × (length (listing (now (m .entry))) ≤ 256) ⌝ }
 {
     let mut text = [0u8; 256];
     let n = put_listing(&mut text, m);

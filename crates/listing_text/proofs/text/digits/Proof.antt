@@ -21,7 +21,10 @@ loop-again : tie.Need-loop-again Inv-loop μ-loop
 loop-again c = count-turn _ _ _ (search needs) (c .before .loop .inv)
 
 returns : tie.Need-returns Inv-loop μ-loop
-returns c = let one : length (decimal (c .before .loop .rest)) ≡ 1 = ap length (decimal-short (c .before .loop .rest) (search needs)) in omega (arith, decimal-64 (c .before .before .args .n) (search needs))
+returns c =
+    let loop = c .before .loop in
+    let one : length (decimal (loop .rest)) ≡ 1 = ap length (decimal-short (loop .rest) (search needs)) in
+    omega (arith, decimal-64 (c .before .before .args .n) (search needs))
 
 pub digits-spec : {M : Type 1} → statement M
 digits-spec =

@@ -5,7 +5,14 @@ use Rattle.listing_text.proofs.text.put_accepted.Statement.{statement}
 use Rattle.listing_text.proofs.text.put_accepted.Tie as tie
 
 returns : tie.Need-returns
-returns c = (seven (c .before .before .before .before .before .before .before .before .before .before .before .before .before .before .args .l) (c .before .before .before .before .before .before .before .before .before .before .before .before .before .before .args .bytes) (c .before .before .before .before .before .before .before .before .before .before .before .put-version .ensures .0) (c .before .before .before .before .before .before .before .put-counts .ensures .0) (c .before .before .put-line .ensures .0), omega arith)
+returns c =
+    let entry = c .before .before .before .before .before .before .before .before .before .before .before .before .before .before in
+    let put-version = c .before .before .before .before .before .before .before .before .before .before .before .put-version in
+    let put-counts = c .before .before .before .before .before .before .before .put-counts in (
+      seven (entry .args .l) (entry .args .bytes) (put-version .ensures .0) (put-counts .ensures .0)
+          (c .before .before .put-line .ensures .0),
+      omega arith,
+    )
 
 pub put-accepted-spec : {M : Type 1} → statement M
 put-accepted-spec =

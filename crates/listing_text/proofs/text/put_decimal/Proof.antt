@@ -35,9 +35,14 @@ same-length : tie.Need-same-length Inv-loop μ-loop
 same-length c = length-set (c .before .before .loop .text) _ _ ∙ c .before .before .loop .inv .room
 
 returns : tie.Need-returns Inv-loop μ-loop
-returns c = (rw (c .before .before .before .digits .ensures .0, c .digit2 .ensures) (spelling-last (search needs) (c .before .before .loop .inv)), omega arith)
+returns c = (
+  rw (c .before .before .before .digits .ensures .0, c .digit2 .ensures)
+      (spelling-last (search needs) (c .before .before .loop .inv)),
+  omega arith,
+)
 
 pub put-decimal-spec : {M : Type 1} → statement M
 put-decimal-spec =
     tie.close
-    (tie.spec Inv-loop μ-loop (λ c κs. search needs) (λ c. search needs) sub-to loop-holds (λ c κs. search needs) slice-write-text sub-to-2 (λ c. search needs) loop-again (λ c κs. search needs) slice-write-text-2 same-length returns)
+    (tie.spec Inv-loop μ-loop (λ c κs. search needs) (λ c. search needs) sub-to loop-holds (λ c κs. search needs)
+    slice-write-text sub-to-2 (λ c. search needs) loop-again (λ c κs. search needs) slice-write-text-2 same-length returns)

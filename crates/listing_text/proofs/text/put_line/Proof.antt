@@ -6,7 +6,14 @@ use Rattle.listing_text.proofs.text.put_line.Statement.{statement}
 use Rattle.listing_text.proofs.text.put_line.Tie as tie
 
 returns : tie.Need-returns
-returns c = (put-both (c .before .before .before .before .before .before .before .before .before .before .before .before .before .before .before .args .word .now) _ (c .before .before .before .before .before .before .before .before .before .before .before .put-word .ensures) (put-both (decimal (c .before .before .before .before .before .before .before .before .before .before .before .before .before .before .before .args .n)) _ (c .before .before .before .before .before .before .before .put-decimal .ensures .0) (c .before .before .put-word2 .ensures)), omega arith)
+returns c =
+    let entry = c .before .before .before .before .before .before .before .before .before .before .before .before .before .before .before in
+    let put-word = c .before .before .before .before .before .before .before .before .before .before .before .put-word in
+    let put-decimal = c .before .before .before .before .before .before .before .put-decimal in (
+      put-both (entry .args .word .now) _ (put-word .ensures)
+          (put-both (decimal (entry .args .n)) _ (put-decimal .ensures .0) (c .before .before .put-word2 .ensures)),
+      omega arith,
+    )
 
 pub put-line-spec : {M : Type 1} → statement M
 put-line-spec =

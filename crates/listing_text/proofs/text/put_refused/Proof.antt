@@ -6,9 +6,23 @@ use Rattle.listing_text.proofs.text.put_refused.Statement.{statement}
 use Rattle.listing_text.proofs.text.put_refused.Tie as tie
 
 returns : tie.Need-returns
-returns c = (put-both (ascii "refused ") _ (c .before .before .before .before .before .before .before .before .before .before .before .before .before .before .before .before .before .before .before .before .put-word .ensures) (put-both (decimal (c .before .before .before .before .before .before .before .before .before .before .before .before .before .before .before .before .before .before .before .before .before .before .before .before .before .args .r .number)) _ (c .before .before .before .before .before .before .before .before .before .before .before .before .before .before .before .before .put-decimal .ensures .0) (put-both (ascii " at ") _ (c .before .before .before .before .before .before .before .before .before .before .before .put-word2 .ensures) (put-both (decimal (c .before .before .before .before .before .before .before .before .before .before .before .before .before .before .before .before .before .before .before .before .before .before .before .before .before .args .r .place)) _ (c .before .before .before .before .before .before .before .put-decimal2 .ensures .0) (c .before .before .put-word3 .ensures)))), omega arith)
+returns c =
+    let earlier = c .before .before .before .before .before .before .before .before .before .before .before .before in
+    let entry = earlier .before .before .before .before .before .before .before .before .before .before .before .before .before in
+    let r = entry .args .r in
+    let put-word = earlier .before .before .before .before .before .before .before .before .put-word in
+    let put-decimal = earlier .before .before .before .before .put-decimal in
+    let put-word2 = c .before .before .before .before .before .before .before .before .before .before .before .put-word2 in
+    let put-decimal2 = c .before .before .before .before .before .before .before .put-decimal2 in (
+      put-both (ascii "refused ") _ (put-word .ensures)
+          (put-both (decimal (r .number)) _ (put-decimal .ensures .0)
+          (put-both (ascii " at ") _ (put-word2 .ensures)
+          (put-both (decimal (r .place)) _ (put-decimal2 .ensures .0) (c .before .before .put-word3 .ensures)))),
+      omega arith,
+    )
 
 pub put-refused-spec : {M : Type 1} → statement M
 put-refused-spec =
     tie.close
-    (tie.spec (λ c. search needs) (λ c. search needs) (λ c κs. search needs) (λ c κs. search needs) (λ c. search needs) (λ c κs. search needs) (λ c κs. search needs) (λ c. search needs) (λ c κs. search needs) (λ c. search needs) returns)
+    (tie.spec (λ c. search needs) (λ c. search needs) (λ c κs. search needs) (λ c κs. search needs) (λ c. search needs)
+    (λ c κs. search needs) (λ c κs. search needs) (λ c. search needs) (λ c κs. search needs) (λ c. search needs) returns)

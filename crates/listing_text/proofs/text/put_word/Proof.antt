@@ -17,7 +17,12 @@ loop-holds : tie.Need-loop-holds Inv-loop μ-loop
 loop-holds c = (search needs, search needs, word-first (c .args .text .now) (c .args .at) (c .args .word .now))
 
 loop-again : tie.Need-loop-again Inv-loop μ-loop
-loop-again c = (search needs, search needs, word-turn (c .before .before .before .args .word .now) (c .before .before .loop .i) (search needs) (search needs) (c .before .before .loop .inv .2))
+loop-again c =
+    let loop = c .before .before .loop in (
+      search needs,
+      search needs,
+      word-turn (c .before .before .before .args .word .now) (loop .i) (search needs) (search needs) (loop .inv .2),
+    )
 
 returns : tie.Need-returns Inv-loop μ-loop
 returns c = word-last (c .before .before .args .word .now) (c .before .loop .i) (search needs) (c .before .loop .inv .2)
@@ -25,4 +30,5 @@ returns c = word-last (c .before .before .args .word .now) (c .before .loop .i) 
 pub put-word-spec : {M : Type 1} → statement M
 put-word-spec =
     tie.close
-    (tie.spec Inv-loop μ-loop loop-holds (λ c. search needs) (λ c. search needs) (λ c. search needs) (λ c. search needs) (λ c. search needs) loop-again (λ c. search needs) (λ c. search needs) returns)
+    (tie.spec Inv-loop μ-loop loop-holds (λ c. search needs) (λ c. search needs) (λ c. search needs) (λ c. search needs)
+    (λ c. search needs) loop-again (λ c. search needs) (λ c. search needs) returns)
