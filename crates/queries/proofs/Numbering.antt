@@ -12,6 +12,8 @@ use Rattle.queries.specs.Finding.{firstOf, blockOf, foundIf, found}
 use Rattle.queries.specs.declared.Found.the-variants.{At}
 
 -- Each number that is counted is found.
-pub counted-found : (m : List ℕ) (l : Layout) (thing : Thing) (number : ℕ) → opened m ≡ Opened l → firstOf thing ≤ number → number - firstOf thing < countOf m l thing → found m thing number ≡ At (blockOf m l thing number)
+pub counted-found : (m : List ℕ) (l : Layout) (thing : Thing) (number : ℕ) → opened m ≡ Opened l → firstOf thing ≤ number
+    → number - firstOf thing < countOf m l thing
+    → found m thing number ≡ At (blockOf m l thing number)
 counted-found m l thing number o first counted =
     ap (foundIf m thing number) o ∙ simp (le-leb (firstOf thing) number first, lt-ltb (number - firstOf thing) (countOf m l thing) counted)

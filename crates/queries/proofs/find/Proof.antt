@@ -5,7 +5,10 @@ use Rattle.queries.proofs.find.Statement.{statement}
 use Rattle.queries.proofs.find.Tie as tie
 
 returns : tie.Need-returns
-returns c = is-answer-with foundNumbers ((simp (← c .before .before .before .before .«open» .ensures .0, c .before .before .l .given .1, c .find-in .ensures .0 .0), c .find-in .ensures .1))
+returns c =
+    let «open» = c .before .before .before .before .«open» in
+    is-answer-with foundNumbers
+    (simp (← «open» .ensures .0, c .before .before .l .given .1, c .find-in .ensures .0 .0), c .find-in .ensures .1)
 
 returns-2 : tie.Need-returns-2
 returns-2 c = is-answer-with foundNumbers ((simp (← c .before .before .before .«open» .ensures .0, c .before .r .given .1), search needs))
