@@ -42,7 +42,8 @@ module _ (m : List ℕ) (bytes : Bytes m) where
     instThere = o .mandatory .inst .1;
     pattThere = o .mandatory .patt .1;
     smplThere = o .mandatory .smpl .1;
-    content = content-exactly (o .layout) (o .rules .version) (info .1) (o .mandatory .song .1) (o .mandatory .inst .1) (o .mandatory .patt .1) (o .mandatory .smpl .1) (o .rules .info (info .0) (info .1) .tracks) bytes .0 e;
+    content = content-exactly (o .layout) (o .rules .version) (info .1) (o .mandatory .song .1) (o .mandatory .inst .1)
+        (o .mandatory .patt .1) (o .mandatory .smpl .1) (o .rules .info (info .0) (info .1) .tracks) bytes .0 e;
   }
     where
       info : There (o .chunks) infoLetters
@@ -58,8 +59,16 @@ module _ (m : List ℕ) (bytes : Bytes m) where
   -- A module of which the rules hold opens, with a layout of its chunks.
   pub rules-open : (r : Rules m) → (l : Layout) × (opened m ≡ Found l) × LayoutOf m (r .header) (r .chunks) l
   rules-open r =
-      let found = chunks-outline m (r .header) (r .chunks) (r .chunkRules) (record { info = (r .info, r .infoThere); song = (r .song, r .songThere); inst = (r .inst, r .instThere); patt = (r .patt, r .pattThere); smpl = (r .smpl, r .smplThere) }) in
-      let accepted = content-exactly (found .2) (r .chunkRules .version) (r .infoThere) (r .songThere) (r .instThere) (r .pattThere) (r .smplThere) (r .chunkRules .info (r .info) (r .infoThere) .tracks) bytes .1 (r .content) in
+      let found = chunks-outline m (r .header) (r .chunks) (r .chunkRules)
+      (record {
+        info = (r .info, r .infoThere);
+        song = (r .song, r .songThere);
+        inst = (r .inst, r .instThere);
+        patt = (r .patt, r .pattThere);
+        smpl = (r .smpl, r .smplThere);
+      }) in
+      let accepted = content-exactly (found .2) (r .chunkRules .version) (r .infoThere) (r .songThere) (r .instThere)
+      (r .pattThere) (r .smplThere) (r .chunkRules .info (r .info) (r .infoThere) .tracks) bytes .1 (r .content) in
       (found .0, rw (found .1, accepted) refl, found .2)
 
   rules-accepted : Rules m → moduleVerdict m ≡ Accepted

@@ -20,7 +20,8 @@ use Rattle.blocks.specs.StoredFields.{songLength, songEntry, envelopeFlags, env
 use Rattle.blocks.specs.Sizes.{widthOf, sizeOf}
 use Rattle.blocks.specs.Filling.{flagsRules}
 use Rattle.blocks.specs.declared.Kind.the-variants.{Song, Instrument, Sample, Envelope}
-use Rattle.fields.specs.Fields.{panningFits, bit0, bit1, entryRules, songRules, instrumentRules, envelopeHeadRules, envelopePointRules, valueFits, valueRules, valuesRules, envelopeRules}
+use Rattle.fields.specs.Fields.{panningFits, bit0, bit1, entryRules, songRules, instrumentRules, envelopeHeadRules}
+use Rattle.fields.specs.Fields.{envelopePointRules, valueFits, valueRules, valuesRules, envelopeRules}
 use Rattle.module.specs.Loops.{noLoop, forward, pingPong, isLoop, loopKind, looped, framesOf, instrumentLoopRules}
 use Rattle.acceptance.specs.Rules.{SongRules, PanningFits, Looped, InstrumentRules, SampleRules, EnvelopeRules}
 use Rattle.acceptance.proofs.Locating.{PartAt, byteAt-at, number16-at, number32-at, number16-start, number32-start}
@@ -67,28 +68,54 @@ song-sized patterns block r = r .size
 loop-says : (flags length : ℕ) → (isLoop (loopKind flags length) ≡ true) ↔ ((1 ≤ length) × ((flags % 2 ≡ 1) ⊎ (flags / 2 % 2 ≡ 1)))
 loop-says flags length = go (eqb length 0) (bit0 flags) (bit1 flags) refl refl refl
   where
-    go : (none first second : Bool) → eqb length 0 ≡ none → bit0 flags ≡ first → bit1 flags ≡ second → (isLoop (cond none noLoop (cond first forward (cond second pingPong noLoop))) ≡ true) ↔ ((1 ≤ length) × ((flags % 2 ≡ 1) ⊎ (flags / 2 % 2 ≡ 1)))
+    go : (none first second : Bool) → eqb length 0 ≡ none → bit0 flags ≡ first → bit1 flags ≡ second
+        → (isLoop (cond none noLoop (cond first forward (cond second pingPong noLoop))) ≡ true) ↔ ((1 ≤ length) × ((flags % 2 ≡ 1) ⊎ (flags / 2 % 2 ≡ 1)))
     go true first second a b c = (λ e. false-never e, λ h. absurd (omega (arith, eqb-true length 0 a, h .0)))
     go false true second a b c = (λ e. (let ne : length ≡ 0 → ⊥ = eqb-false length 0 a in (omega arith, inl (eqb-true (flags % 2) 1 b))), λ h. refl)
     go false false true a b c = (λ e. (let ne : length ≡ 0 → ⊥ = eqb-false length 0 a in (omega arith, inr (eqb-true (flags / 2 % 2) 1 c))), λ h. refl)
-    go false false false a b c = (λ e. false-never e, λ h. elim (h .1) [ inl x ↦ absurd (eqb-false (flags % 2) 1 b x) | inr x ↦ absurd (eqb-false (flags / 2 % 2) 1 c x) ])
+    go false false false a b c = (
+      λ e. false-never e,
+      λ h. elim (h .1) [ inl x ↦ absurd (eqb-false (flags % 2) 1 b x) | inr x ↦ absurd (eqb-false (flags / 2 % 2) 1 c x) ],
+    )
 
 module _ {m block : List ℕ} {at : ℕ} (p : PartAt m at block) (s : Sized Instrument block) where
   pub instrument-size : length block ≡ 50
   unfolding sizeOf
   instrument-size = s
 
-  instrument-says : (samples : ℕ) → AllHold (instrumentRules m samples at) ↔ ((number16 block 30 ≤ samples) × ((number16 block 32 ≤ 64) × (PanningFits (number16 block 46) × (number16 block 48 < 4))))
-  instrument-says samples = simp (plain, leZ-says, number16-at p 30 (omega (arith, instrument-size)), number16-at p 32 (omega (arith, instrument-size)), number16-at p 46 (omega (arith, instrument-size)), number16-at p 48 (omega (arith, instrument-size))) Iff·rfl
+  instrument-says : (samples : ℕ)
+      → AllHold (instrumentRules m samples at)
+      ↔ ((number16 block 30 ≤ samples) × ((number16 block 32 ≤ 64) × (PanningFits (number16 block 46) × (number16 block 48 < 4))))
+  instrument-says samples =
+      simp (
+        plain,
+        leZ-says,
+        number16-at p 30 (omega (arith, instrument-size)),
+        number16-at p 32 (omega (arith, instrument-size)),
+        number16-at p 46 (omega (arith, instrument-size)),
+        number16-at p 48 (omega (arith, instrument-size)),
+      ) Iff·rfl
 
   pub looped-says : (looped m at ≡ true) ↔ Looped block
   looped-says = simp (loop-says, number32-at p 42 (omega (arith, instrument-size)), number16-at p 48 (omega (arith, instrument-size))) Iff·rfl
 
-  loop-fits-says : (chunk : Place) → AllHold (instrumentLoopRules m chunk at) ↔ (Looped block → (1 ≤ number16 block 30) × (number32 block 38 + number32 block 42 ≤ framesOf m chunk (number16 block 30)))
-  loop-fits-says chunk = simp (plain, loop-says, number16-at p 30 (omega (arith, instrument-size)), number32-at p 38 (omega (arith, instrument-size)), number32-at p 42 (omega (arith, instrument-size)), number16-at p 48 (omega (arith, instrument-size))) Iff·rfl
+  loop-fits-says : (chunk : Place)
+      → AllHold (instrumentLoopRules m chunk at)
+      ↔ (Looped block → (1 ≤ number16 block 30) × (number32 block 38 + number32 block 42 ≤ framesOf m chunk (number16 block 30)))
+  loop-fits-says chunk =
+      simp (
+        plain,
+        loop-says,
+        number16-at p 30 (omega (arith, instrument-size)),
+        number32-at p 38 (omega (arith, instrument-size)),
+        number32-at p 42 (omega (arith, instrument-size)),
+        number16-at p 48 (omega (arith, instrument-size)),
+      ) Iff·rfl
 
   -- The samples are as many as are counted, and their frames are those of the blocks.
-  pub instrument-holds : (chunk : Place) (samples : List (List ℕ)) → ((sample : ℕ) → 1 ≤ sample → sample ≤ length samples → framesOf m chunk sample ≡ number32 (getD samples (sample - 1) []) 4) → (AllHold (instrumentRules m (length samples) at) × AllHold (instrumentLoopRules m chunk at)) ↔ InstrumentRules samples block
+  pub instrument-holds : (chunk : Place) (samples : List (List ℕ))
+      → ((sample : ℕ) → 1 ≤ sample → sample ≤ length samples → framesOf m chunk sample ≡ number32 (getD samples (sample - 1) []) 4)
+      → (AllHold (instrumentRules m (length samples) at) × AllHold (instrumentLoopRules m chunk at)) ↔ InstrumentRules samples block
   instrument-holds chunk samples frames = (
     λ e.
         let f = instrument-says (length samples) .0 (e .0) in
@@ -115,11 +142,22 @@ instrument-sized samples block r = r .size
 pub width-says : (flags : ℕ) → (not (eqb (widthOf flags) 0) ≡ true) ↔ ((flags ≡ 1) ⊎ ((flags ≡ 2) ⊎ (flags ≡ 4)))
 width-says flags = go (eqb flags 1) (eqb flags 2) (eqb flags 4) refl refl refl
   where
-    go : (one two four : Bool) → eqb flags 1 ≡ one → eqb flags 2 ≡ two → eqb flags 4 ≡ four → (not (eqb (cond one 1 (cond two 2 (cond four 4 0))) 0) ≡ true) ↔ ((flags ≡ 1) ⊎ ((flags ≡ 2) ⊎ (flags ≡ 4)))
+    go : (one two four : Bool) → eqb flags 1 ≡ one → eqb flags 2 ≡ two → eqb flags 4 ≡ four
+        → (not (eqb (cond one 1 (cond two 2 (cond four 4 0))) 0) ≡ true) ↔ ((flags ≡ 1) ⊎ ((flags ≡ 2) ⊎ (flags ≡ 4)))
     go true two four a b c = (λ e. inl (eqb-true flags 1 a), λ h. refl)
     go false true four a b c = (λ e. inr (inl (eqb-true flags 2 b)), λ h. refl)
     go false false true a b c = (λ e. inr (inr (eqb-true flags 4 c)), λ h. refl)
-    go false false false a b c = (λ e. false-never e, λ h. elim h [ inl x ↦ absurd (eqb-false flags 1 a x) | inr y ↦ elim y [ inl x ↦ absurd (eqb-false flags 2 b x) | inr x ↦ absurd (eqb-false flags 4 c x) ] ])
+    go false false false a b c = (
+      λ e. false-never e,
+      λ h.
+          elim h [
+            | inl x ↦ absurd (eqb-false flags 1 a x)
+            | inr y ↦ elim y [
+              | inl x ↦ absurd (eqb-false flags 2 b x)
+              | inr x ↦ absurd (eqb-false flags 4 c x)
+            ]
+          ],
+    )
 
 width-is : (flags : ℕ) → (flags ≡ 1) ⊎ ((flags ≡ 2) ⊎ (flags ≡ 4)) → widthOf flags ≡ flags
 width-is flags (inl e) = rw e
@@ -158,17 +196,32 @@ module _ {m block : List ℕ} {at : ℕ} (p : PartAt m at block) (s : Sized Enve
   pub value-same : (i : ℕ) → i ≤ 31 → number16 m (at + 8 + 4 * i + 2) ≡ number16 block (10 + 4 * i)
   value-same i h = let same : at + 8 + 4 * i + 2 ≡ at + (10 + 4 * i) = omega arith in rw same (number16-at p (10 + 4 * i) (omega (arith, envelope-size)))
 
-  head-says : (instruments : ℕ) → AllHold (envelopeHeadRules m instruments at) ↔ (((1 ≤ number16 block 0) × (number16 block 0 ≤ instruments)) × ((byteAt block 2 < 16) × (byteAt block 3 ≤ 31)))
+  head-says : (instruments : ℕ)
+      → AllHold (envelopeHeadRules m instruments at)
+      ↔ (((1 ≤ number16 block 0) × (number16 block 0 ≤ instruments)) × ((byteAt block 2 < 16) × (byteAt block 3 ≤ 31)))
   head-says instruments = simp (plain, number16-start p (omega (arith, envelope-size)), byte-same 2 (omega arith), byte-same 3 (omega arith)) Iff·rfl
 
-  points-say : (flags sections : ℕ) → AllHold (envelopePointRules m flags sections at) ↔ ((flags / 2 % 2 ≡ 1 → byteAt block 4 ≤ sections) × ((flags / 2 / 2 % 2 ≡ 1 → byteAt block 5 ≤ sections) × ((flags / 2 / 2 % 2 ≡ 1 → (byteAt block 6 ≤ sections) × (byteAt block 5 ≤ byteAt block 6)) × (flags / 2 / 2 / 2 % 2 ≡ 1 → byteAt block 7 ≤ sections))))
+  points-say : (flags sections : ℕ)
+      → AllHold (envelopePointRules m flags sections at)
+      ↔ ((flags / 2 % 2 ≡ 1 → byteAt block 4 ≤ sections)
+      × ((flags / 2 / 2 % 2 ≡ 1 → byteAt block 5 ≤ sections)
+      × ((flags / 2 / 2 % 2 ≡ 1 → (byteAt block 6 ≤ sections) × (byteAt block 5 ≤ byteAt block 6))
+      × (flags / 2 / 2 / 2 % 2 ≡ 1 → byteAt block 7 ≤ sections))))
   points-say flags sections = simp (plain, byte-same 4 (omega arith), byte-same 5 (omega arith), byte-same 6 (omega arith), byte-same 7 (omega arith)) Iff·rfl
 
   module _ (signed : Bool) (ValueFits : ℕ → Type 0) (fits-says : (v : ℕ) → (valueFits signed v ≡ true) ↔ ValueFits v) (instruments : ℕ) where
-    parts : (flags sections : ℕ) → envelopeFlags m at ≡ flags → envelopeSections m at ≡ sections → AllHold (envelopeRules m instruments signed at) ↔ (AllHold (envelopeHeadRules m instruments at) × AllHold (envelopePointRules m flags sections at) × AllHold (valuesRules m signed sections at))
-    parts flags sections a b = rw (← a, ← b) (every-split (envelopeHeadRules m instruments at) (envelopePointRules m (envelopeFlags m at) (envelopeSections m at) at) (valuesRules m signed (envelopeSections m at) at))
+    parts : (flags sections : ℕ) → envelopeFlags m at ≡ flags → envelopeSections m at ≡ sections
+        → AllHold (envelopeRules m instruments signed at)
+        ↔ (AllHold (envelopeHeadRules m instruments at) × AllHold (envelopePointRules m flags sections at) × AllHold (valuesRules m signed sections at))
+    parts flags sections a b =
+        rw (← a, ← b) (every-split (envelopeHeadRules m instruments at)
+        (envelopePointRules m (envelopeFlags m at) (envelopeSections m at) at)
+        (valuesRules m signed (envelopeSections m at) at))
 
-    in-block : AllHold (envelopeRules m instruments signed at) ↔ (AllHold (envelopeHeadRules m instruments at) × AllHold (envelopePointRules m (byteAt block 2) (byteAt block 3) at) × AllHold (valuesRules m signed (byteAt block 3) at))
+    in-block : AllHold (envelopeRules m instruments signed at)
+        ↔ (AllHold (envelopeHeadRules m instruments at)
+        × AllHold (envelopePointRules m (byteAt block 2) (byteAt block 3) at)
+        × AllHold (valuesRules m signed (byteAt block 3) at))
     in-block = parts (byteAt block 2) (byteAt block 3) (byte-same 2 (omega arith)) (byte-same 3 (omega arith))
 
     pub envelope-holds : AllHold (envelopeRules m instruments signed at) ↔ EnvelopeRules instruments ValueFits block
@@ -190,7 +243,8 @@ module _ {m block : List ℕ} {at : ℕ} (p : PartAt m at block) (s : Sized Enve
       λ r. in-block .1 (
         head-says instruments .1 (r .instrument, (r .flags, r .sections)),
         points-say (byteAt block 2) (byteAt block 3) .1 (r .firstSustain, (λ b. r .loop b .0, (λ b. (r .loop b .1, r .loop b .2), r .secondSustain))),
-        values-say m at signed (byteAt block 3) .1 (λ i l. rw (value-same i (omega (arith, r .sections))) (fits-says (number16 block (10 + 4 * i)) .1 (r .values i (omega arith)))),
+        values-say m at signed (byteAt block 3) .1
+            (λ i l. rw (value-same i (omega (arith, r .sections))) (fits-says (number16 block (10 + 4 * i)) .1 (r .values i (omega arith)))),
       ),
     )
 

@@ -28,7 +28,8 @@ use Rattle.blocks.specs.Sizes.{sizeOf}
 use Rattle.blocks.specs.declared.Kind.the-variants.{Pattern}
 use Rattle.module.specs.Streams.{patternStreamRules}
 use Rattle.acceptance.specs.Rules.{PatternRules}
-use Rattle.acceptance.proofs.Locating.{PartAt, number32-at, number16-start, number16-front, number32-front, number16-take, number32-take, part-length, part-there, part-of-part, part-is}
+use Rattle.acceptance.proofs.Locating.{PartAt, number32-at, number16-start, number16-front, number32-front}
+use Rattle.acceptance.proofs.Locating.{number16-take, number32-take, part-length, part-there, part-of-part, part-is}
 use Rattle.acceptance.proofs.Holding.{false-never, AllHold}
 use Rattle.acceptance.proofs.Cutting.{Sized}
 
@@ -59,9 +60,12 @@ module _ (stream : List ℕ) (rows tracks : ℕ) where
       let read : readStream rows tracks stream ≡ whole entries = reads-exactly rows tracks stream entries .1 (stream-read e .1) in
       record { entries = entries; read = read; gives = rw read }
 
-  stream-accepted : rows ≤ 65535 → TracksFit tracks → (entries : List (List Entry)) → StreamOf rows tracks stream entries → checkAnswer stream rows tracks ≡ Accepted
+  stream-accepted : rows ≤ 65535 → TracksFit tracks → (entries : List (List Entry)) → StreamOf rows tracks stream entries
+      → checkAnswer stream rows tracks ≡ Accepted
   stream-accepted h t entries s =
-      accepts-exactly rows tracks stream (rw (le-leb rows 65535 h, le-leb 4 tracks (t .0), le-leb tracks 254 (t .1), eq-eqb (tracks % 2) 0 (t .2))) .1 (entries, s)
+      accepts-exactly rows tracks stream
+      (rw (le-leb rows 65535 h, le-leb 4 tracks (t .0), le-leb tracks 254 (t .1), eq-eqb (tracks % 2) 0 (t .2))) .1
+      (entries, s)
 
 -- A 2-byte number of bytes.
 number16-bound : (m : List ℕ) → Bytes m → (at : ℕ) → number16 m at ≤ 65535
@@ -69,14 +73,17 @@ unfolding number16
 number16-bound m b at = omega (arith, b at, b (at + 1))
 
 -- The stream in the module and in the block.
-module _ {m block : List ℕ} {at : ℕ} (p : PartAt m at block) (fits : 6 ≤ length block) (stream : List ℕ) (inside : PartAt block 6 stream) (packed : number32 block 2 ≡ length stream) where
+module _ {m block : List ℕ} {at : ℕ} (p : PartAt m at block) (fits : 6 ≤ length block) (stream : List ℕ)
+    (inside : PartAt block 6 stream) (packed : number32 block 2 ≡ length stream) where
   pub stream-same : packedBytes m at ≡ stream
   stream-same = rw (number32-at p 2 (omega arith), packed) (part-is (part-of-part p inside))
 
   stream-says : (tracks : ℕ) → AllHold (patternStreamRules m tracks at) ↔ (checkAnswer stream (number16 block 0) tracks ≡ Accepted)
   stream-says tracks = simp (every-one, accepted-says, stream-same, number16-start p (omega arith)) Iff·rfl
 
-pub pattern-holds : {m block : List ℕ} {at : ℕ} → PartAt m at block → Sized Pattern block → (tracks : ℕ) → AllHold (patternStreamRules m tracks at) → PatternRules tracks block
+pub pattern-holds : {m block : List ℕ} {at : ℕ} → PartAt m at block → Sized Pattern block → (tracks : ℕ)
+    → AllHold (patternStreamRules m tracks at)
+    → PatternRules tracks block
 unfolding sizeOf
 pattern-holds {m} {block} {at} p s tracks e = record {
   front = take 6 block;
@@ -143,4 +150,5 @@ module _ (tracks : ℕ) (block : List ℕ) (r : PatternRules tracks block) where
   pattern-rules-hold {m} {at} p b t =
       let fits : 6 ≤ length block = omega (arith, pattern-length) in
       stream-says p fits (r .stream) pattern-stream pattern-packed tracks .1
-      (stream-accepted (r .stream) (number16 block 0) tracks (rw (number16-start p (omega arith)) at (number16-bound m b at)) t (r .entries) (rw pattern-rows (r .sound)))
+      (stream-accepted (r .stream) (number16 block 0) tracks (rw (number16-start p (omega arith)) at (number16-bound m b at)) t
+      (r .entries) (rw pattern-rows (r .sound)))

@@ -12,7 +12,8 @@ use Rattle.layout.specs.Chunks.{NAME, INFO, VENV, PENV}
 use Rattle.layout.specs.declared.Layout.{Layout}
 use Rattle.layout.specs.declared.Outline.the-variants.{Found}
 use Rattle.module.specs.Verdicts.{opened}
-use Rattle.acceptance.specs.Rules.{ChunkBytes, Among, Covered, InfoRules, Filled, SongRules, InstrumentRules, PatternRules, SampleRules, EnvelopesRules, VolumeFits, PanningValueFits, Rules}
+use Rattle.acceptance.specs.Rules.{ChunkBytes, Among, Covered, InfoRules, Filled, SongRules, InstrumentRules}
+use Rattle.acceptance.specs.Rules.{PatternRules, SampleRules, EnvelopesRules, VolumeFits, PanningValueFits, Rules}
 use Rattle.acceptance.proofs.Standing.{LayoutOf}
 use Rattle.acceptance.proofs.Identifiers.{identifierOf}
 use Rattle.acceptance.proofs.Recorded.{among-within}

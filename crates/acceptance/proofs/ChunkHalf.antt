@@ -54,7 +54,9 @@ module _ {m header : List ℕ} {all : List (List ℕ)} (rules : ChunkRules m hea
   -- A chunk among the chunks, and the first of its letters there.
   module _ {letters chunk : List ℕ} (a : Among all letters chunk) where
     pub bytes-split : m ≡ (header ++ joined (a .before)) ++ (chunk ++ joined (a .after))
-    bytes-split = rules .bytes ∙ rw (a .splits, joined-append (a .before) (chunk ∷ a .after)) (sym (append-assoc header (joined (a .before)) (chunk ++ joined (a .after))))
+    bytes-split =
+        rules .bytes
+        ∙ rw (a .splits, joined-append (a .before) (chunk ∷ a .after)) (sym (append-assoc header (joined (a .before)) (chunk ++ joined (a .after))))
 
     pub not-before : Covered letters → There (a .before) letters → ⊥
     not-before covers (other, b) =
@@ -91,8 +93,13 @@ module _ {m header : List ℕ} {all : List (List ℕ)} (rules : ChunkRules m hea
     revision = header-byte m header (joined all) (rules .bytes) (rules .headerSize) 5 (omega arith);
     counts = λ info a. (
         let part = stands-part (stands-of a Covered.info) in
-        let long = rules .info info a .size in
-        (number16-at part 8 (omega arith), number16-at part 10 (omega arith), number16-at part 12 (omega arith), number16-at part 14 (omega arith), number16-at part 16 (omega arith))
+        let long = rules .info info a .size in (
+          number16-at part 8 (omega arith),
+          number16-at part 10 (omega arith),
+          number16-at part 12 (omega arith),
+          number16-at part 14 (omega arith),
+          number16-at part 16 (omega arith),
+        )
         );
     name = found-of Covered.name;
     song = found-of Covered.song;
@@ -114,7 +121,9 @@ module _ {m header : List ℕ} {all : List (List ℕ)} (rules : ChunkRules m hea
       says covers = occurs-says covers 8 (rules .whole)
 
 -- The parts of the rules.
-rules-of : {m header : List ℕ} {all : List (List ℕ)} → m ≡ header ++ joined all → length header ≡ 8 → HeaderFits m header → ChunksFit all → ChunkRules m header all
+rules-of : {m header : List ℕ} {all : List (List ℕ)} → m ≡ header ++ joined all → length header ≡ 8 → HeaderFits m header
+    → ChunksFit all
+    → ChunkRules m header all
 rules-of bytes size head fits = record {
   bytes = bytes;
   limit = head .limit;
@@ -154,7 +163,8 @@ pub outline-chunks : (m : List ℕ) (l : Layout) → Bytes m → outline m ≡ O
 outline-chunks m l below e = subst (Told m) e (told m below)
 
 -- The rules hold, so found.
-pub chunks-outline : (m header : List ℕ) (all : List (List ℕ)) → ChunkRules m header all → Mandatory all → (l : Layout) × (outline m ≡ OutlineFound l) × LayoutOf m header all l
+pub chunks-outline : (m header : List ℕ) (all : List (List ℕ)) → ChunkRules m header all → Mandatory all
+    → (l : Layout) × (outline m ≡ OutlineFound l) × LayoutOf m header all l
 chunks-outline m header all rules mandatory =
     let accepted = accepted-hold (headerRules m) .1 (header-rules m header (joined all) (rules .bytes) (rules .headerSize) (header-part rules)) in
     let walked = read-whole m header all (rules .headerSize) (rules .bytes) (fits-turn (chunks-part rules)) in

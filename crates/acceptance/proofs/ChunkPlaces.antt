@@ -15,16 +15,19 @@ use Rattle.refusal.specs.declared.Cause.the-variants.{Repeated, BeforeInfo, Mis
 use Rattle.refusal.specs.declared.Refusal.{Refusal}
 use Rattle.numbers.specs.Numbers.{byteAt, number16, number32}
 use Rattle.layout.specs.Header.{headerFits, versionFits, headerRules}
-use Rattle.layout.specs.Chunks.{NAME, INFO, SONG, INST, PATT, SMPL, Chunk, occurs, chunkAt, fourLetters, needsInfo, covered, lengthFits, tracksFit, infoRules, chunkRules}
+use Rattle.layout.specs.Chunks.{NAME, INFO, SONG, INST, PATT, SMPL, Chunk, occurs, chunkAt, fourLetters, needsInfo, covered}
+use Rattle.layout.specs.Chunks.{lengthFits, tracksFit, infoRules, chunkRules}
 use Rattle.layout.specs.Outlines.{mandatoryThere, outline}
 use Rattle.layout.specs.declared.Outline.{Outline}
 use Rattle.layout.specs.declared.Outline.the-variants.{Found, Refused}
 use Rattle.acceptance.specs.Rules.{ChunkBytes, Covered, NeedsInfo}
 use Rattle.acceptance.specs.Faults.{HeaderFault, VersionFault, CutFault, IdentifierFault, LengthFault, RangeFault}
-use Rattle.acceptance.specs.Places.{ChunkBegins, ChunksOf, PlaceOf, tooLong, notAModule, version, chunkCut, identifier, repeated, beforeInfo, missing, fixedLength, infoRange}
+use Rattle.acceptance.specs.Places.{ChunkBegins, ChunksOf, PlaceOf, tooLong, notAModule, version, chunkCut, identifier}
+use Rattle.acceptance.specs.Places.{repeated, beforeInfo, missing, fixedLength, infoRange}
 use Rattle.acceptance.proofs.Locating.{PartAt, byteAt-at, number16-at, number32-at, part-inside}
 use Rattle.acceptance.proofs.Holding.{eqb-says, and-says, unless-says, plain}
-use Rattle.acceptance.proofs.FirstBroken.{WhereBroken, no-rule, this-or, first-broken, broken-if, never, not-broken, both-broken, neither-broken, unless-broken}
+use Rattle.acceptance.proofs.FirstBroken.{WhereBroken, no-rule, this-or, first-broken, broken-if, never, not-broken}
+use Rattle.acceptance.proofs.FirstBroken.{both-broken, neither-broken, unless-broken}
 use Rattle.acceptance.proofs.Identifiers.{identifierOf, chunk-named, needing, needing-letters, covered-letters}
 use Rattle.acceptance.proofs.Recorded.{recordsFrom, occurs-says}
 use Rattle.acceptance.proofs.Fitting.{letters-say, identifier-is, data-length-is, chunk-letters-say, info-number}

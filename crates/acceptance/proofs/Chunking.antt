@@ -27,7 +27,9 @@ use Rattle.acceptance.proofs.Fitting.{ChunkFits, rules-fit, fits-rules,
 -- Chunks, each of which fits behind those before it.
 pub data InTurn : List (List ℕ) → List (List ℕ) → Type 0 where
   done : {before : List (List ℕ)} → InTurn before []
-  next : {before : List (List ℕ)} {chunk : List ℕ} {rest : List (List ℕ)} → ChunkFits before chunk → InTurn (before ++ (chunk ∷ [])) rest → InTurn before (chunk ∷ rest)
+  next : {before : List (List ℕ)} {chunk : List ℕ} {rest : List (List ℕ)} → ChunkFits before chunk
+      → InTurn (before ++ (chunk ∷ [])) rest
+      → InTurn before (chunk ∷ rest)
 
 pub turn-bytes : {before rest : List (List ℕ)} → InTurn before rest → Every ChunkBytes rest
 turn-bytes done = none
@@ -78,7 +80,8 @@ module _ {m header : List ℕ} {before : List (List ℕ)} {at : ℕ} (r : Reache
       rest = part .after;
       bytes = part .bytes ∙ rw (front-same part, joined-last before chunk) (simp append-assoc);
       headerSize = r .headerSize;
-      there = rw (joined-last before chunk, ← append-assoc header (joined before) chunk) (length-append (header ++ joined before) chunk ∙ ap (λ (n : ℕ). n + length chunk) (r .there));
+      there = rw (joined-last before chunk, ← append-assoc header (joined before) chunk)
+          (length-append (header ++ joined before) chunk ∙ ap (λ (n : ℕ). n + length chunk) (r .there));
       turn = turn-last chunk (r .turn) fits;
     }
 
@@ -91,7 +94,9 @@ module _ {m header : List ℕ} {before : List (List ℕ)} {at : ℕ} (r : Reache
     end-next : chunkEnd (chunkAt m at) ≡ at + length chunk
     end-next = omega (arith, fits .bytes .size, data-length-is part (fits .bytes .size))
 
-    walk-next : (steps : ℕ) → chunksFrom steps m (recordsFrom 8 before ++ (chunkAt m at ∷ [])) (chunkEnd (chunkAt m at)) ≡ chunksFrom steps m (recordsFrom 8 (before ++ (chunk ∷ []))) (at + length chunk)
+    walk-next : (steps : ℕ)
+        → chunksFrom steps m (recordsFrom 8 before ++ (chunkAt m at ∷ [])) (chunkEnd (chunkAt m at))
+        ≡ chunksFrom steps m (recordsFrom 8 (before ++ (chunk ∷ []))) (at + length chunk)
     walk-next steps = rw (records-next, end-next)
 
 -- A chunk whose data do not run past the end: its bytes are at the place, and it is as long as it says.
@@ -111,7 +116,11 @@ accepted-fits {m} {header} {before} {at} r hold =
     (chunk, part, rules-fit 8 (turn-bytes (r .turn)) part size hold)
 
 -- Induction along the walk: what holds where all chunks are read, and where one is refused, holds of every walk.
-module _ {m header : List ℕ} (P : Walk → Type 0) (ends : (all : List (List ℕ)) → m ≡ header ++ joined all → InTurn [] all → P (whole (recordsFrom 8 all))) (stops : (before : List (List ℕ)) (at : ℕ) → Reached m header before at → at < length m → (r : Refusal) → firstBroken (chunkRules m (recordsFrom 8 before) at) ≡ Refused r → P (stopped r)) where
+module _ {m header : List ℕ} (P : Walk → Type 0)
+    (ends : (all : List (List ℕ)) → m ≡ header ++ joined all → InTurn [] all → P (whole (recordsFrom 8 all)))
+    (stops : (before : List (List ℕ)) (at : ℕ) → Reached m header before at → at < length m → (r : Refusal)
+    → firstBroken (chunkRules m (recordsFrom 8 before) at) ≡ Refused r
+    → P (stopped r)) where
   abbrev Onward : ℕ → Type 0
   Onward steps = (before : List (List ℕ)) (at : ℕ) → Reached m header before at → length m < at + steps → P (chunksFrom steps m (recordsFrom 8 before) at)
 
@@ -130,7 +139,8 @@ module _ {m header : List ℕ} (P : Walk → Type 0) (ends : (all : List (List �
           subst P (sym (walk-next r part fits steps))
           (ih (before ++ (chunk ∷ [])) (at + length chunk) (reached-next r part fits) (omega (arith, fits .bytes .size)))
 
-      go : (b : Bool) → leb (length m) at ≡ b → Onward steps → P (cond b (whole (recordsFrom 8 before)) (goOn (firstBroken (chunkRules m (recordsFrom 8 before) at)) behind))
+      go : (b : Bool) → leb (length m) at ≡ b → Onward steps
+          → P (cond b (whole (recordsFrom 8 before)) (goOn (firstBroken (chunkRules m (recordsFrom 8 before) at)) behind))
       go true e ih = ends before (reached-end r (leb-true (length m) at e)) (r .turn)
       go false e ih = turn (firstBroken (chunkRules m (recordsFrom 8 before) at)) refl (leb-false (length m) at e) ih
 
@@ -144,11 +154,15 @@ unfolding chunksFrom
 walk-ends zero m before at h = refl
 walk-ends (suc steps) m before at h = rw (le-leb (length m) at h)
 
-walk-goes-on : (steps : ℕ) (m : List ℕ) (before : List Chunk) (at : ℕ) → at < length m → firstBroken (chunkRules m before at) ≡ Accepted → chunksFrom (suc steps) m before at ≡ chunksFrom steps m (before ++ (chunkAt m at ∷ [])) (chunkEnd (chunkAt m at))
+walk-goes-on : (steps : ℕ) (m : List ℕ) (before : List Chunk) (at : ℕ) → at < length m
+    → firstBroken (chunkRules m before at) ≡ Accepted
+    → chunksFrom (suc steps) m before at ≡ chunksFrom steps m (before ++ (chunkAt m at ∷ [])) (chunkEnd (chunkAt m at))
 unfolding chunksFrom
 walk-goes-on steps m before at h e = rw (lt-leb (length m) at h, e)
 
-read-on : (steps : ℕ) {m header : List ℕ} {before rest : List (List ℕ)} {at : ℕ} → Reached m header before at → m ≡ (header ++ joined before) ++ joined rest → InTurn before rest → length m < at + steps → chunksFrom steps m (recordsFrom 8 before) at ≡ whole (recordsFrom 8 (before ++ rest))
+read-on : (steps : ℕ) {m header : List ℕ} {before rest : List (List ℕ)} {at : ℕ} → Reached m header before at
+    → m ≡ (header ++ joined before) ++ joined rest → InTurn before rest → length m < at + steps
+    → chunksFrom steps m (recordsFrom 8 before) at ≡ whole (recordsFrom 8 (before ++ rest))
 read-on zero r bytes turn h = absurd (omega (arith, reached-inside r))
 read-on (suc steps) {m} {header} {before} {at = at} r bytes done h =
     let over : length m ≤ at = omega (arith, ap length bytes, length-append (header ++ joined before) [], r .there) in
@@ -157,7 +171,8 @@ read-on (suc steps) {m} {header} {before} {at = at} r bytes (next {chunk = chunk
     let part : PartAt m at chunk = record { before = header ++ joined before; after = joined rest; bytes = bytes; starts = r .there } in
     let inside : at + length chunk ≤ length m = part-inside part in
     let ih = read-on steps (reached-next r part fits) (bytes ∙ joined-next header before chunk rest) turn (omega (arith, fits .bytes .size)) in
-    walk-goes-on steps m (recordsFrom 8 before) at (omega (arith, fits .bytes .size)) (accepted-hold (chunkRules m (recordsFrom 8 before) at) .1 (fits-rules 8 (turn-bytes (r .turn)) part fits))
+    walk-goes-on steps m (recordsFrom 8 before) at (omega (arith, fits .bytes .size))
+    (accepted-hold (chunkRules m (recordsFrom 8 before) at) .1 (fits-rules 8 (turn-bytes (r .turn)) part fits))
     ∙ walk-next r part fits steps
     ∙ ih
     ∙ rw append-assoc

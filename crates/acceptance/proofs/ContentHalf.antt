@@ -24,18 +24,22 @@ use Rattle.fields.specs.Fields.{valueFits, songRules, instrumentRules, envelope
 use Rattle.module.specs.Loops.{framesOf, instrumentLoopRules}
 use Rattle.module.specs.Streams.{patternStreamRules}
 use Rattle.module.specs.Verdicts.{contentRules}
-use Rattle.acceptance.specs.Rules.{Among, Filled, SongRules, InstrumentRules, PatternRules, SampleRules, EnvelopeRules, EnvelopesRules, VolumeFits, PanningValueFits, Content}
+use Rattle.acceptance.specs.Rules.{Among, Filled, SongRules, InstrumentRules, PatternRules, SampleRules, EnvelopeRules}
+use Rattle.acceptance.specs.Rules.{EnvelopesRules, VolumeFits, PanningValueFits, Content}
 use Rattle.acceptance.proofs.Standing.{Stands, Found, CountsOf, LayoutOf}
 use Rattle.acceptance.proofs.Locating.{number16-at, number32-at}
 use Rattle.acceptance.proofs.Holding.{leb-says, AllHold, accepted-hold}
 use Rattle.acceptance.proofs.ChunkHalf.{stands-part}
 use Rattle.acceptance.proofs.Cutting.{sized-least, block-there}
 use Rattle.acceptance.proofs.FillingChunks.{BlocksIn, fill-blocks, filled-blocks, blocks-fill, blocks-every}
-use Rattle.acceptance.proofs.BlockFields.{panning-says, song-sized, song-holds, instrument-sized, instrument-holds, sample-sized, sample-holds, envelope-sized, envelope-holds}
+use Rattle.acceptance.proofs.BlockFields.{panning-says, song-sized, song-holds, instrument-sized, instrument-holds}
+use Rattle.acceptance.proofs.BlockFields.{sample-sized, sample-holds, envelope-sized, envelope-holds}
 use Rattle.acceptance.proofs.BlockStreams.{TracksFit, pattern-sized, pattern-holds, pattern-rules-hold}
 use Rattle.acceptance.proofs.ContentRules.{ContentHolds, content-hold}
 
-pub counted : {front count other : ℕ} {chunk : List ℕ} {blocks : List (List ℕ)} → count ≡ other → Filled front chunk count blocks → Filled front chunk other blocks
+pub counted : {front count other : ℕ} {chunk : List ℕ} {blocks : List (List ℕ)} → count ≡ other
+    → Filled front chunk count blocks
+    → Filled front chunk other blocks
 counted same f = record { fronts = f .fronts; bytes = f .bytes; number = f .number ∙ same }
 
 -- The frames of a sample, by its number, are those of its block.
@@ -53,17 +57,20 @@ record AllBlocks (m : List ℕ) (l : Layout) (song inst patt smpl : List ℕ) (s
   inPatt : BlocksIn Pattern m (l .places .patt .at + 8) 8 patt (l .patterns) patterns
   inSmpl : BlocksIn Sample m (l .places .smpl .at + 8) 8 smpl (l .samples) samples
 
-module _ {m : List ℕ} {l : Layout} {song inst patt smpl : List ℕ} {songs instruments patterns samples : List (List ℕ)} (b : AllBlocks m l song inst patt smpl songs instruments patterns samples) where
+module _ {m : List ℕ} {l : Layout} {song inst patt smpl : List ℕ} {songs instruments patterns samples : List (List ℕ)}
+    (b : AllBlocks m l song inst patt smpl songs instruments patterns samples) where
   songs-hold : Every (λ at. AllHold (songRules m (l .patterns) at)) (songBlocks m l) ↔ Every (SongRules (length patterns)) songs
   songs-hold = blocks-every (b .inSong) (λ at block p s. rw (b .inPatt .filled .number) (song-holds p s (l .patterns)))
 
   samples-hold : Every (λ at. AllHold (flagsRules m (l .places .smpl) at)) (sampleBlocks m l) ↔ Every SampleRules samples
   samples-hold = blocks-every (b .inSmpl) (λ at block p s. sample-holds p s (l .places .smpl))
 
-  patterns-hold : TracksFit (l .tracks) → Bytes m → Every (λ at. AllHold (patternStreamRules m (l .tracks) at)) (patternBlocks m l) ↔ Every (PatternRules (l .tracks)) patterns
+  patterns-hold : TracksFit (l .tracks) → Bytes m
+      → Every (λ at. AllHold (patternStreamRules m (l .tracks) at)) (patternBlocks m l) ↔ Every (PatternRules (l .tracks)) patterns
   patterns-hold t bytes = blocks-every (b .inPatt) (λ at block p s. (pattern-holds p s (l .tracks), λ r. pattern-rules-hold (l .tracks) block r p bytes t))
 
-  instruments-hold : Every (λ at. AllHold (instrumentRules m (l .samples) at) × AllHold (instrumentLoopRules m (l .places .smpl) at)) (instrumentBlocks m l) ↔ Every (InstrumentRules samples) instruments
+  instruments-hold : Every (λ at. AllHold (instrumentRules m (l .samples) at) × AllHold (instrumentLoopRules m (l .places .smpl) at)) (instrumentBlocks m l)
+      ↔ Every (InstrumentRules samples) instruments
   instruments-hold =
       let frames = frames-same (l .places .smpl) (b .inSmpl) in
       blocks-every (b .inInst) (λ at block p s. rw (← b .inSmpl .filled .number) (instrument-holds p s (l .places .smpl) samples frames))
@@ -73,23 +80,34 @@ pub count-same : {m chunk : List ℕ} {place : Place} → Stands m place chunk �
 count-same s h = rw (s .there) (number16-at (stands-part s) 8 h)
 
 -- The envelopes of a chunk, where it is there.
-module _ {m : List ℕ} {chunks : List (List ℕ)} {letters : List ℕ} {place : Place} (found : Found m chunks letters place) (signed : Bool) (ValueFits : ℕ → Type 0) (says : (v : ℕ) → (valueFits signed v ≡ true) ↔ ValueFits v) (instruments : ℕ) where
-  each-envelope : {chunk : List ℕ} {blocks : List (List ℕ)} → BlocksIn Envelope m (place .at + 10) 10 chunk (envelopeCount m place) blocks → Every (λ at. AllHold (envelopeRules m instruments signed at)) (envelopeBlocks m place) ↔ Every (EnvelopeRules instruments ValueFits) blocks
+module _ {m : List ℕ} {chunks : List (List ℕ)} {letters : List ℕ} {place : Place} (found : Found m chunks letters place)
+    (signed : Bool) (ValueFits : ℕ → Type 0) (says : (v : ℕ) → (valueFits signed v ≡ true) ↔ ValueFits v)
+    (instruments : ℕ) where
+  each-envelope : {chunk : List ℕ} {blocks : List (List ℕ)}
+      → BlocksIn Envelope m (place .at + 10) 10 chunk (envelopeCount m place) blocks
+      → Every (λ at. AllHold (envelopeRules m instruments signed at)) (envelopeBlocks m place) ↔ Every (EnvelopeRules instruments ValueFits) blocks
   each-envelope b = blocks-every b (λ at block p s. envelope-holds p s signed ValueFits says instruments)
 
-  envelopes-follow : (place .present ≡ true → blockAt m Envelope place (envelopeCount m place) ≡ dataEnd place) → Every (λ at. AllHold (envelopeRules m instruments signed at)) (envelopeBlocks m place) → (chunk : List ℕ) → Among chunks letters chunk → EnvelopesRules instruments ValueFits chunk
+  envelopes-follow : (place .present ≡ true → blockAt m Envelope place (envelopeCount m place) ≡ dataEnd place)
+      → Every (λ at. AllHold (envelopeRules m instruments signed at)) (envelopeBlocks m place) → (chunk : List ℕ)
+      → Among chunks letters chunk
+      → EnvelopesRules instruments ValueFits chunk
   envelopes-follow fill e chunk among =
       let s = found .stands chunk among in
       let b = fill-blocks s Envelope 10 (envelopeCount m place) (fill (s .there)) in
       record { envelopes = b .0; filled = counted (count-same s (b .1 .filled .fronts)) (b .1 .filled); rules = each-envelope (b .1) .0 e }
 
   module _ (rules : (chunk : List ℕ) → Among chunks letters chunk → EnvelopesRules instruments ValueFits chunk) where
-    there-hold : place .present ≡ true → (blockAt m Envelope place (envelopeCount m place) ≡ dataEnd place) × Every (λ at. AllHold (envelopeRules m instruments signed at)) (envelopeBlocks m place)
+    there-hold : place .present ≡ true
+        → (blockAt m Envelope place (envelopeCount m place) ≡ dataEnd place)
+        × Every (λ at. AllHold (envelopeRules m instruments signed at)) (envelopeBlocks m place)
     there-hold there =
         let chunk = found .chunk there .0 in
         let s = found .stands chunk (found .chunk there .1) in
         let r = rules chunk (found .chunk there .1) in
-        let b = filled-blocks s Envelope 10 (envelopeCount m place) (r .envelopes) (counted (sym (count-same s (r .filled .fronts))) (r .filled)) (every-of (envelope-sized instruments ValueFits) (r .rules)) in
+        let b = filled-blocks s Envelope 10 (envelopeCount m place) (r .envelopes)
+        (counted (sym (count-same s (r .filled .fronts))) (r .filled))
+        (every-of (envelope-sized instruments ValueFits) (r .rules)) in
         (blocks-fill s Envelope 10 (envelopeCount m place) (r .envelopes) b, each-envelope b .1 (r .rules))
 
     envelopes-hold : Every (λ at. AllHold (envelopeRules m instruments signed at)) (envelopeBlocks m place)
@@ -105,7 +123,11 @@ panning-values version (inl e) v = rw e (λ h. (λ three. absurd (omega arith), 
 panning-values version (inr e) v = rw e (λ h. (λ three. panning-says v .0 h, λ two. absurd (omega arith)), λ h. panning-says v .1 (h .0 refl))
 
 -- The layout of the chunks, with the five that every module has.
-module _ {m header : List ℕ} {chunks : List (List ℕ)} {l : Layout} (layout : LayoutOf m header chunks l) (version : (byteAt header 4 ≡ 2) ⊎ (byteAt header 4 ≡ 3)) {info song inst patt smpl : List ℕ} (infoThere : Among chunks infoLetters info) (songThere : Among chunks songLetters song) (instThere : Among chunks instLetters inst) (pattThere : Among chunks pattLetters patt) (smplThere : Among chunks smplLetters smpl) where
+module _ {m header : List ℕ} {chunks : List (List ℕ)} {l : Layout} (layout : LayoutOf m header chunks l)
+    (version : (byteAt header 4 ≡ 2) ⊎ (byteAt header 4 ≡ 3)) {info song inst patt smpl : List ℕ}
+    (infoThere : Among chunks infoLetters info) (songThere : Among chunks songLetters song)
+    (instThere : Among chunks instLetters inst) (pattThere : Among chunks pattLetters patt)
+    (smplThere : Among chunks smplLetters smpl) where
   counts : CountsOf l info
   counts = layout .counts info infoThere
 
@@ -143,8 +165,13 @@ module _ {m header : List ℕ} {chunks : List (List ℕ)} {l : Layout} (layout :
       instrumentRules = instruments-hold b .0 (every-both (h .fields .instruments) (h .loops));
       patternRules = subst (λ (tracks : ℕ). Every (PatternRules tracks) (patterns .0)) (counts .4) (patterns-hold b layout-tracks bytes .0 (h .streams));
       sampleRules = samples-hold b .0 (h .blocks .flags);
-      volumeEnvelopes = rw (instruments .1 .filled .number) (envelopes-follow (layout .venv) false VolumeFits (λ v. leb-says v 64) (l .instruments) (h .blocks .volumeEnvelopes) (h .fields .volumeEnvelopes));
-      panningEnvelopes = rw (instruments .1 .filled .number, ← layout .version) (envelopes-follow (layout .penv) (eqb (l .version) 3) (PanningValueFits (l .version)) (panning-values (l .version) layout-version) (l .instruments) (h .blocks .panningEnvelopes) (h .fields .panningEnvelopes));
+      volumeEnvelopes = rw (instruments .1 .filled .number)
+          (envelopes-follow (layout .venv) false VolumeFits (λ v. leb-says v 64) (l .instruments) (h .blocks .volumeEnvelopes)
+          (h .fields .volumeEnvelopes));
+      panningEnvelopes = rw (instruments .1 .filled .number, ← layout .version)
+          (envelopes-follow (layout .penv) (eqb (l .version) 3) (PanningValueFits (l .version))
+          (panning-values (l .version) layout-version) (l .instruments) (h .blocks .panningEnvelopes)
+          (h .fields .panningEnvelopes));
     }
       where
         songs : (blocks : List (List ℕ)) × BlocksIn Song m (l .places .song .at + 8) 8 song (l .songs) blocks
@@ -172,13 +199,16 @@ module _ {m header : List ℕ} {chunks : List (List ℕ)} {l : Layout} (layout :
         samples = blocks-fill smplStands Sample 8 (l .samples) (c .samples) (b .inSmpl);
         flags = samples-hold b .1 (c .sampleRules);
         volumeEnvelopes = λ there. there-hold (layout .venv) false VolumeFits (λ v. leb-says v 64) (l .instruments) volume there .0;
-        panningEnvelopes = λ there. there-hold (layout .penv) (eqb (l .version) 3) (PanningValueFits (l .version)) (panning-values (l .version) layout-version) (l .instruments) panning there .0;
+        panningEnvelopes = λ there.
+            there-hold (layout .penv) (eqb (l .version) 3) (PanningValueFits (l .version))
+            (panning-values (l .version) layout-version) (l .instruments) panning there .0;
       };
       fields = record {
         songs = songs-hold b .1 (c .songRules);
         instruments = every-of (λ at h. h .0) instrumentsHold;
         volumeEnvelopes = envelopes-hold (layout .venv) false VolumeFits (λ v. leb-says v 64) (l .instruments) volume;
-        panningEnvelopes = envelopes-hold (layout .penv) (eqb (l .version) 3) (PanningValueFits (l .version)) (panning-values (l .version) layout-version) (l .instruments) panning;
+        panningEnvelopes = envelopes-hold (layout .penv) (eqb (l .version) 3) (PanningValueFits (l .version))
+            (panning-values (l .version) layout-version) (l .instruments) panning;
       };
       loops = every-of (λ at h. h .1) instrumentsHold;
       streams = patterns-hold b layout-tracks bytes .1 patternRules;
@@ -189,13 +219,19 @@ module _ {m header : List ℕ} {chunks : List (List ℕ)} {l : Layout} (layout :
 
         b : AllBlocks m l song inst patt smpl (c .songs) (c .instruments) (c .patterns) (c .samples)
         b = record {
-          inSong = filled-blocks songStands Song 8 (l .songs) (c .songs) (counted (sym (counts .2)) (c .songsFill)) (every-of (song-sized (length (c .patterns))) (c .songRules));
-          inInst = filled-blocks instStands Instrument 8 (l .instruments) (c .instruments) (counted (sym (counts .0)) (c .instrumentsFill)) (every-of (instrument-sized (c .samples)) (c .instrumentRules));
-          inPatt = filled-blocks pattStands Pattern 8 (l .patterns) (c .patterns) (counted (sym (counts .3)) (c .patternsFill)) (every-of (pattern-sized (l .tracks)) patternRules);
-          inSmpl = filled-blocks smplStands Sample 8 (l .samples) (c .samples) (counted (sym (counts .1)) (c .samplesFill)) (every-of sample-sized (c .sampleRules));
+          inSong = filled-blocks songStands Song 8 (l .songs) (c .songs) (counted (sym (counts .2)) (c .songsFill))
+              (every-of (song-sized (length (c .patterns))) (c .songRules));
+          inInst = filled-blocks instStands Instrument 8 (l .instruments) (c .instruments)
+              (counted (sym (counts .0)) (c .instrumentsFill))
+              (every-of (instrument-sized (c .samples)) (c .instrumentRules));
+          inPatt = filled-blocks pattStands Pattern 8 (l .patterns) (c .patterns)
+              (counted (sym (counts .3)) (c .patternsFill)) (every-of (pattern-sized (l .tracks)) patternRules);
+          inSmpl = filled-blocks smplStands Sample 8 (l .samples) (c .samples) (counted (sym (counts .1)) (c .samplesFill))
+              (every-of sample-sized (c .sampleRules));
         }
 
-        instrumentsHold : Every (λ at. AllHold (instrumentRules m (l .samples) at) × AllHold (instrumentLoopRules m (l .places .smpl) at)) (instrumentBlocks m l)
+        instrumentsHold : Every (λ at. AllHold (instrumentRules m (l .samples) at) × AllHold (instrumentLoopRules m (l .places .smpl) at))
+            (instrumentBlocks m l)
         instrumentsHold = instruments-hold b .1 (c .instrumentRules)
 
         volume : (chunk : List ℕ) → Among chunks venvLetters chunk → EnvelopesRules (l .instruments) VolumeFits chunk

@@ -42,7 +42,8 @@ use Rattle.acceptance.proofs.ContentRules.{BlocksHold, blocks-hold, Thi
 use Rattle.acceptance.proofs.ContentHalf.{frames-same}
 use Rattle.acceptance.proofs.FirstBroken.{WhereBroken, no-rule, this-or, first-broken, broken-append, broken-each, both-broken, unless-broken}
 use Rattle.acceptance.proofs.ChunkPlaces.{Placed}
-use Rattle.acceptance.proofs.BlocksThere.{first-is, all-chunks, counts, found-of, BlocksThere, stands-of, blocks-at, blocks-there, Begins, thing-blocks, blocks-of, each-begins}
+use Rattle.acceptance.proofs.BlocksThere.{first-is, all-chunks, counts, found-of, BlocksThere, stands-of, blocks-at}
+use Rattle.acceptance.proofs.BlocksThere.{blocks-there, Begins, thing-blocks, blocks-of, each-begins}
 use Rattle.acceptance.proofs.FieldPlaces.{each-placed, field-rules-placed}
 
 module _ {m : List ℕ} {l : Layout} (o : Outlined m l) where

@@ -14,7 +14,9 @@ use Rattle.blocks.specs.Filling.{dataEnd, flagsRules, blockRules}
 use Rattle.blocks.specs.declared.Kind.the-variants.{Song, Instrument, Pattern, Sample, Envelope}
 use Rattle.blocks.specs.Things.{kindOf, chunkOf, countOf}
 use Rattle.blocks.specs.declared.Thing.{Thing}
-use Rattle.blocks.specs.declared.Thing.the-variants.{Song as SongThing, Instrument as InstrumentThing, Pattern as PatternThing, Sample as SampleThing, VolumeEnvelope, PanningEnvelope}
+use Rattle.blocks.specs.declared.Thing.the-variants.{Song as SongThing, Instrument as InstrumentThing}
+use Rattle.blocks.specs.declared.Thing.the-variants.{Pattern as PatternThing, Sample as SampleThing, VolumeEnvelope}
+use Rattle.blocks.specs.declared.Thing.the-variants.{PanningEnvelope}
 use Rattle.fields.specs.Fields.{songRules, instrumentRules, envelopeRules, fieldRules}
 use Rattle.module.specs.Loops.{instrumentLoopRules, loopRules}
 use Rattle.module.specs.Streams.{patternStreamRules, streamRules}
@@ -46,12 +48,29 @@ pub record ContentHolds (m : List ℕ) (l : Layout) : Type 0 where
   pub streams : Every (λ at. AllHold (patternStreamRules m (l .tracks) at)) (patternBlocks m l)
 
 module _ (m : List ℕ) (l : Layout) where
-  blocks-say : AllHold (blockRules m l) ↔ ((blockAt m Song (l .places .song) (l .songs) ≡ dataEnd (l .places .song)) × ((blockAt m Instrument (l .places .inst) (l .instruments) ≡ dataEnd (l .places .inst)) × ((blockAt m Pattern (l .places .patt) (l .patterns) ≡ dataEnd (l .places .patt)) × ((blockAt m Sample (l .places .smpl) (l .samples) ≡ dataEnd (l .places .smpl)) × (Every (λ at. AllHold (flagsRules m (l .places .smpl) at)) (sampleBlocks m l) × ((l .places .venv .present ≡ true → blockAt m Envelope (l .places .venv) (envelopeCount m (l .places .venv)) ≡ dataEnd (l .places .venv)) × (l .places .penv .present ≡ true → blockAt m Envelope (l .places .penv) (envelopeCount m (l .places .penv)) ≡ dataEnd (l .places .penv))))))))
+  blocks-say : AllHold (blockRules m l)
+      ↔ ((blockAt m Song (l .places .song) (l .songs) ≡ dataEnd (l .places .song))
+      × ((blockAt m Instrument (l .places .inst) (l .instruments) ≡ dataEnd (l .places .inst))
+      × ((blockAt m Pattern (l .places .patt) (l .patterns) ≡ dataEnd (l .places .patt))
+      × ((blockAt m Sample (l .places .smpl) (l .samples) ≡ dataEnd (l .places .smpl))
+      × (Every (λ at. AllHold (flagsRules m (l .places .smpl) at)) (sampleBlocks m l)
+      × ((l .places .venv .present ≡ true → blockAt m Envelope (l .places .venv) (envelopeCount m (l .places .venv)) ≡ dataEnd (l .places .venv))
+      × (l .places .penv .present ≡ true → blockAt m Envelope (l .places .penv) (envelopeCount m (l .places .penv)) ≡ dataEnd (l .places .penv))))))))
   blocks-say = simp (plain, each-hold) Iff·rfl
 
   pub blocks-hold : AllHold (blockRules m l) ↔ BlocksHold m l
   blocks-hold = (
-    λ e. (let h = blocks-say .0 e in record { songs = h .0; instruments = h .1 .0; patterns = h .1 .1 .0; samples = h .1 .1 .1 .0; flags = h .1 .1 .1 .1 .0; volumeEnvelopes = h .1 .1 .1 .1 .1 .0; panningEnvelopes = h .1 .1 .1 .1 .1 .1 }),
+    λ e.
+        (let h = blocks-say .0 e in
+        record {
+          songs = h .0;
+          instruments = h .1 .0;
+          patterns = h .1 .1 .0;
+          samples = h .1 .1 .1 .0;
+          flags = h .1 .1 .1 .1 .0;
+          volumeEnvelopes = h .1 .1 .1 .1 .1 .0;
+          panningEnvelopes = h .1 .1 .1 .1 .1 .1;
+        }),
     λ h. blocks-say .1 (h .songs, (h .instruments, (h .patterns, (h .samples, (h .flags, (h .volumeEnvelopes, h .panningEnvelopes)))))),
   )
 
@@ -67,7 +86,11 @@ module _ (m : List ℕ) (l : Layout) where
   thing-fills f VolumeEnvelope there = f .volumeEnvelopes there
   thing-fills f PanningEnvelope there = f .panningEnvelopes there
 
-  fields-say : AllHold (fieldRules m l) ↔ (Every (λ at. AllHold (songRules m (l .patterns) at)) (songBlocks m l) × (Every (λ at. AllHold (instrumentRules m (l .samples) at)) (instrumentBlocks m l) × (Every (λ at. AllHold (envelopeRules m (l .instruments) false at)) (envelopeBlocks m (l .places .venv)) × Every (λ at. AllHold (envelopeRules m (l .instruments) (eqb (l .version) 3) at)) (envelopeBlocks m (l .places .penv)))))
+  fields-say : AllHold (fieldRules m l)
+      ↔ (Every (λ at. AllHold (songRules m (l .patterns) at)) (songBlocks m l)
+      × (Every (λ at. AllHold (instrumentRules m (l .samples) at)) (instrumentBlocks m l)
+      × (Every (λ at. AllHold (envelopeRules m (l .instruments) false at)) (envelopeBlocks m (l .places .venv))
+      × Every (λ at. AllHold (envelopeRules m (l .instruments) (eqb (l .version) 3) at)) (envelopeBlocks m (l .places .penv)))))
   fields-say = simp (every-append, each-hold) Iff·rfl
 
   pub fields-hold : AllHold (fieldRules m l) ↔ FieldsHold m l

@@ -96,7 +96,9 @@ pub record Cut (kind : Kind) (n : ℕ) (bytes : List ℕ) : Type 0 where
 pub cut : (kind : Kind) (m : List ℕ) (n at : ℕ) (bytes : List ℕ) → PartAt m at bytes → placeAfter (sizeOf kind m) n at ≡ at + length bytes → Cut kind n bytes
 cut kind m zero at [] p e = record { blocks = []; number = refl; all = refl; sized = none }
 cut kind m zero at (x ∷ bytes) p e = absurd (omega arith)
-cut kind m (suc n) at bytes p e = more (cut kind m n (at + length block) (drop size bytes) (part-rest block (drop size bytes) parts) (rw (block-size, length-drop) (e ∙ omega (arith, fits))))
+cut kind m (suc n) at bytes p e =
+    more (cut kind m n (at + length block) (drop size bytes) (part-rest block (drop size bytes) parts)
+    (rw (block-size, length-drop) (e ∙ omega (arith, fits))))
   where
     size : ℕ
     size = sizeOf kind m at
@@ -122,7 +124,9 @@ cut kind m (suc n) at bytes p e = more (cut kind m n (at + length block) (drop s
     }
 
 -- Blocks lead to the end of their bytes.
-pub blocks-end : (kind : Kind) {m : List ℕ} {at : ℕ} (blocks : List (List ℕ)) → PartAt m at (joined blocks) → Every (Sized kind) blocks → placeAfter (sizeOf kind m) (length blocks) at ≡ at + length (joined blocks)
+pub blocks-end : (kind : Kind) {m : List ℕ} {at : ℕ} (blocks : List (List ℕ)) → PartAt m at (joined blocks)
+    → Every (Sized kind) blocks
+    → placeAfter (sizeOf kind m) (length blocks) at ≡ at + length (joined blocks)
 blocks-end kind [] p e = omega arith
 blocks-end kind {at = at} (block ∷ blocks) p (also s e) =
     after-first (sizeOf kind _) (length blocks) at (length block) (part-size kind (part-first block (joined blocks) p) s)
@@ -130,7 +134,9 @@ blocks-end kind {at = at} (block ∷ blocks) p (also s e) =
     ∙ omega (arith, length-append block (joined blocks))
 
 -- Each block stands at its place.
-pub block-there : (kind : Kind) {m : List ℕ} {at : ℕ} (blocks : List (List ℕ)) (i : ℕ) → i < length blocks → PartAt m at (joined blocks) → Every (Sized kind) blocks → PartAt m (placeAfter (sizeOf kind m) i at) (getD blocks i [])
+pub block-there : (kind : Kind) {m : List ℕ} {at : ℕ} (blocks : List (List ℕ)) (i : ℕ) → i < length blocks
+    → PartAt m at (joined blocks) → Every (Sized kind) blocks
+    → PartAt m (placeAfter (sizeOf kind m) i at) (getD blocks i [])
 block-there kind [] i h p e = absurd (omega arith)
 block-there kind (block ∷ blocks) zero h p e = part-first block (joined blocks) p
 block-there kind (block ∷ blocks) (suc i) h p (also s e) =
@@ -138,13 +144,18 @@ block-there kind (block ∷ blocks) (suc i) h p (also s e) =
 
 -- What holds of every place holds of every block, and back.
 module _ (kind : Kind) {m : List ℕ} {P : ℕ → Type 0} {Q : List ℕ → Type 0} where
-  pub places-blocks : ((at : ℕ) (block : List ℕ) → PartAt m at block → Sized kind block → P at → Q block) → {at : ℕ} (blocks : List (List ℕ)) → PartAt m at (joined blocks) → Every (Sized kind) blocks → Every P (placesFrom (sizeOf kind m) (length blocks) at) → Every Q blocks
+  pub places-blocks : ((at : ℕ) (block : List ℕ) → PartAt m at block → Sized kind block → P at → Q block)
+      → {at : ℕ} (blocks : List (List ℕ)) → PartAt m at (joined blocks) → Every (Sized kind) blocks
+      → Every P (placesFrom (sizeOf kind m) (length blocks) at)
+      → Every Q blocks
   places-blocks h [] p e f = none
   places-blocks h {at} (block ∷ blocks) p (also s e) (also x f) =
       let first = part-first block (joined blocks) p in
       also (h at block first s x) (places-blocks h blocks (part-rest block (joined blocks) p) e (rw (part-size kind first s) at f))
 
-  pub blocks-places : ((at : ℕ) (block : List ℕ) → PartAt m at block → Sized kind block → Q block → P at) → {at : ℕ} (blocks : List (List ℕ)) → PartAt m at (joined blocks) → Every (Sized kind) blocks → Every Q blocks → Every P (placesFrom (sizeOf kind m) (length blocks) at)
+  pub blocks-places : ((at : ℕ) (block : List ℕ) → PartAt m at block → Sized kind block → Q block → P at)
+      → {at : ℕ} (blocks : List (List ℕ)) → PartAt m at (joined blocks) → Every (Sized kind) blocks → Every Q blocks
+      → Every P (placesFrom (sizeOf kind m) (length blocks) at)
   blocks-places h [] p e f = none
   blocks-places h {at} (block ∷ blocks) p (also s e) (also x f) =
       let first = part-first block (joined blocks) p in

@@ -12,14 +12,17 @@ module _ (a : ℕ) (xs : List ℕ) where
   mid-end = take-all (length xs - a) (drop a xs) (omega (arith, length-drop a xs))
 
   pub put-end : (ys : List ℕ) → putMid a (length xs - a) xs ys ≡ take a xs ++ ys
-  put-end ys = ap (λ (rest : List ℕ). take a xs ++ (ys ++ rest)) (drop-of-length-le (drop a xs) {i = length xs - a} (omega (arith, length-drop a xs))) ∙ ap (λ (rest : List ℕ). take a xs ++ rest) (append-nil ys)
+  put-end ys =
+      ap (λ (rest : List ℕ). take a xs ++ (ys ++ rest)) (drop-of-length-le (drop a xs) {i = length xs - a} (omega (arith, length-drop a xs)))
+      ∙ ap (λ (rest : List ℕ). take a xs ++ rest) (append-nil ys)
 
 -- What a copy of so many bytes to the front of a list leaves.
 pub copied : (source xs out first : List ℕ) → source ≡ xs → first ≡ take (length source) source ++ drop (length source) out → first ≡ xs ++ drop (length xs) out
 copied source xs out first same e = rw same at (e ∙ ap (λ (front : List ℕ). front ++ drop (length source) out) (take-all (length source) source (omega arith)))
 
 -- A list is written up to a place, and a part from there on is lent and given back with more written at its front.
-module _ (front xs out₀ out mid : List ℕ) (a e : ℕ) (before : out ≡ front ++ drop (length front) out₀) (place : length front ≡ a) (fits : a + length xs ≤ e) (inside : e ≤ length out₀) where
+module _ (front xs out₀ out mid : List ℕ) (a e : ℕ) (before : out ≡ front ++ drop (length front) out₀)
+    (place : length front ≡ a) (fits : a + length xs ≤ e) (inside : e ≤ length out₀) where
   ahead : drop a out ≡ drop a out₀
   ahead = ap (drop a) before ∙ drop-at front (drop (length front) out₀) a place ∙ ap (λ (k : ℕ). drop k out₀) place
 
@@ -33,11 +36,14 @@ module _ (front xs out₀ out mid : List ℕ) (a e : ℕ) (before : out ≡ fron
       ap (λ (l : List ℕ). l ++ postOf a (e - a) out) (is ∙ ap (λ (l : List ℕ). xs ++ drop (length xs) l) part)
       ∙ ap (λ (l : List ℕ). (xs ++ drop (length xs) (take (e - a) (drop a out₀))) ++ drop (e - a) l) ahead
       ∙ append-assoc xs (drop (length xs) (take (e - a) (drop a out₀))) (drop (e - a) (drop a out₀))
-      ∙ ap (λ (l : List ℕ). xs ++ l) (sym (drop-append-le (length xs) (take (e - a) (drop a out₀)) (drop (e - a) (drop a out₀)) (omega (arith, lent))) ∙ ap (drop (length xs)) (take-append-drop (e - a) (drop a out₀))) in
+      ∙ ap (λ (l : List ℕ). xs ++ l) (sym (drop-append-le (length xs) (take (e - a) (drop a out₀)) (drop (e - a) (drop a out₀)) (omega (arith, lent)))
+      ∙ ap (drop (length xs)) (take-append-drop (e - a) (drop a out₀))) in
       let written : take a out ≡ front = ap (take a) before ∙ take-at front (drop (length front) out₀) a place in
       let there : a + length xs ≡ length (front ++ xs) = omega (arith, length-append front xs, place) in
       let last : drop (length xs) (drop a out₀) ≡ drop (length (front ++ xs)) out₀ = drop-drop (length xs) a out₀ ∙ ap (λ (k : ℕ). drop k out₀) there in
-      ap (λ (l : List ℕ). l ++ (mid ++ postOf a (e - a) out)) written ∙ ap (λ (l : List ℕ). front ++ l) (behind ∙ ap (λ (l : List ℕ). xs ++ l) last) ∙ sym (append-assoc front xs (drop (length (front ++ xs)) out₀))
+      ap (λ (l : List ℕ). l ++ (mid ++ postOf a (e - a) out)) written
+      ∙ ap (λ (l : List ℕ). front ++ l) (behind ∙ ap (λ (l : List ℕ). xs ++ l) last)
+      ∙ sym (append-assoc front xs (drop (length (front ++ xs)) out₀))
 
 -- The list keeps its length.
 pub written-length : (xs out₀ out : List ℕ) → out ≡ xs ++ drop (length xs) out₀ → length xs ≤ length out₀ → length out ≡ length out₀

@@ -22,9 +22,13 @@ use Rattle.blocks.specs.Things.{kindOf}
 use Rattle.blocks.specs.declared.Thing.{Thing}
 use Rattle.blocks.specs.declared.Thing.the-variants.{Song, Instrument, Pattern, Sample, VolumeEnvelope, PanningEnvelope}
 use Rattle.module.specs.Verdicts.{contentRules, contentIf, verdictOf, moduleVerdict}
-use Rattle.acceptance.specs.Rules.{Among, NeedsInfo, SongRules, InstrumentRules, PatternRules, SampleRules, EnvelopeRules, VolumeFits, PanningValueFits, Content, Rules}
-use Rattle.acceptance.specs.Faults.{lettersOf, frontOf, MadeOf, BlocksFault, InstrumentLacks, ReferenceFault, InstrumentFault, EnvelopeFault, FieldFault, LoopFault, PatternFault}
-use Rattle.acceptance.specs.Places.{AllChunks, BlockBegins, ContentPlace, blocks, reference, fieldRange, loop, stream, PlaceOf, tooLong, notAModule, version, chunkCut, identifier, repeated, beforeInfo, missing, fixedLength, infoRange, content}
+use Rattle.acceptance.specs.Rules.{Among, NeedsInfo, SongRules, InstrumentRules, PatternRules, SampleRules}
+use Rattle.acceptance.specs.Rules.{EnvelopeRules, VolumeFits, PanningValueFits, Content, Rules}
+use Rattle.acceptance.specs.Faults.{lettersOf, frontOf, MadeOf, BlocksFault, InstrumentLacks, ReferenceFault}
+use Rattle.acceptance.specs.Faults.{InstrumentFault, EnvelopeFault, FieldFault, LoopFault, PatternFault}
+use Rattle.acceptance.specs.Places.{AllChunks, BlockBegins, ContentPlace, blocks, reference, fieldRange, loop, stream}
+use Rattle.acceptance.specs.Places.{PlaceOf, tooLong, notAModule, version, chunkCut, identifier, repeated, beforeInfo}
+use Rattle.acceptance.specs.Places.{missing, fixedLength, infoRange, content}
 use Rattle.acceptance.proofs.Recorded.{There}
 use Rattle.acceptance.proofs.Standing.{LayoutOf}
 use Rattle.acceptance.proofs.ChunkHalf.{Mandatory, chunks-outline}
@@ -33,7 +37,9 @@ use Rattle.acceptance.proofs.ContentHalf.{content-exactly}
 use Rattle.acceptance.proofs.Acceptance.{verdict-found, accepted-exactly}
 use Rattle.acceptance.proofs.BlocksThere.{sized-of}
 use Rattle.acceptance.proofs.OneSplit.{split-same, all-same, blocks-own}
-use Rattle.acceptance.proofs.FaultlessChunks.{no-header-fault, no-version-fault, no-cut-fault, no-identifier-fault, no-repeated-fault, no-order-fault, no-length-fault, no-info-fault, no-missing-fault}
+use Rattle.acceptance.proofs.FaultlessChunks.{no-header-fault, no-version-fault, no-cut-fault, no-identifier-fault}
+use Rattle.acceptance.proofs.FaultlessChunks.{no-repeated-fault, no-order-fault, no-length-fault, no-info-fault}
+use Rattle.acceptance.proofs.FaultlessChunks.{no-missing-fault}
 
 -- Fields.
 no-envelope-fault : {n : ℕ} {ValueFits : ℕ → Type 0} {block : List ℕ} {offset : ℕ} → EnvelopeRules n ValueFits block → EnvelopeFault ValueFits block offset → ⊥

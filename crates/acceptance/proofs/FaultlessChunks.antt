@@ -12,7 +12,8 @@ use Rattle.vocabulary.specs.Letters.{infoLetters}
 use Rattle.vocabulary.proofs.EveryOne.{every-append, every-first}
 use Rattle.numbers.specs.Numbers.{byteAt, number32}
 use Rattle.acceptance.specs.Rules.{ChunkBytes, Among, NeedsInfo, InfoRules, ChunkRules}
-use Rattle.acceptance.specs.Faults.{HeaderFault, VersionFault, CutFault, IdentifierFault, RepeatedFault, OrderFault, MissingFault, LengthFault, RangeFault, InfoFault}
+use Rattle.acceptance.specs.Faults.{HeaderFault, VersionFault, CutFault, IdentifierFault, RepeatedFault, OrderFault}
+use Rattle.acceptance.specs.Faults.{MissingFault, LengthFault, RangeFault, InfoFault}
 use Rattle.acceptance.specs.Places.{HeaderAt, ChunkBegins, ChunksOf}
 use Rattle.acceptance.proofs.Locating.{byteAt-front, number32-front}
 use Rattle.acceptance.proofs.Recorded.{There}

@@ -22,7 +22,8 @@ use Rattle.blocks.specs.declared.Kind.the-variants.{Envelope}
 use Rattle.blocks.specs.Things.{kindOf, chunkOf, countOf}
 use Rattle.blocks.specs.declared.Thing.{Thing}
 use Rattle.blocks.specs.declared.Thing.the-variants.{Song, Instrument, VolumeEnvelope, PanningEnvelope}
-use Rattle.fields.specs.Fields.{panningFits, bit1, bit2, bit3, entryRules, songRules, instrumentRules, envelopeHeadRules, envelopePointRules, valueFits, valueRules, valuesRules, envelopeRules, fieldRules}
+use Rattle.fields.specs.Fields.{panningFits, bit1, bit2, bit3, entryRules, songRules, instrumentRules, envelopeHeadRules}
+use Rattle.fields.specs.Fields.{envelopePointRules, valueFits, valueRules, valuesRules, envelopeRules, fieldRules}
 use Rattle.acceptance.specs.Rules.{VolumeFits, PanningValueFits}
 use Rattle.acceptance.specs.Faults.{lettersOf, InstrumentLacks, ReferenceFault, InstrumentFault, EnvelopeFault, FieldFault}
 use Rattle.acceptance.specs.Places.{FieldAt, reference, fieldRange, content}
@@ -193,7 +194,8 @@ module _ {m : List ℕ} {l : Layout} (o : Outlined m l) where
             (λ e. inl (rw g at (leb-false last sections e)))
             (λ _ e. inr (leb-false first last e))
 
-      last-placed : not (bit2 flags) || (leb (envelopeLoopLast m at) sections && leb (envelopeLoopFirst m at) (envelopeLoopLast m at)) ≡ false → RangeAt (at + 6)
+      last-placed : not (bit2 flags) || (leb (envelopeLoopLast m at) sections && leb (envelopeLoopFirst m at) (envelopeLoopLast m at)) ≡ false
+          → RangeAt (at + 6)
       last-placed e =
           let (set, over) = unless-broken (bit2 flags) (leb (envelopeLoopLast m at) sections && leb (envelopeLoopFirst m at) (envelopeLoopLast m at)) e in
           let wrong = last-over (byteAt (block b) 5) (byteAt (block b) 6) (rw (byte-is 5 (lit< tt), byte-is 6 (lit< tt)) at over) in

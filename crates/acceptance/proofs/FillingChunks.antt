@@ -33,7 +33,8 @@ module _ {m chunk : List ℕ} {place : Place} (s : Stands m place chunk) where
       rw size at (part-rest {at = place .at} (take front chunk) rest (rw e at (stands-part s)))
 
   module _ (kind : Kind) (front count : ℕ) where
-    pub fill-blocks : placeAfter (sizeOf kind m) count (place .at + front) ≡ dataEnd place → (blocks : List (List ℕ)) × BlocksIn kind m (place .at + front) front chunk count blocks
+    pub fill-blocks : placeAfter (sizeOf kind m) count (place .at + front) ≡ dataEnd place
+        → (blocks : List (List ℕ)) × BlocksIn kind m (place .at + front) front chunk count blocks
     fill-blocks e = filled-by (cut kind m count (place .at + front) (drop front chunk) rest (e ∙ rw length-drop (omega (arith, s .size, fits))))
       where
         fits : front ≤ length chunk
@@ -46,7 +47,11 @@ module _ {m chunk : List ℕ} {place : Place} (s : Stands m place chunk) where
         filled-by c = (
           c .blocks,
           record {
-            filled = record { fronts = fits; bytes = sym (take-append-drop front chunk) ∙ ap (λ (bytes : List ℕ). take front chunk ++ bytes) (c .all); number = c .number };
+            filled = record {
+              fronts = fits;
+              bytes = sym (take-append-drop front chunk) ∙ ap (λ (bytes : List ℕ). take front chunk ++ bytes) (c .all);
+              number = c .number;
+            };
             there = rw (c .all) at rest;
             sized = c .sized;
           },
@@ -59,11 +64,17 @@ module _ {m chunk : List ℕ} {place : Place} (s : Stands m place chunk) where
       pub blocks-fill : BlocksIn kind m (place .at + front) front chunk count blocks → placeAfter (sizeOf kind m) count (place .at + front) ≡ dataEnd place
       blocks-fill b =
           let end = blocks-end kind blocks (b .there) (b .sized) in
-          let long : length chunk ≡ front + length (joined blocks) = ap length (b .filled .bytes) ∙ length-append (take front chunk) (joined blocks) ∙ ap (λ (n : ℕ). n + length (joined blocks)) (length-take-le front chunk (b .filled .fronts)) in
+          let long : length chunk ≡ front + length (joined blocks) =
+          ap length (b .filled .bytes)
+          ∙ length-append (take front chunk) (joined blocks)
+          ∙ ap (λ (n : ℕ). n + length (joined blocks)) (length-take-le front chunk (b .filled .fronts)) in
           (rw (b .filled .number) at end) ∙ omega (arith, s .size, long)
 
 -- What holds at the places of the blocks holds of the blocks, and back.
-pub blocks-every : {kind : Kind} {m : List ℕ} {start front : ℕ} {chunk : List ℕ} {count : ℕ} {blocks : List (List ℕ)} {P : ℕ → Type 0} {Q : List ℕ → Type 0} → BlocksIn kind m start front chunk count blocks → ((at : ℕ) (block : List ℕ) → PartAt m at block → Sized kind block → P at ↔ Q block) → Every P (placesFrom (sizeOf kind m) count start) ↔ Every Q blocks
+pub blocks-every : {kind : Kind} {m : List ℕ} {start front : ℕ} {chunk : List ℕ} {count : ℕ} {blocks : List (List ℕ)} {P : ℕ → Type 0} {Q : List ℕ → Type 0}
+    → BlocksIn kind m start front chunk count blocks
+    → ((at : ℕ) (block : List ℕ) → PartAt m at block → Sized kind block → P at ↔ Q block)
+    → Every P (placesFrom (sizeOf kind m) count start) ↔ Every Q blocks
 blocks-every {kind} {blocks = blocks} b h = rw (← b .filled .number) (
   places-blocks kind (λ at block p s. h at block p s .0) blocks (b .there) (b .sized),
   blocks-places kind (λ at block p s. h at block p s .1) blocks (b .there) (b .sized),

@@ -107,25 +107,40 @@ never-both true false = (λ h p q. false-never q, λ h. refl)
 never-both false b = (λ h p q. false-never p, λ h. refl)
 
 module _ (start : ℕ) {before : List (List ℕ)} {chunk : List ℕ} (every : Every ChunkBytes before) (c : ChunkBytes chunk) where
-  once-says : (not (covered (number32 chunk 0) && occurs (number32 chunk 0) (recordsFrom start before)) ≡ true) ↔ ((letters : List ℕ) → Covered letters → take 4 chunk ≡ letters → There before letters → ⊥)
+  once-says : (not (covered (number32 chunk 0) && occurs (number32 chunk 0) (recordsFrom start before)) ≡ true)
+      ↔ ((letters : List ℕ) → Covered letters → take 4 chunk ≡ letters → There before letters → ⊥)
   once-says = simp never-both (
     λ h letters covers named there. (let e = chunk-named c covers .1 named in h (rw e (covered-holds covers)) (rw e (occurs-says covers start every .1 there))),
-    λ h p q. let (letters, covers, e) = covered-letters (number32 chunk 0) p in h letters covers (chunk-named c covers .0 e) (occurs-says covers start every .0 (rw e at q)),
+    λ h p q.
+        let (letters, covers, e) = covered-letters (number32 chunk 0) p in
+        h letters covers (chunk-named c covers .0 e) (occurs-says covers start every .0 (rw e at q)),
   )
 
-  behind-says : (not (needsInfo (number32 chunk 0)) || occurs INFO (recordsFrom start before) ≡ true) ↔ ((letters : List ℕ) → NeedsInfo letters → take 4 chunk ≡ letters → There before infoLetters)
+  behind-says : (not (needsInfo (number32 chunk 0)) || occurs INFO (recordsFrom start before) ≡ true)
+      ↔ ((letters : List ℕ) → NeedsInfo letters → take 4 chunk ≡ letters → There before infoLetters)
   behind-says = simp unless-says (
     λ h letters needs named. occurs-says Covered.info start every .0 (h (rw (chunk-named c (needing needs) .1 named) (needing-holds needs))),
-    λ h p. let (letters, needs, e) = needing-letters (number32 chunk 0) p in occurs-says Covered.info start every .1 (h letters needs (chunk-named c (needing needs) .0 e)),
+    λ h p.
+        let (letters, needs, e) = needing-letters (number32 chunk 0) p in
+        occurs-says Covered.info start every .1 (h letters needs (chunk-named c (needing needs) .0 e)),
   )
 
 -- M8, M9: the lengths of NAME and of INFO.
 module _ {m : List ℕ} {at : ℕ} {chunk : List ℕ} (part : PartAt m at chunk) (c : ChunkBytes chunk) where
   lengths-say : (lengthFits (chunkAt m at) ≡ true) ↔ ((take 4 chunk ≡ nameLetters → length chunk ≡ 52) × (take 4 chunk ≡ infoLetters → length chunk ≡ 18))
-  lengths-say = simp (identifier-is part (c .size), data-length-is part (c .size), and-says, unless-says, eqb-says, chunk-named c Covered.name, chunk-named c Covered.info) (
-    λ h. (λ e. omega (arith, h .0 e, c .size), λ e. omega (arith, h .1 e, c .size)),
-    λ h. (λ e. omega (arith, h .0 e, c .size), λ e. omega (arith, h .1 e, c .size)),
-  )
+  lengths-say =
+      simp (
+        identifier-is part (c .size),
+        data-length-is part (c .size),
+        and-says,
+        unless-says,
+        eqb-says,
+        chunk-named c Covered.name,
+        chunk-named c Covered.info,
+      ) (
+        λ h. (λ e. omega (arith, h .0 e, c .size), λ e. omega (arith, h .1 e, c .size)),
+        λ h. (λ e. omega (arith, h .0 e, c .size), λ e. omega (arith, h .1 e, c .size)),
+      )
 
   info-if-named : AllHold (cond (eqb (number32 m at) INFO) (infoRules m (at + 8)) []) ↔ (take 4 chunk ≡ infoLetters → AllHold (infoRules m (at + 8)))
   info-if-named = simp (hold-if, eqb-says, identifier-is part (c .size), chunk-named c Covered.info) Iff·rfl

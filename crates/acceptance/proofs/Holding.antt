@@ -57,9 +57,14 @@ each-hold rulesAt (at ∷ places) = (
 -- Every one of the places of blocks that stand one behind the other; and of such at one distance from each other.
 pub every-place : (P : ℕ → Type 0) (size : ℕ → ℕ) (n start : ℕ) → Every P (placesFrom size n start) ↔ ((i : ℕ) → i < n → P (placeAfter size i start))
 every-place P size zero start = (λ e i h. absurd (omega arith), λ e. none)
-every-place P size (suc n) start = (forth (every-place P size n (start + size start) .0), λ h. also (h 0 (omega arith)) (every-place P size n (start + size start) .1 (λ i l. h (suc i) (omega arith))))
+every-place P size (suc n) start = (
+  forth (every-place P size n (start + size start) .0),
+  λ h. also (h 0 (omega arith)) (every-place P size n (start + size start) .1 (λ i l. h (suc i) (omega arith))),
+)
   where
-    forth : (Every P (placesFrom size n (start + size start)) → (i : ℕ) → i < n → P (placeAfter size i (start + size start))) → Every P (placesFrom size (suc n) start) → (i : ℕ) → i < suc n → P (placeAfter size i start)
+    forth : (Every P (placesFrom size n (start + size start)) → (i : ℕ) → i < n → P (placeAfter size i (start + size start)))
+        → Every P (placesFrom size (suc n) start) → (i : ℕ) → i < suc n
+        → P (placeAfter size i start)
     forth ih e zero h = every-first e
     forth ih e (suc i) h = ih (every-rest e) i (omega arith)
 

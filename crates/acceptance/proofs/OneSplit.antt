@@ -1,6 +1,6 @@
 -- Parts that say their own length: a list of bytes is joined from such parts in one way only. Chunks are such parts, and so are the blocks
 -- of a kind.
-use Prim.Native.Nat.{ℕ, _+_, _<_}
+use Prim.Native.Nat.{ℕ, _<_}
 use mathlib.Core.Path.{_≡_, refl, sym, ap, _∙_}
 use mathlib.Core.List.{List, [], _∷_, _++_, append-assoc, append-nil}
 use native.Mathlib.Omega.{arith}

@@ -44,7 +44,10 @@ module-opens m l = go (outline m) refl
     same e = cc
 
     accepted : (k : Layout) → outline m ≡ Opened k → (v : Verdict) → firstBroken (contentRules m k) ≡ v → outlineIf v (Opened k) ≡ Opened l → Opens m l
-    accepted k h Accepted e o = rw (same o) at (let opens : Opens m k = record { outlined = h; places = outline-places m k h; content = content-hold m k .0 (accepted-hold (contentRules m k) .0 e) } in opens)
+    accepted k h Accepted e o =
+        let content = content-hold m k .0 (accepted-hold (contentRules m k) .0 e) in
+        let opens : Opens m k = record { outlined = h; places = outline-places m k h; content = content } in
+        rw (same o) at opens
     accepted k h (VerdictRefused r) e o = let z : _≡_ {A = ℕ} 0 1 = cc in absurd (omega arith)
 
     go : (o : Outline) → outline m ≡ o → contentIf m o ≡ Opened l → Opens m l

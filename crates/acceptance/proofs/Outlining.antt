@@ -37,7 +37,8 @@ pub record EachOutline (m : List ℕ) (P : Outline → Type 0) : Type 0 where
   pub found : (all : List (List ℕ)) → AllRead m all → mandatoryThere (recordsFrom 8 all) ≡ true → P (Found (layoutWith m (placesOf (recordsFrom 8 all))))
 
 module _ (m : List ℕ) (P : Outline → Type 0) (each : EachOutline m P) where
-  all-read : (all : List (List ℕ)) → AllRead m all → (b : Bool) → mandatoryThere (recordsFrom 8 all) ≡ b → P (cond b (Found (layoutWith m (placesOf (recordsFrom 8 all)))) (Refused (refusal Missing (length m))))
+  all-read : (all : List (List ℕ)) → AllRead m all → (b : Bool) → mandatoryThere (recordsFrom 8 all) ≡ b
+      → P (cond b (Found (layoutWith m (placesOf (recordsFrom 8 all)))) (Refused (refusal Missing (length m))))
   all-read all read true h = each .found all read h
   all-read all read false h = each .missing all read h
 

@@ -12,8 +12,12 @@ use Rattle.acceptance.proofs.Holding.{AllHold}
 use Rattle.acceptance.proofs.BlockFields.{values-say}
 
 module _ (m : List ℕ) (instruments : ℕ) (signed : Bool) (at : ℕ) (hold : AllHold (envelopeRules m instruments signed at)) where
-  parts : AllHold (envelopeHeadRules m instruments at) × AllHold (envelopePointRules m (envelopeFlags m at) (envelopeSections m at) at) × AllHold (valuesRules m signed (envelopeSections m at) at)
-  parts = every-split (envelopeHeadRules m instruments at) (envelopePointRules m (envelopeFlags m at) (envelopeSections m at) at) (valuesRules m signed (envelopeSections m at) at) .0 hold
+  parts : AllHold (envelopeHeadRules m instruments at)
+      × AllHold (envelopePointRules m (envelopeFlags m at) (envelopeSections m at) at)
+      × AllHold (valuesRules m signed (envelopeSections m at) at)
+  parts =
+      every-split (envelopeHeadRules m instruments at) (envelopePointRules m (envelopeFlags m at) (envelopeSections m at) at)
+      (valuesRules m signed (envelopeSections m at) at) .0 hold
 
   pub sections-fit : envelopeSections m at ≤ 31
   sections-fit = leb-true (envelopeSections m at) 31 (every-first (every-rest (every-rest (parts .0))))

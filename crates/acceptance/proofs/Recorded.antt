@@ -53,29 +53,39 @@ abbrev pub There : List (List ℕ) → List ℕ → Type 0
 There chunks letters = (chunk : List ℕ) × Among chunks letters chunk
 
 module _ {letters : List ℕ} (covers : Covered letters) where
-  occurs-there : (at : ℕ) {chunks : List (List ℕ)} → Every ChunkBytes chunks → occurs (identifierOf covers) (recordsFrom at chunks) ≡ true → There chunks letters
+  occurs-there : (at : ℕ) {chunks : List (List ℕ)} → Every ChunkBytes chunks
+      → occurs (identifierOf covers) (recordsFrom at chunks) ≡ true
+      → There chunks letters
   occurs-there at none h = let z : _≡_ {A = ℕ} 0 1 = cc in absurd (omega arith)
   occurs-there at (also {x = chunk} {xs = chunks} c every) h = go (eqb (number32 chunk 0) (identifierOf covers)) refl (occurs-there (at + length chunk) every)
     where
-      go : (b : Bool) → eqb (number32 chunk 0) (identifierOf covers) ≡ b → (occurs (identifierOf covers) (recordsFrom (at + length chunk) chunks) ≡ true → There chunks letters) → There (chunk ∷ chunks) letters
+      go : (b : Bool) → eqb (number32 chunk 0) (identifierOf covers) ≡ b
+          → (occurs (identifierOf covers) (recordsFrom (at + length chunk) chunks) ≡ true → There chunks letters)
+          → There (chunk ∷ chunks) letters
       go true e ih = (chunk, among-front chunk chunks (chunk-named c covers .0 (eqb-true _ _ e)))
       go false e ih = let further = ih (rw e at h) in (further .0, among-behind chunk (further .1))
 
-  occurs-behind : (at : ℕ) (before after : List (List ℕ)) (chunk : List ℕ) → number32 chunk 0 ≡ identifierOf covers → occurs (identifierOf covers) (recordsFrom at (before ++ (chunk ∷ after))) ≡ true
+  occurs-behind : (at : ℕ) (before after : List (List ℕ)) (chunk : List ℕ) → number32 chunk 0 ≡ identifierOf covers
+      → occurs (identifierOf covers) (recordsFrom at (before ++ (chunk ∷ after))) ≡ true
   occurs-behind at [] after chunk e = rw (eq-eqb _ _ e)
-  occurs-behind at (first ∷ before) after chunk e = rw (occurs-behind (at + length first) before after chunk e) (or-true (eqb (number32 first 0) (identifierOf covers)))
+  occurs-behind at (first ∷ before) after chunk e =
+      rw (occurs-behind (at + length first) before after chunk e) (or-true (eqb (number32 first 0) (identifierOf covers)))
 
-  pub occurs-says : (at : ℕ) {chunks : List (List ℕ)} → Every ChunkBytes chunks → (occurs (identifierOf covers) (recordsFrom at chunks) ≡ true) ↔ There chunks letters
+  pub occurs-says : (at : ℕ) {chunks : List (List ℕ)} → Every ChunkBytes chunks
+      → (occurs (identifierOf covers) (recordsFrom at chunks) ≡ true) ↔ There chunks letters
   occurs-says at every = (
     occurs-there at every,
     λ (chunk, a). rw (a .splits) (occurs-behind at (a .before) (a .after) chunk (chunk-named (every-among every a) covers .1 (a .named))),
   )
 
   -- The place that the check finds is that of the first chunk with these letters.
-  pub place-of-first : (at : ℕ) {before : List (List ℕ)} (chunk : List ℕ) (after : List (List ℕ)) → Every ChunkBytes before → number32 chunk 0 ≡ identifierOf covers → (There before letters → ⊥) → placeOf (identifierOf covers) (recordsFrom at (before ++ (chunk ∷ after))) ≡ standing (recorded (at + length (joined before)) chunk)
+  pub place-of-first : (at : ℕ) {before : List (List ℕ)} (chunk : List ℕ) (after : List (List ℕ)) → Every ChunkBytes before
+      → number32 chunk 0 ≡ identifierOf covers → (There before letters → ⊥)
+      → placeOf (identifierOf covers) (recordsFrom at (before ++ (chunk ∷ after))) ≡ standing (recorded (at + length (joined before)) chunk)
   place-of-first at chunk after none e not-before = rw (eq-eqb _ _ e, add-zero)
   place-of-first at chunk after (also {x = first} {xs = before} c every) e not-before =
-      let other : eqb (number32 first 0) (identifierOf covers) ≡ false = ne-eqb _ _ (λ same. not-before (first, among-front first before (chunk-named c covers .0 same))) in
+      let other : eqb (number32 first 0) (identifierOf covers) ≡ false =
+      ne-eqb _ _ (λ same. not-before (first, among-front first before (chunk-named c covers .0 same))) in
       let ih = place-of-first (at + length first) chunk after every e (λ there. not-before (there .0, among-behind first (there .1))) in
       rw (other, ih, length-append) (simp add-assoc)
 

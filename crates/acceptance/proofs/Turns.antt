@@ -41,7 +41,9 @@ pub record ChunksFit (chunks : List (List ℕ)) : Type 0 where
 pub turn-fits : {chunks : List (List ℕ)} → InTurn [] chunks → ChunksFit chunks
 turn-fits {chunks} turn = record {
   whole = turn-bytes turn;
-  once = λ letters covers before between after one two e named named′. each (before ++ (one ∷ between)) after two (rw append-assoc e) .once letters covers named′ (one, record { before = before; after = between; splits = refl; named = named });
+  once = λ letters covers before between after one two e named named′.
+      each (before ++ (one ∷ between)) after two (rw append-assoc e) .once letters covers named′
+      (one, record { before = before; after = between; splits = refl; named = named });
   behindInfo = λ letters needs before after chunk e named. each before after chunk e .behindInfo letters needs named;
   name = λ chunk a. each (a .before) (a .after) chunk (a .splits) .name (a .named);
   info = λ chunk a. each (a .before) (a .after) chunk (a .splits) .info (a .named);
@@ -53,7 +55,9 @@ turn-fits {chunks} turn = record {
 pub fits-turn : {chunks : List (List ℕ)} → ChunksFit chunks → InTurn [] chunks
 fits-turn {chunks} fits = each-turn [] chunks (λ before after chunk e. record {
   bytes = every-first (every-append before (chunk ∷ after) .0 (rw e at (fits .whole)) .1);
-  once = λ letters covers named (other, a). fits .once letters covers (a .before) (a .after) after other chunk (e ∙ rw (a .splits) (append-assoc (a .before) (other ∷ a .after) (chunk ∷ after))) (a .named) named;
+  once = λ letters covers named (other, a).
+      fits .once letters covers (a .before) (a .after) after other chunk
+      (e ∙ rw (a .splits) (append-assoc (a .before) (other ∷ a .after) (chunk ∷ after))) (a .named) named;
   behindInfo = λ letters needs named. fits .behindInfo letters needs before after chunk e named;
   name = λ named. fits .name chunk (record { before = before; after = after; splits = e; named = named });
   info = λ named. fits .info chunk (record { before = before; after = after; splits = e; named = named });

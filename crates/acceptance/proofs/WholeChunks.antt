@@ -50,7 +50,9 @@ pub record WholeAt (m : List ℕ) (identifier : ℕ) (place : Place) : Type 0 wh
   pub inside : dataEnd place ≤ length m
 
 -- A place that the check finds among chunks in turn.
-place-whole : (n : ℕ) {m header : List ℕ} {before rest : List (List ℕ)} {at : ℕ} → Reached m header before at → m ≡ (header ++ joined before) ++ joined rest → InTurn before rest → placeOf n (recordsFrom at rest) .present ≡ true → WholeAt m n (placeOf n (recordsFrom at rest))
+place-whole : (n : ℕ) {m header : List ℕ} {before rest : List (List ℕ)} {at : ℕ} → Reached m header before at
+    → m ≡ (header ++ joined before) ++ joined rest → InTurn before rest → placeOf n (recordsFrom at rest) .present ≡ true
+    → WholeAt m n (placeOf n (recordsFrom at rest))
 place-whole n r bytes done there = let z : _≡_ {A = ℕ} 0 1 = cc in absurd (omega arith)
 place-whole n {m} {header} {before} {at = at} r bytes (next {chunk = chunk} {rest = rest} fits turn) there =
     go (eqb (number32 chunk 0) n) refl (place-whole n (reached-next r part fits) (bytes ∙ joined-next header before chunk rest) turn) there
@@ -58,11 +60,21 @@ place-whole n {m} {header} {before} {at = at} r bytes (next {chunk = chunk} {res
     part : PartAt m at chunk
     part = record { before = header ++ joined before; after = joined rest; bytes = bytes; starts = r .there }
 
-    go : (b : Bool) → eqb (number32 chunk 0) n ≡ b → (placeOf n (recordsFrom (at + length chunk) rest) .present ≡ true → WholeAt m n (placeOf n (recordsFrom (at + length chunk) rest))) → cond b (standing (recorded at chunk)) (placeOf n (recordsFrom (at + length chunk) rest)) .present ≡ true → WholeAt m n (cond b (standing (recorded at chunk)) (placeOf n (recordsFrom (at + length chunk) rest)))
+    go : (b : Bool) → eqb (number32 chunk 0) n ≡ b
+        → (placeOf n (recordsFrom (at + length chunk) rest) .present ≡ true → WholeAt m n (placeOf n (recordsFrom (at + length chunk) rest)))
+        → cond b (standing (recorded at chunk)) (placeOf n (recordsFrom (at + length chunk) rest)) .present ≡ true
+        → WholeAt m n (cond b (standing (recorded at chunk)) (placeOf n (recordsFrom (at + length chunk) rest)))
     go true e ih h =
         let size = fits .bytes .size in
         let inside = part-inside part in
-        record { present = refl; header = header-at r (omega arith); named = identifier-is part size ∙ eqb-says _ _ .0 e; size = data-length-is part size; nameSize = λ same. omega (arith, fits .name (chunk-named (fits .bytes) Covered.name .0 (eqb-says _ _ .0 e ∙ same))); inside = omega arith }
+        record {
+          present = refl;
+          header = header-at r (omega arith);
+          named = identifier-is part size ∙ eqb-says _ _ .0 e;
+          size = data-length-is part size;
+          nameSize = λ same. omega (arith, fits .name (chunk-named (fits .bytes) Covered.name .0 (eqb-says _ _ .0 e ∙ same)));
+          inside = omega arith;
+        }
     go false e ih h = ih h
 
 -- The places of a found layout.
@@ -76,7 +88,8 @@ pub record PlacesWhole (m : List ℕ) (l : Layout) : Type 0 where
   pub venv : l .places .venv .present ≡ true → WholeAt m VENV (l .places .venv)
   pub penv : l .places .penv .present ≡ true → WholeAt m PENV (l .places .penv)
 
-places-of : {m : List ℕ} (all : List (List ℕ)) → AllRead m all → mandatoryThere (recordsFrom 8 all) ≡ true → PlacesWhole m (layoutWith m (placesOf (recordsFrom 8 all)))
+places-of : {m : List ℕ} (all : List (List ℕ)) → AllRead m all → mandatoryThere (recordsFrom 8 all) ≡ true
+    → PlacesWhole m (layoutWith m (placesOf (recordsFrom 8 all)))
 places-of {m} all read mandatory = record {
   name = of NAME;
   info = of INFO (rw (present-occurs INFO (recordsFrom 8 all)) (says .0));
@@ -91,7 +104,9 @@ places-of {m} all read mandatory = record {
     of : (n : ℕ) → placeOf n (recordsFrom 8 all) .present ≡ true → WholeAt m n (placeOf n (recordsFrom 8 all))
     of n = place-whole n (read .front) (rw (append-nil (take 8 m)) (read .bytes)) (read .turn)
 
-    says : (occurs INFO (recordsFrom 8 all) ≡ true) × ((occurs SONG (recordsFrom 8 all) ≡ true) × ((occurs INST (recordsFrom 8 all) ≡ true) × ((occurs PATT (recordsFrom 8 all) ≡ true) × (occurs SMPL (recordsFrom 8 all) ≡ true))))
+    says : (occurs INFO (recordsFrom 8 all) ≡ true)
+        × ((occurs SONG (recordsFrom 8 all) ≡ true)
+        × ((occurs INST (recordsFrom 8 all) ≡ true) × ((occurs PATT (recordsFrom 8 all) ≡ true) × (occurs SMPL (recordsFrom 8 all) ≡ true))))
     says = simp and-says at mandatory
 
 -- What an outline says of places.

@@ -7,12 +7,16 @@ use lib.ListN.{length}
 use Rattle.vocabulary.specs.Lists.{joined, Every}
 use Rattle.vocabulary.specs.Letters.{infoLetters}
 use Rattle.refusal.specs.Numbers.{refusal}
-use Rattle.refusal.specs.declared.Cause.the-variants.{TooLong, NotAModule, Version, ChunkCut, Identifier, Repeated, BeforeInfo, Missing, FixedLength, InfoRange, Blocks, Reference, FieldRange, Loop, Stream}
+use Rattle.refusal.specs.declared.Cause.the-variants.{TooLong, NotAModule, Version, ChunkCut, Identifier, Repeated}
+use Rattle.refusal.specs.declared.Cause.the-variants.{BeforeInfo, Missing, FixedLength, InfoRange, Blocks, Reference}
+use Rattle.refusal.specs.declared.Cause.the-variants.{FieldRange, Loop, Stream}
 use Rattle.refusal.specs.declared.Refusal.{Refusal}
 use Rattle.blocks.specs.declared.Thing.{Thing}
 use Rattle.blocks.specs.declared.Thing.the-variants.{Instrument, Pattern}
 use Rattle.acceptance.specs.Rules.{ChunkBytes, Among, NeedsInfo, ChunkRules}
-use Rattle.acceptance.specs.Faults.{lettersOf, frontOf, MadeOf, HeaderFault, VersionFault, CutFault, IdentifierFault, RepeatedFault, OrderFault, MissingFault, LengthFault, InfoFault, BlocksFault, ReferenceFault, FieldFault, LoopFault, PatternFault}
+use Rattle.acceptance.specs.Faults.{lettersOf, frontOf, MadeOf, HeaderFault, VersionFault, CutFault, IdentifierFault}
+use Rattle.acceptance.specs.Faults.{RepeatedFault, OrderFault, MissingFault, LengthFault, InfoFault, BlocksFault}
+use Rattle.acceptance.specs.Faults.{ReferenceFault, FieldFault, LoopFault, PatternFault}
 
 -- A chunk's header begins at this place: the module's header and whole chunks are before it, and at least a byte follows.
 pub record HeaderAt (m : List ℕ) (place : ℕ) : Type 0 where

@@ -29,7 +29,11 @@ pub record Among (chunks : List (List ℕ)) (letters chunk : List ℕ) : Type 0 
 
 -- M6: there is at most one chunk with these letters.
 abbrev pub AtMostOnce : List (List ℕ) → List ℕ → Type 0
-AtMostOnce chunks letters = (before between after : List (List ℕ)) (one two : List ℕ) → chunks ≡ before ++ (one ∷ (between ++ (two ∷ after))) → take 4 one ≡ letters → take 4 two ≡ letters → ⊥
+AtMostOnce chunks letters =
+    (before between after : List (List ℕ)) (one two : List ℕ)
+    → chunks ≡ before ++ (one ∷ (between ++ (two ∷ after)))
+    → take 4 one ≡ letters → take 4 two ≡ letters
+    → ⊥
 
 -- M6: the letters of the covered chunks; M7: of the four that INFO stands before.
 pub data Covered : List ℕ → Type 0 where
@@ -50,7 +54,10 @@ pub data NeedsInfo : List ℕ → Type 0 where
 
 -- M7: INFO stands before each chunk with these letters.
 abbrev pub BehindInfo : List (List ℕ) → List ℕ → Type 0
-BehindInfo chunks letters = (before after : List (List ℕ)) (chunk : List ℕ) → chunks ≡ before ++ (chunk ∷ after) → take 4 chunk ≡ letters → (info : List ℕ) × Among before infoLetters info
+BehindInfo chunks letters =
+    (before after : List (List ℕ)) (chunk : List ℕ)
+    → chunks ≡ before ++ (chunk ∷ after) → take 4 chunk ≡ letters
+    → (info : List ℕ) × Among before infoLetters info
 
 -- M9: INFO has 10 bytes of data: instruments, samples, songs, patterns, tracks.
 pub record InfoRules (info : List ℕ) : Type 0 where
