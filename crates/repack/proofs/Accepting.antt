@@ -30,7 +30,9 @@ use Rattle.repack.specs.Repacked.{repackedPatterns, repackedModule}
 use Rattle.repack.specs.Steps.{replaced, AllSound, PatternsIn}
 use Rattle.repack.proofs.ChunksAnew.{module-anew}
 
-all-sound : (m : List ℕ) (tracks n at : ℕ) → Every (λ place. AllHold (patternStreamRules m tracks place)) (placesFrom (sizeOf Pattern m) n at) → AllSound m tracks n at
+all-sound : (m : List ℕ) (tracks n at : ℕ)
+    → Every (λ place. AllHold (patternStreamRules m tracks place)) (placesFrom (sizeOf Pattern m) n at)
+    → AllSound m tracks n at
 all-sound m tracks zero at e = tt
 all-sound m tracks (suc n) at e = (accepted-says _ .0 (every-first (every-first e)), all-sound m tracks n (at + sizeOf Pattern m at) (every-rest e))
 
@@ -50,7 +52,8 @@ module _ (m : List ℕ) (bytes : Bytes m) (l : Layout) (o : opened m ≡ Found l
 
   pub module-replaced : repackedModule m l ≡ replaced m (l .places .patt) (repackedPatterns m l)
   module-replaced =
-      module-anew (outlined .rules) l ∙ data-at Covered.patt (repackedPatterns m l) (outlined .rules) (outlined .mandatory .patt .1) (l .places .patt) (outlined .layout .patt)
+      module-anew (outlined .rules) l
+      ∙ data-at Covered.patt (repackedPatterns m l) (outlined .rules) (outlined .mandatory .patt .1) (l .places .patt) (outlined .layout .patt)
 
   -- 17, and what is written, by the length of the module with PATT's data anew.
   module _ (out : List ℕ) where
@@ -60,11 +63,14 @@ module _ (m : List ℕ) (bytes : Bytes m) (l : Layout) (o : opened m ≡ Found l
     same-length : length (repackedModule m l) ≡ length anew
     same-length = ap length module-replaced
 
-    pub module-lacks : (needed : ℕ) → length out < needed → (length out < needed → needed ≡ length anew) → (answer : LengthAnswer) → answer ≡ refusedLength (refusal Room needed)
+    pub module-lacks : (needed : ℕ) → length out < needed → (length out < needed → needed ≡ length anew)
+        → (answer : LengthAnswer)
+        → answer ≡ refusedLength (refusal Room needed)
         → (answer ≡ answerOpened (repackedModule m) (length out) (Found l)) × (out ≡ outputOpened (repackedModule m) out (Found l))
     module-lacks needed h same answer e = all-lacking (repackedModule m l) out needed (same h ∙ sym same-length) h answer e
 
-    pub module-done : length anew ≤ length out → (n : ℕ) (answer : LengthAnswer) (out′ : List ℕ) → answer ≡ writtenLength n → (n ≡ length anew) × (out′ ≡ anew ++ drop n out)
+    pub module-done : length anew ≤ length out → (n : ℕ) (answer : LengthAnswer) (out′ : List ℕ) → answer ≡ writtenLength n
+        → (n ≡ length anew) × (out′ ≡ anew ++ drop n out)
         → (answer ≡ answerOpened (repackedModule m) (length out) (Found l)) × (out′ ≡ outputOpened (repackedModule m) out (Found l))
     module-done h n answer out′ e done =
         all-enough (repackedModule m l) out (omega (arith, same-length)) n answer out′ e (done .0 ∙ sym same-length, done .1 ∙ rw module-replaced refl)

@@ -56,14 +56,18 @@ module _ (m : List ℕ) (tracks at : ℕ) (sound : streamVerdict m tracks at ≡
   pub stream-answer : (room : ℕ) → repackAnswer (packedBytes m at) (patternRows m at) tracks room ≡ packedIf (length (repackedStream m tracks at)) room
   stream-answer room = rw stream-length (simp fits (sym (repack-found (readStream (patternRows m at) tracks (packedBytes m at)) tracks room read-sound)))
 
-  pub stream-output : (out : List ℕ) → length (repackedStream m tracks at) ≤ length out → repackOutput (packedBytes m at) (patternRows m at) tracks out ≡ repackedStream m tracks at ++ drop (length (repackedStream m tracks at)) out
+  pub stream-output : (out : List ℕ) → length (repackedStream m tracks at) ≤ length out
+      → repackOutput (packedBytes m at) (patternRows m at) tracks out ≡ repackedStream m tracks at ++ drop (length (repackedStream m tracks at)) out
   stream-output out h = simp (stream-answer (length out), le-ltb (length out) (length (repackedStream m tracks at)) h)
 
   pub stream-shorter : length (repackedStream m tracks at) ≤ length (packedBytes m at)
   stream-shorter =
       let accepted = holds (packedBytes m at) (patternRows m at) tracks sound in
       let least = none-shorter (patternRows m at) tracks (packedBytes m at) (cellsRead (patternRows m at) tracks (packedBytes m at)) accepted in
-      let same : packedLength (rowsOf (patternRows m at) tracks (cellsRead (patternRows m at) tracks (packedBytes m at))) ≡ packedLength (rowsFrom tracks (entriesRead (readStream (patternRows m at) tracks (packedBytes m at)))) = ap packedLength (accepted-rows accepted ∙ ap (λ (r : Reading). rowsFrom tracks (entriesRead r)) (sym (accepted .read))) in
+      let same : packedLength (rowsOf (patternRows m at) tracks (cellsRead (patternRows m at) tracks (packedBytes m at)))
+      ≡ packedLength (rowsFrom tracks (entriesRead (readStream (patternRows m at) tracks (packedBytes m at)))) =
+      ap packedLength
+      (accepted-rows accepted ∙ ap (λ (r : Reading). rowsFrom tracks (entriesRead r)) (sym (accepted .read))) in
       omega (arith, stream-length, least, same)
 
   pub stream-least : length (repackedStream m tracks at) ≤ patternPackedLength m at
@@ -71,7 +75,13 @@ module _ (m : List ℕ) (tracks at : ℕ) (sound : streamVerdict m tracks at ≡
 
   module _ (inside : at + 2 ≤ length m) where
     pub block-size : length (repackedBlock m tracks at) ≡ 6 + length (repackedStream m tracks at) + length (repackedStream m tracks at) % 2
-    block-size = omega (arith, length-append (partOf m at 2) (packed (repackedStream m tracks at)), part-length m at 2 inside, packed-size (repackedStream m tracks at))
+    block-size =
+        omega (
+          arith,
+          length-append (partOf m at 2) (packed (repackedStream m tracks at)),
+          part-length m at 2 inside,
+          packed-size (repackedStream m tracks at),
+        )
 
     pub block-shorter : length (repackedBlock m tracks at) ≤ sizeOf Pattern m at
     unfolding sizeOf
@@ -90,9 +100,20 @@ told-needed needed room = go (ltb room needed)
     go false = refl
 
 -- What repacking the stream of a pattern leaves, by what its call was given and answered.
-pub stream-done : (m : List ℕ) (tracks at : ℕ) → streamVerdict m tracks at ≡ Accepted → (p : Packing) (stream out out′ : List ℕ) (rows n : ℕ) → (stream ≡ packedBytes m at) × (length stream < 0x100000000) → rows ≡ patternRows m at → p ≡ repackAnswer stream rows tracks (length out) → out′ ≡ repackOutput stream rows tracks out → n ≡ lengthTold p → (n ≡ length (repackedStream m tracks at)) × (n ≤ patternPackedLength m at) × (n < 0x100000000) × (n ≤ length out → out′ ≡ repackedStream m tracks at ++ drop n out)
-stream-done m tracks at sound p stream out out′ rows n (same, below) r answered written told =
-    (is, omega (arith, is, least), omega (arith, is, stream-shorter m tracks at sound, ap length same, below), λ h. rw is (written ∙ rw (same, r) (stream-output m tracks at sound out (rw is at h))))
+pub stream-done : (m : List ℕ) (tracks at : ℕ) → streamVerdict m tracks at ≡ Accepted
+    → (p : Packing) (stream out out′ : List ℕ) (rows n : ℕ) → (stream ≡ packedBytes m at) × (length stream < 0x100000000)
+    → rows ≡ patternRows m at → p ≡ repackAnswer stream rows tracks (length out) → out′ ≡ repackOutput stream rows tracks out
+    → n ≡ lengthTold p
+    → (n ≡ length (repackedStream m tracks at))
+    × (n ≤ patternPackedLength m at)
+    × (n < 0x100000000)
+    × (n ≤ length out → out′ ≡ repackedStream m tracks at ++ drop n out)
+stream-done m tracks at sound p stream out out′ rows n (same, below) r answered written told = (
+  is,
+  omega (arith, is, least),
+  omega (arith, is, stream-shorter m tracks at sound, ap length same, below),
+  λ h. rw is (written ∙ rw (same, r) (stream-output m tracks at sound out (rw is at h))),
+)
   where
     is : n ≡ length (repackedStream m tracks at)
     is =

@@ -28,14 +28,18 @@ module _ (front out first : List ℕ) (a : ℕ) (size : length front ≡ a) (roo
   four-more = length-take-le (a + 4) first (omega (arith, first-length))
 
   -- Once what has the length is written there.
-  module _ (xs mid : List ℕ) (n : ℕ) (long : n ≡ length xs) (enough : a + 4 + n ≤ length out) (e₂ : mid ≡ xs ++ drop n (midOf (a + 4) (length first - (a + 4)) first)) where
+  module _ (xs mid : List ℕ) (n : ℕ) (long : n ≡ length xs) (enough : a + 4 + n ≤ length out)
+      (e₂ : mid ≡ xs ++ drop n (midOf (a + 4) (length first - (a + 4)) first)) where
     abbrev second : List ℕ
     second = putMid (a + 4) (length first - (a + 4)) first mid
 
     second-is : second ≡ take (a + 4) first ++ (xs ++ drop (a + 4 + n) out)
     second-is =
         put-end (a + 4) first mid
-        ∙ ap (λ (rest : List ℕ). take (a + 4) first ++ rest) (e₂ ∙ ap (λ (rest : List ℕ). xs ++ drop n rest) (mid-end (a + 4) first ∙ first-rest) ∙ ap (λ (rest : List ℕ). xs ++ rest) (drop-drop n (a + 4) out))
+        ∙ ap (λ (rest : List ℕ). take (a + 4) first ++ rest)
+        (e₂
+        ∙ ap (λ (rest : List ℕ). xs ++ drop n rest) (mid-end (a + 4) first ∙ first-rest)
+        ∙ ap (λ (rest : List ℕ). xs ++ rest) (drop-drop n (a + 4) out))
 
     behind-length : drop (a + 4) second ≡ xs ++ drop (a + 4 + n) out
     behind-length = ap (drop (a + 4)) second-is ∙ drop-at (take (a + 4) first) (xs ++ drop (a + 4 + n) out) (a + 4) four-more

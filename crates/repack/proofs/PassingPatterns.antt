@@ -43,7 +43,9 @@ module _ {m : List ℕ} {tracks at end : ℕ} where
       (omega (arith, next .inside, p .inside, size-least Pattern m at), omega (arith, next .inside), next .sound)
 
 -- The patterns of a chunk, from the place on at which a loop begins.
-pub patterns-from : {m : List ℕ} (chunk : Place) {n tracks at : ℕ} → PatternsIn m chunk n tracks → at ≡ firstBlock Pattern chunk → PatternsTo m tracks n at (placeAfter (sizeOf Pattern m) n at)
+pub patterns-from : {m : List ℕ} (chunk : Place) {n tracks at : ℕ} → PatternsIn m chunk n tracks
+    → at ≡ firstBlock Pattern chunk
+    → PatternsTo m tracks n at (placeAfter (sizeOf Pattern m) n at)
 patterns-from chunk p e = rw e (record { sound = p .sound; ends = refl; inside = rw (p .ends) (p .inside) })
 
 -- The blocks anew are no longer than the blocks that stand there.
@@ -53,10 +55,17 @@ blocks-shorter m tracks (suc n) at end p =
     let next = pattern-next (suc n) (omega arith) p in
     let later : PatternsTo m tracks n (at + sizeOf Pattern m at) end = record { sound = p .sound .1; ends = p .ends; inside = p .inside } in
     let ready = pattern-ready (suc n) (omega arith) p in
-    omega (arith, blocks-shorter m tracks n (at + sizeOf Pattern m at) end later, length-append (repackedBlock m tracks at) (blocksAnew m tracks n (at + sizeOf Pattern m at)), block-shorter m tracks at (next .sound) (omega (arith, ready .0)))
+    omega (
+      arith,
+      blocks-shorter m tracks n (at + sizeOf Pattern m at) end later,
+      length-append (repackedBlock m tracks at) (blocksAnew m tracks n (at + sizeOf Pattern m at)),
+      block-shorter m tracks at (next .sound) (omega (arith, ready .0)),
+    )
 
 -- Those of a chunk, by the place at which a loop begins.
-pub data-shorter : {m : List ℕ} (chunk : Place) {n tracks start : ℕ} → PatternsIn m chunk n tracks → start ≡ firstBlock Pattern chunk → length (blocksAnew m tracks n start) ≤ chunk .length
+pub data-shorter : {m : List ℕ} (chunk : Place) {n tracks start : ℕ} → PatternsIn m chunk n tracks
+    → start ≡ firstBlock Pattern chunk
+    → length (blocksAnew m tracks n start) ≤ chunk .length
 data-shorter {m} chunk {n} {tracks} p e = rw e (omega (arith, blocks-shorter m tracks n (firstBlock Pattern chunk) (dataEnd chunk) p))
 
 -- The lengths of the blocks anew, counted.
@@ -69,16 +78,24 @@ module _ {m : List ℕ} {tracks n start end : ℕ} where
   counting-first p = record { same = omega arith; rest = p }
 
   module _ {at counted left : ℕ} (c : Counting m tracks n start end at counted left) where
-    pub counting-turn : {size s : ℕ} → 0 < left → size ≡ length (repackedBlock m tracks at) → s ≡ sizeOf Pattern m at → Counting m tracks n start end (at + s) (counted + size) (left - 1)
+    pub counting-turn : {size s : ℕ} → 0 < left → size ≡ length (repackedBlock m tracks at) → s ≡ sizeOf Pattern m at
+        → Counting m tracks n start end (at + s) (counted + size) (left - 1)
     counting-turn {size} {s} some sized e =
         let next = pattern-next left some (c .rest) in
         record {
-          same = rw e (omega (arith, c .same, ap length (next .splits) ∙ length-append (repackedBlock m tracks at) (blocksAnew m tracks (left - 1) (at + sizeOf Pattern m at)), sized));
+          same = rw e (omega (
+            arith,
+            c .same,
+            ap length (next .splits)
+                ∙ length-append (repackedBlock m tracks at) (blocksAnew m tracks (left - 1) (at + sizeOf Pattern m at)),
+            sized,
+          ));
           rest = rw e (next .later);
         }
 
     -- The sums stay small.
-    pub counting-small : {size s : ℕ} → 0 < left → size ≡ length (repackedBlock m tracks at) → s ≡ sizeOf Pattern m at → (counted + size ≤ length (blocksAnew m tracks n start)) × (at + s ≤ length m)
+    pub counting-small : {size s : ℕ} → 0 < left → size ≡ length (repackedBlock m tracks at) → s ≡ sizeOf Pattern m at
+        → (counted + size ≤ length (blocksAnew m tracks n start)) × (at + s ≤ length m)
     counting-small some sized e =
         let next = pattern-next left some (c .rest) in
         (omega (arith, counting-turn some sized e .same), omega (arith, next .inside, c .rest .inside))
@@ -100,7 +117,8 @@ module _ {m : List ℕ} {tracks n start end : ℕ} (out₀ : List ℕ) where
   pub blocks-first : PatternsTo m tracks n start end → WritingBlocks m tracks n start end out₀ out₀ start 0 n
   blocks-first p = record { done = []; written = refl; place = refl; all = refl; rest = p }
 
-  module _ (out : List ℕ) {at to left : ℕ} (w : WritingBlocks m tracks n start end out₀ out at to left) (room : length (blocksAnew m tracks n start) ≤ length out₀) where
+  module _ (out : List ℕ) {at to left : ℕ} (w : WritingBlocks m tracks n start end out₀ out at to left)
+      (room : length (blocksAnew m tracks n start) ≤ length out₀) where
     blocks-place : to + length (blocksAnew m tracks left at) ≡ length (blocksAnew m tracks n start)
     blocks-place = omega (arith, ap length (w .all), length-append (w .done) (blocksAnew m tracks left at), w .place)
 
@@ -113,7 +131,12 @@ module _ {m : List ℕ} {tracks n start end : ℕ} (out₀ : List ℕ) where
     pub blocks-room : 0 < left → to + length (repackedBlock m tracks at) ≤ length out₀
     blocks-room some =
         let next = pattern-next left some (w .rest) in
-        omega (arith, blocks-place, ap length (next .splits) ∙ length-append (repackedBlock m tracks at) (blocksAnew m tracks (left - 1) (at + sizeOf Pattern m at)))
+        omega (
+          arith,
+          blocks-place,
+          ap length (next .splits)
+              ∙ length-append (repackedBlock m tracks at) (blocksAnew m tracks (left - 1) (at + sizeOf Pattern m at)),
+        )
 
     pub blocks-part : 0 < left → length (repackedBlock m tracks at) ≤ length (midOf to (length out - to) out)
     blocks-part some = omega (arith, blocks-room some, blocks-length, ap length (mid-end to out), length-drop to out)
@@ -122,12 +145,16 @@ module _ {m : List ℕ} {tracks n start end : ℕ} (out₀ : List ℕ) where
     pub blocks-small : {s : ℕ} → 0 < left → s ≡ sizeOf Pattern m at → at + s ≤ length m
     blocks-small some e = let next = pattern-next left some (w .rest) in omega (arith, next .inside, w .rest .inside)
 
-    pub blocks-turn : (mid : List ℕ) {size s : ℕ} → 0 < left → (size ≡ length (repackedBlock m tracks at)) × (mid ≡ repackedBlock m tracks at ++ drop size (midOf to (length out - to) out)) → s ≡ sizeOf Pattern m at → WritingBlocks m tracks n start end out₀ (putMid to (length out - to) out mid) (at + s) (to + size) (left - 1)
+    pub blocks-turn : (mid : List ℕ) {size s : ℕ} → 0 < left
+        → (size ≡ length (repackedBlock m tracks at)) × (mid ≡ repackedBlock m tracks at ++ drop size (midOf to (length out - to) out))
+        → s ≡ sizeOf Pattern m at
+        → WritingBlocks m tracks n start end out₀ (putMid to (length out - to) out mid) (at + s) (to + size) (left - 1)
     blocks-turn mid {size} {s} some block e =
         let next = pattern-next left some (w .rest) in
         record {
           done = w .done ++ repackedBlock m tracks at;
-          written = put-next (w .done) (repackedBlock m tracks at) out₀ out mid to (length out) (w .written) (w .place) (omega (arith, blocks-room some, blocks-length)) (omega (arith, blocks-length)) (rw (block .0) at (block .1));
+          written = put-next (w .done) (repackedBlock m tracks at) out₀ out mid to (length out) (w .written) (w .place)
+              (omega (arith, blocks-room some, blocks-length)) (omega (arith, blocks-length)) (rw (block .0) at (block .1));
           place = omega (arith, length-append (w .done) (repackedBlock m tracks at), w .place, block .0);
           all = rw e (append-assoc (w .done) (repackedBlock m tracks at) _ ∙ ap (λ (l : List ℕ). w .done ++ l) (sym (next .splits)) ∙ w .all);
           rest = rw e (next .later);
@@ -135,11 +162,19 @@ module _ {m : List ℕ} {tracks n start end : ℕ} (out₀ : List ℕ) where
 
 -- The same of the patterns of a chunk, by the place at which the loop begins.
 module _ (m : List ℕ) (chunk : Place) (n tracks : ℕ) {start : ℕ} where
-  pub blocks-enough : {size : ℕ} → length (blocksAnew m tracks n (firstBlock Pattern chunk)) ≤ size → start ≡ firstBlock Pattern chunk → length (blocksAnew m tracks n start) ≤ size
+  pub blocks-enough : {size : ℕ} → length (blocksAnew m tracks n (firstBlock Pattern chunk)) ≤ size
+      → start ≡ firstBlock Pattern chunk
+      → length (blocksAnew m tracks n start) ≤ size
   blocks-enough room e = rw e room
 
-  pub blocks-last : (out₀ out : List ℕ) {end at to left : ℕ} → WritingBlocks m tracks n start end out₀ out at to left → start ≡ firstBlock Pattern chunk → left ≤ 0 → (to ≡ length (blocksAnew m tracks n (firstBlock Pattern chunk))) × (out ≡ blocksAnew m tracks n (firstBlock Pattern chunk) ++ drop to out₀)
+  pub blocks-last : (out₀ out : List ℕ) {end at to left : ℕ} → WritingBlocks m tracks n start end out₀ out at to left
+      → start ≡ firstBlock Pattern chunk → left ≤ 0
+      → (to ≡ length (blocksAnew m tracks n (firstBlock Pattern chunk))) × (out ≡ blocksAnew m tracks n (firstBlock Pattern chunk) ++ drop to out₀)
   blocks-last out₀ out {at = at} {to = to} {left = left} w e over =
       let none : left ≡ 0 = omega arith in
-      let whole : w .done ≡ blocksAnew m tracks n (firstBlock Pattern chunk) = sym (append-nil (w .done)) ∙ ap (λ (k : ℕ). w .done ++ blocksAnew m tracks k at) (sym none) ∙ w .all ∙ ap (blocksAnew m tracks n) e in
+      let whole : w .done ≡ blocksAnew m tracks n (firstBlock Pattern chunk) =
+      sym (append-nil (w .done))
+      ∙ ap (λ (k : ℕ). w .done ++ blocksAnew m tracks k at) (sym none)
+      ∙ w .all
+      ∙ ap (blocksAnew m tracks n) e in
       (omega (arith, w .place, ap length whole), w .written ∙ rw (w .place, whole) refl)

@@ -19,22 +19,30 @@ use Rattle.repack.proofs.Anew.{block-size}
 use Rattle.repack.proofs.LengthBefore.{lent-length, third-is}
 
 -- An even stream ends the block; behind an odd one a filler stands.
-module _ (rows stream out third : List ℕ) (n : ℕ) (two : length rows ≡ 2) (size : n ≡ length stream) (is : third ≡ rows ++ (bytes32 n ++ (stream ++ drop (6 + n) out))) where
+module _ (rows stream out third : List ℕ) (n : ℕ) (two : length rows ≡ 2) (size : n ≡ length stream)
+    (is : third ≡ rows ++ (bytes32 n ++ (stream ++ drop (6 + n) out))) where
   even-written : n % 2 ≡ 0 → (6 + n ≡ length (rows ++ packed stream)) × (third ≡ (rows ++ packed stream) ++ drop (6 + n) out)
   even-written even =
-      let none : replicate {A = ℕ} (length stream % 2) 0 ≡ [] = ap (λ (k : ℕ). replicate {A = ℕ} (k % 2) 0) (sym size) ∙ ap (λ (k : ℕ). replicate {A = ℕ} k 0) even in
+      let none : replicate {A = ℕ} (length stream % 2) 0 ≡ [] =
+      ap (λ (k : ℕ). replicate {A = ℕ} (k % 2) 0) (sym size) ∙ ap (λ (k : ℕ). replicate {A = ℕ} k 0) even in
       let whole : packed stream ≡ bytes32 n ++ stream = rw (none, append-nil stream, ← size) refl in
       (omega (arith, ap length whole, length-append rows (packed stream), two, size), is ∙ rw whole (simp append-assoc))
 
-  odd-written : n % 2 ≡ 1 → 6 + n < length out → (6 + n + 1 ≡ length (rows ++ packed stream)) × (set third (6 + n) 0 ≡ (rows ++ packed stream) ++ drop (6 + n + 1) out)
+  odd-written : n % 2 ≡ 1 → 6 + n < length out
+      → (6 + n + 1 ≡ length (rows ++ packed stream)) × (set third (6 + n) 0 ≡ (rows ++ packed stream) ++ drop (6 + n + 1) out)
   odd-written odd more =
-      let one : replicate {A = ℕ} (length stream % 2) 0 ≡ 0 ∷ [] = ap (λ (k : ℕ). replicate {A = ℕ} (k % 2) 0) (sym size) ∙ ap (λ (k : ℕ). replicate {A = ℕ} k 0) odd in
+      let one : replicate {A = ℕ} (length stream % 2) 0 ≡ 0 ∷ [] =
+      ap (λ (k : ℕ). replicate {A = ℕ} (k % 2) 0) (sym size) ∙ ap (λ (k : ℕ). replicate {A = ℕ} k 0) odd in
       let whole : packed stream ≡ bytes32 n ++ (stream ++ (0 ∷ [])) = rw (one, ← size) refl in
       let front : List ℕ = rows ++ (bytes32 n ++ stream) in
       let long : length front ≡ 6 + n = omega (arith, length-append rows (bytes32 n ++ stream), two, size) in
       let cut : drop (6 + n) out ≡ getD out (6 + n) 0 ∷ drop (6 + n + 1) out = rw (add-one (6 + n)) (drop-cons out (6 + n) 0 more) in
-      let split : third ≡ front ++ (getD out (6 + n) 0 ∷ drop (6 + n + 1) out) = is ∙ rw cut (simp append-assoc) in
-      (omega (arith, ap length whole, length-append rows (packed stream), length-append stream (0 ∷ []), two, size), ap (λ (l : List ℕ). set l (6 + n) 0) split ∙ set-at front (getD out (6 + n) 0) (drop (6 + n + 1) out) 0 (6 + n) long ∙ rw whole (simp append-assoc))
+      let split : third ≡ front ++ (getD out (6 + n) 0 ∷ drop (6 + n + 1) out) = is ∙ rw cut (simp append-assoc) in (
+        omega (arith, ap length whole, length-append rows (packed stream), length-append stream (0 ∷ []), two, size),
+        ap (λ (l : List ℕ). set l (6 + n) 0) split
+            ∙ set-at front (getD out (6 + n) 0) (drop (6 + n + 1) out) 0 (6 + n) long
+            ∙ rw whole (simp append-assoc),
+      )
 
 -- The same of a pattern at a place of a module, by what the calls were given and answered.
 module _ (m : List ℕ) (tracks at : ℕ) (inside : at + 6 ≤ length m) (sound : streamVerdict m tracks at ≡ Accepted) where
@@ -51,27 +59,33 @@ module _ (m : List ℕ) (tracks at : ℕ) (inside : at + 6 ≤ length m) (sound 
     pub rows-fit : length source ≤ length out
     rows-fit = omega (arith, ap length s, two, six-fit)
 
-    module _ {first : List ℕ} (copy : first ≡ take (length source) source ++ drop (length source) out) {n : ℕ} {mid : List ℕ} (told : (n ≡ length (repackedStream m tracks at)) × (n ≤ patternPackedLength m at) × (n < 0x100000000) × (n ≤ length (midOf 6 (length first - 6) first) → mid ≡ repackedStream m tracks at ++ drop n (midOf 6 (length first - 6) first))) where
-      rows-first : first ≡ partOf m at 2 ++ drop 2 out
-      rows-first = copied source (partOf m at 2) out first s copy ∙ ap (λ (k : ℕ). partOf m at 2 ++ drop k out) two
+    module _ {first : List ℕ} (copy : first ≡ take (length source) source ++ drop (length source) out) {n : ℕ} {mid : List ℕ}
+        (told : (n ≡ length (repackedStream m tracks at))
+        × (n ≤ patternPackedLength m at)
+        × (n < 0x100000000)
+        × (n ≤ length (midOf 6 (length first - 6) first) → mid ≡ repackedStream m tracks at ++ drop n (midOf 6 (length first - 6) first)))
+      where
+        rows-first : first ≡ partOf m at 2 ++ drop 2 out
+        rows-first = copied source (partOf m at 2) out first s copy ∙ ap (λ (k : ℕ). partOf m at 2 ++ drop k out) two
 
-      enough : 6 + n ≤ length out
-      enough = omega (arith, told .0, room, block-long)
+        enough : 6 + n ≤ length out
+        enough = omega (arith, told .0, room, block-long)
 
-      stream-next : mid ≡ repackedStream m tracks at ++ drop n (midOf 6 (length first - 6) first)
-      stream-next = told .3 (omega (arith, lent-length (partOf m at 2) out first 2 two six-fit rows-first, enough))
+        stream-next : mid ≡ repackedStream m tracks at ++ drop n (midOf 6 (length first - 6) first)
+        stream-next = told .3 (omega (arith, lent-length (partOf m at 2) out first 2 two six-fit rows-first, enough))
 
-      abbrev behind : List ℕ
-      behind = putMid 6 (length first - 6) first mid
+        abbrev behind : List ℕ
+        behind = putMid 6 (length first - 6) first mid
 
-      module _ {whole : List ℕ} (put : whole ≡ putAt (bytes32 n) 2 behind) where
-        whole-is : whole ≡ partOf m at 2 ++ (bytes32 n ++ (repackedStream m tracks at ++ drop (6 + n) out))
-        whole-is = put ∙ third-is (partOf m at 2) out first 2 two six-fit rows-first (repackedStream m tracks at) mid n (told .0) enough stream-next
+        module _ {whole : List ℕ} (put : whole ≡ putAt (bytes32 n) 2 behind) where
+          whole-is : whole ≡ partOf m at 2 ++ (bytes32 n ++ (repackedStream m tracks at ++ drop (6 + n) out))
+          whole-is = put ∙ third-is (partOf m at 2) out first 2 two six-fit rows-first (repackedStream m tracks at) mid n (told .0) enough stream-next
 
-        pub even-block : n % 2 ≡ 0 → (6 + n ≡ length (repackedBlock m tracks at)) × (whole ≡ repackedBlock m tracks at ++ drop (6 + n) out)
-        even-block = even-written (partOf m at 2) (repackedStream m tracks at) out whole n two (told .0) whole-is
+          pub even-block : n % 2 ≡ 0 → (6 + n ≡ length (repackedBlock m tracks at)) × (whole ≡ repackedBlock m tracks at ++ drop (6 + n) out)
+          even-block = even-written (partOf m at 2) (repackedStream m tracks at) out whole n two (told .0) whole-is
 
-        pub odd-block : n % 2 ≢ 0 → (6 + n + 1 ≡ length (repackedBlock m tracks at)) × (set whole (6 + n) 0 ≡ repackedBlock m tracks at ++ drop (6 + n + 1) out)
-        odd-block h =
-            let odd : n % 2 ≡ 1 = omega arith in
-            odd-written (partOf m at 2) (repackedStream m tracks at) out whole n two (told .0) whole-is odd (omega (arith, odd, told .0, room, block-long))
+          pub odd-block : n % 2 ≢ 0
+              → (6 + n + 1 ≡ length (repackedBlock m tracks at)) × (set whole (6 + n) 0 ≡ repackedBlock m tracks at ++ drop (6 + n + 1) out)
+          odd-block h =
+              let odd : n % 2 ≡ 1 = omega arith in
+              odd-written (partOf m at 2) (repackedStream m tracks at) out whole n two (told .0) whole-is odd (omega (arith, odd, told .0, room, block-long))

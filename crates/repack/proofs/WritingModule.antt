@@ -23,16 +23,26 @@ module _ (m : List ℕ) (chunk : Place) (anew : List ℕ) (whole : dataEnd chunk
 
   -- How long it is.
   pub replaced-length : length (replaced m chunk anew) + chunk .length ≡ length m + length anew
-  replaced-length = omega (arith, length-append front (bytes32 (length anew) ++ (anew ++ drop (dataEnd chunk) m)), front-size, length-append anew (drop (dataEnd chunk) m), length-drop (dataEnd chunk) m)
+  replaced-length =
+      omega (
+        arith,
+        length-append front (bytes32 (length anew) ++ (anew ++ drop (dataEnd chunk) m)),
+        front-size,
+        length-append anew (drop (dataEnd chunk) m),
+        length-drop (dataEnd chunk) m,
+      )
 
   counted-length : {n : ℕ} → n ≡ length anew → length m - chunk .length + n ≡ length (replaced m chunk anew)
   counted-length size = omega (arith, replaced-length)
 
   -- What the output must have, without counting and counted.
-  pub room-enough : {room : ℕ} → length anew ≤ chunk .length → length m ≤ room → (length (replaced m chunk anew) ≤ length m) × (room < length m → length m ≡ length (replaced m chunk anew))
+  pub room-enough : {room : ℕ} → length anew ≤ chunk .length → length m ≤ room
+      → (length (replaced m chunk anew) ≤ length m) × (room < length m → length m ≡ length (replaced m chunk anew))
   room-enough shorter h = (omega (arith, replaced-length), λ less. absurd (omega arith))
 
-  pub room-counted : {room n : ℕ} → n ≡ length anew → (length (replaced m chunk anew) ≤ length m - chunk .length + n) × (room < length m - chunk .length + n → length m - chunk .length + n ≡ length (replaced m chunk anew))
+  pub room-counted : {room n : ℕ} → n ≡ length anew
+      → (length (replaced m chunk anew) ≤ length m - chunk .length + n)
+      × (room < length m - chunk .length + n → length m - chunk .length + n ≡ length (replaced m chunk anew))
   room-counted size = (omega (arith, counted-length size), λ less. counted-length size)
 
   -- The module up to PATT's end, and what stands behind PATT.
@@ -63,13 +73,15 @@ module _ (m : List ℕ) (chunk : Place) (anew : List ℕ) (whole : dataEnd chunk
           front-written = (
             omega (arith, front-length, done .0),
             e₃
-                ∙ third-is front out₀ out₁ (chunk .at + 4) front-size (omega (arith, start-room)) first anew mid₂ n (done .0) (omega (arith, start-room, done .0)) (done .1)
+                ∙ third-is front out₀ out₁ (chunk .at + 4) front-size (omega (arith, start-room)) first anew mid₂ n (done .0)
+                (omega (arith, start-room, done .0)) (done .1)
                 ∙ ap (λ (k : ℕ). front ++ (bytes32 k ++ (anew ++ drop (start + n) out₀))) (done .0)
                 ∙ sym (append-assoc front (bytes32 (length anew) ++ anew) (drop (start + n) out₀)),
           )
 
   -- Writing what stands behind PATT.
-  module _ (out₀ : List ℕ) (room : length (replaced m chunk anew) ≤ length out₀) {end : ℕ} {out₁ : List ℕ} (done : (end ≡ length (frontAnew m chunk anew)) × (out₁ ≡ frontAnew m chunk anew ++ drop end out₀)) where
+  module _ (out₀ : List ℕ) (room : length (replaced m chunk anew) ≤ length out₀) {end : ℕ} {out₁ : List ℕ}
+      (done : (end ≡ length (frontAnew m chunk anew)) × (out₁ ≡ frontAnew m chunk anew ++ drop end out₀)) where
     abbrev behind : ℕ
     behind = chunk .at + 8 + chunk .length
 
@@ -104,9 +116,12 @@ module _ (m : List ℕ) (chunk : Place) (anew : List ℕ) (whole : dataEnd chunk
       abbrev written : List ℕ
       written = putMid end (length out₁ - end) out₁ mid₂
 
-      pub module-written : (end + (length m - behind) ≡ length (replaced m chunk anew)) × (written ≡ replaced m chunk anew ++ drop (end + (length m - behind)) out₀)
+      pub module-written : (end + (length m - behind) ≡ length (replaced m chunk anew))
+          × (written ≡ replaced m chunk anew ++ drop (end + (length m - behind)) out₀)
       module-written = (
         all-length,
-        put-next (frontAnew m chunk anew) rest out₀ out₁ mid₂ end (length out₁) before (sym (done .0)) (omega (arith, kept-length, rest-length, all-length)) (omega (arith, kept-length)) (copied rest rest (midOf end (length out₁ - end) out₁) mid₂ refl e₂)
+        put-next (frontAnew m chunk anew) rest out₀ out₁ mid₂ end (length out₁) before (sym (done .0))
+            (omega (arith, kept-length, rest-length, all-length)) (omega (arith, kept-length))
+            (copied rest rest (midOf end (length out₁ - end) out₁) mid₂ refl e₂)
             ∙ rw (all-is, all-length) refl,
       )

@@ -36,7 +36,9 @@ ghost use Rattle.repack.specs.Steps.{blocksAnew, frontAnew, replaced, Pa
 // where there is no room.
 fn repack_stream(m: &[u8], tracks: u16, at: usize, out: &mut [u8]) -> usize
     requires { ⌜ streamVerdict (now m) tracks at ≡ Accepted ⌝ }
-    ensures { λ r. ⌜ (r ≡ length (repackedStream (now (m .entry)) tracks at)) × (r ≤ patternPackedLength (now (m .entry)) at) × (r < 0x100000000) × (r ≤ length (now (out .entry)) → now (out .exit) ≡ repackedStream (now (m .entry)) tracks at ++ drop r (now (out .entry))) ⌝ }
+    ensures { λ r. ⌜ (r ≡ length (repackedStream (now (m .entry)) tracks at))
+        × (r ≤ patternPackedLength (now (m .entry)) at) × (r < 0x100000000)
+        × (r ≤ length (now (out .entry)) → now (out .exit) ≡ repackedStream (now (m .entry)) tracks at ++ drop r (now (out .entry))) ⌝ }
 {
     let rows = pattern_rows(m, at) as usize;
     match packed_rows::repack(packed_bytes(m, at), rows, tracks as usize, out) {
@@ -74,7 +76,8 @@ fn data_length(m: &[u8], chunk: Place, patterns: u16, tracks: u16) -> usize
 // Writes a pattern's block anew to the front of an output, and answers its length.
 fn write_block(m: &[u8], tracks: u16, at: usize, out: &mut [u8]) -> usize
     requires { ⌜ (at + 6 ≤ length (now m)) × (streamVerdict (now m) tracks at ≡ Accepted) × (length (repackedBlock (now m) tracks at) ≤ length (now out)) ⌝ }
-    ensures { λ r. ⌜ (r ≡ length (repackedBlock (now (m .entry)) tracks at)) × (now (out .exit) ≡ repackedBlock (now (m .entry)) tracks at ++ drop r (now (out .entry))) ⌝ }
+    ensures { λ r. ⌜ (r ≡ length (repackedBlock (now (m .entry)) tracks at))
+        × (now (out .exit) ≡ repackedBlock (now (m .entry)) tracks at ++ drop r (now (out .entry))) ⌝ }
 {
     bytes::copy(part(m, at, 2), out);
     let n = repack_stream(m, tracks, at, &mut out[6..]);
@@ -90,7 +93,8 @@ fn write_block(m: &[u8], tracks: u16, at: usize, out: &mut [u8]) -> usize
 // Writes PATT's data anew to the front of an output that has room for them, and answers their length.
 fn write_data(m: &[u8], chunk: Place, patterns: u16, tracks: u16, out: &mut [u8]) -> usize
     requires { ⌜ PatternsIn (now m) chunk patterns tracks × (length (blocksAnew (now m) tracks patterns (firstBlock Pattern chunk)) ≤ length (now out)) ⌝ }
-    ensures { λ r. ⌜ (r ≡ length (blocksAnew (now (m .entry)) tracks patterns (firstBlock Pattern chunk))) × (now (out .exit) ≡ blocksAnew (now (m .entry)) tracks patterns (firstBlock Pattern chunk) ++ drop r (now (out .entry))) ⌝ }
+    ensures { λ r. ⌜ (r ≡ length (blocksAnew (now (m .entry)) tracks patterns (firstBlock Pattern chunk)))
+        × (now (out .exit) ≡ blocksAnew (now (m .entry)) tracks patterns (firstBlock Pattern chunk) ++ drop r (now (out .entry))) ⌝ }
 {
     let mut at = block_at(m, Kind::Pattern, chunk, 0);
     let mut to: usize = 0;
@@ -106,8 +110,11 @@ fn write_data(m: &[u8], chunk: Place, patterns: u16, tracks: u16, out: &mut [u8]
 // Writes the module up to PATT's end, with PATT's data anew, to the front of an output that has room for that, and answers the place
 // behind it. The data are written before their length, which is not known until then.
 fn write_front(m: &[u8], chunk: Place, patterns: u16, tracks: u16, out: &mut [u8]) -> usize
-    requires { ⌜ PatternsIn (now m) chunk patterns tracks × (length (frontAnew (now m) chunk (blocksAnew (now m) tracks patterns (firstBlock Pattern chunk))) ≤ length (now out)) ⌝ }
-    ensures { λ r. ⌜ (r ≡ length (frontAnew (now (m .entry)) chunk (blocksAnew (now (m .entry)) tracks patterns (firstBlock Pattern chunk)))) × (now (out .exit) ≡ frontAnew (now (m .entry)) chunk (blocksAnew (now (m .entry)) tracks patterns (firstBlock Pattern chunk)) ++ drop r (now (out .entry))) ⌝ }
+    requires { ⌜ PatternsIn (now m) chunk patterns tracks
+        × (length (frontAnew (now m) chunk (blocksAnew (now m) tracks patterns (firstBlock Pattern chunk))) ≤ length (now out)) ⌝ }
+    ensures { λ r. ⌜ (r ≡ length (frontAnew (now (m .entry)) chunk (blocksAnew (now (m .entry)) tracks patterns (firstBlock Pattern chunk))))
+        × (now (out .exit)
+        ≡ frontAnew (now (m .entry)) chunk (blocksAnew (now (m .entry)) tracks patterns (firstBlock Pattern chunk)) ++ drop r (now (out .entry))) ⌝ }
 {
     let front = (chunk.at as usize) + 4;
     let start = front + 4;
@@ -119,8 +126,11 @@ fn write_front(m: &[u8], chunk: Place, patterns: u16, tracks: u16, out: &mut [u8
 
 // Writes the module with PATT's data anew to the front of an output that has room for it, and answers its length.
 fn write_module(m: &[u8], chunk: Place, patterns: u16, tracks: u16, out: &mut [u8]) -> usize
-    requires { ⌜ PatternsIn (now m) chunk patterns tracks × (length (replaced (now m) chunk (blocksAnew (now m) tracks patterns (firstBlock Pattern chunk))) ≤ length (now out)) ⌝ }
-    ensures { λ r. ⌜ (r ≡ length (replaced (now (m .entry)) chunk (blocksAnew (now (m .entry)) tracks patterns (firstBlock Pattern chunk)))) × (now (out .exit) ≡ replaced (now (m .entry)) chunk (blocksAnew (now (m .entry)) tracks patterns (firstBlock Pattern chunk)) ++ drop r (now (out .entry))) ⌝ }
+    requires { ⌜ PatternsIn (now m) chunk patterns tracks
+        × (length (replaced (now m) chunk (blocksAnew (now m) tracks patterns (firstBlock Pattern chunk))) ≤ length (now out)) ⌝ }
+    ensures { λ r. ⌜ (r ≡ length (replaced (now (m .entry)) chunk (blocksAnew (now (m .entry)) tracks patterns (firstBlock Pattern chunk))))
+        × (now (out .exit)
+        ≡ replaced (now (m .entry)) chunk (blocksAnew (now (m .entry)) tracks patterns (firstBlock Pattern chunk)) ++ drop r (now (out .entry))) ⌝ }
 {
     let end = write_front(m, chunk, patterns, tracks, out);
     let behind = (chunk.at as usize) + 8 + (chunk.length as usize);
@@ -132,7 +142,8 @@ fn write_module(m: &[u8], chunk: Place, patterns: u16, tracks: u16, out: &mut [u
 // length is answered, which is no less: so the streams need not be gone over to count.
 fn room_needed(m: &[u8], chunk: Place, patterns: u16, tracks: u16, room: usize) -> usize
     requires { ⌜ PatternsIn (now m) chunk patterns tracks ⌝ }
-    ensures { λ r. ⌜ (length (replaced (now (m .entry)) chunk (blocksAnew (now (m .entry)) tracks patterns (firstBlock Pattern chunk))) ≤ r) × (room < r → r ≡ length (replaced (now (m .entry)) chunk (blocksAnew (now (m .entry)) tracks patterns (firstBlock Pattern chunk)))) ⌝ }
+    ensures { λ r. ⌜ (length (replaced (now (m .entry)) chunk (blocksAnew (now (m .entry)) tracks patterns (firstBlock Pattern chunk))) ≤ r)
+        × (room < r → r ≡ length (replaced (now (m .entry)) chunk (blocksAnew (now (m .entry)) tracks patterns (firstBlock Pattern chunk)))) ⌝ }
 {
     if m.len() <= room {
         return m.len();
@@ -144,7 +155,8 @@ fn room_needed(m: &[u8], chunk: Place, patterns: u16, tracks: u16, room: usize) 
 // Repacks a module that is accepted: 17.
 fn repack_opened(m: &[u8], l: Layout, out: &mut [u8]) -> LengthAnswer
     requires { ⌜ opened (now m) ≡ Found l ⌝ }
-    ensures { λ r. ⌜ (r ≡ answerOpened (repackedModule (now (m .entry))) (length (now (out .entry))) (Found l)) × (now (out .exit) ≡ outputOpened (repackedModule (now (m .entry))) (now (out .entry)) (Found l)) ⌝ }
+    ensures { λ r. ⌜ (r ≡ answerOpened (repackedModule (now (m .entry))) (length (now (out .entry))) (Found l))
+        × (now (out .exit) ≡ outputOpened (repackedModule (now (m .entry))) (now (out .entry)) (Found l)) ⌝ }
 {
     let p = l.places;
     let chunk = p.patt;

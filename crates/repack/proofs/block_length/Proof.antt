@@ -5,7 +5,14 @@ use Rattle.repack.proofs.block_length.Statement.{statement}
 use Rattle.repack.proofs.block_length.Tie as tie
 
 returns : tie.Need-returns
-returns c = let inside = c .before .before .before .before .pre .0 in omega (arith, c .before .repack-stream .ensures .0, block-size (c .before .before .before .before .args .m .now) (c .before .before .before .before .args .tracks) (c .before .before .before .before .args .at) (c .before .before .before .before .pre .1) (omega arith))
+returns c =
+    let entry = c .before .before .before .before in
+    let inside = entry .pre .0 in
+    omega (
+      arith,
+      c .before .repack-stream .ensures .0,
+      block-size (entry .args .m .now) (entry .args .tracks) (entry .args .at) (entry .pre .1) (omega arith),
+    )
 
 pub block-length-spec : {M : Type 1} → statement M
 block-length-spec =

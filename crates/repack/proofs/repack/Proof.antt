@@ -9,12 +9,24 @@ repack-opened-requires : tie.Need-repack-opened-requires
 repack-opened-requires c κs = sym (c .before .before .before .before .«open» .ensures .0) ∙ c .before .before .l .given .1
 
 returns : tie.Need-returns
-returns c = by-opened (repackedModule (c .before .before .before .before .before .before .before .before .before .before .args .m .now)) (c .before .before .before .before .before .before .before .before .before .before .args .m .now) (c .before .before .before .before .before .before .before .before .before .before .args .out .now) _ (sym (c .before .before .before .before .before .before .before .«open» .ensures .0) ∙ c .before .before .before .before .before .l .given .1) (c .before .before .repack-opened .ensures)
+returns c =
+    let entry = c .before .before .before .before .before .before .before .before .before .before in
+    let m = entry .args .m .now in
+    let «open» = c .before .before .before .before .before .before .before .«open» in
+    let l = c .before .before .before .before .before .l in
+    by-opened (repackedModule m) m (entry .args .out .now) _ (sym («open» .ensures .0) ∙ l .given .1)
+    (c .before .before .repack-opened .ensures)
 
 returns-2 : tie.Need-returns-2
-returns-2 c = by-opened (repackedModule (c .before .before .before .before .before .before .before .args .m .now)) (c .before .before .before .before .before .before .before .args .m .now) (c .before .before .before .before .before .before .before .args .out .now) _ (sym (c .before .before .before .before .«open» .ensures .0) ∙ c .before .before .r .given .1) (c .refused .ensures, refl)
+returns-2 c =
+    let entry = c .before .before .before .before .before .before .before in
+    let m = entry .args .m .now in
+    let «open» = c .before .before .before .before .«open» in
+    by-opened (repackedModule m) m (entry .args .out .now) _ (sym («open» .ensures .0) ∙ c .before .before .r .given .1)
+    (c .refused .ensures, refl)
 
 pub repack-spec : {M : Type 1} → statement M
 repack-spec =
     tie.close
-    (tie.spec (λ c κs. search needs) (λ c. search needs) repack-opened-requires (λ c. search needs) (λ c κs. search needs) (λ c. search needs) returns returns-2)
+    (tie.spec (λ c κs. search needs) (λ c. search needs) repack-opened-requires (λ c. search needs) (λ c κs. search needs)
+    (λ c. search needs) returns returns-2)

@@ -10,13 +10,26 @@ use Rattle.repack.proofs.room_needed.Statement.{statement}
 use Rattle.repack.proofs.room_needed.Tie as tie
 
 returns : tie.Need-returns
-returns c = room-enough (c .before .before .args .m .now) (c .before .before .args .chunk) (blocksAnew (c .before .before .args .m .now) (c .before .before .args .tracks) (c .before .before .args .patterns) (firstBlock Pattern (c .before .before .args .chunk))) (c .before .before .pre .inside) (data-shorter (c .before .before .args .chunk) (c .before .before .pre) refl) (c .if1 .taken)
+returns c =
+    let entry = c .before .before in
+    let m = entry .args .m .now in
+    let chunk = entry .args .chunk in
+    room-enough m chunk (blocksAnew m (entry .args .tracks) (entry .args .patterns) (firstBlock Pattern chunk))
+    (entry .pre .inside) (data-shorter chunk (entry .pre) refl) (c .if1 .taken)
 
 add-result : tie.Need-add-result
-add-result c = let inside = c .before .before .before .before .pre .inside in omega (arith, c .before .data-length .ensures, data-shorter (c .before .before .before .before .args .chunk) (c .before .before .before .before .pre) refl)
+add-result c =
+    let entry = c .before .before .before .before in
+    let inside = entry .pre .inside in
+    omega (arith, c .before .data-length .ensures, data-shorter (entry .args .chunk) (entry .pre) refl)
 
 returns-2 : tie.Need-returns-2
-returns-2 c = room-counted (c .before .before .before .before .args .m .now) (c .before .before .before .before .args .chunk) (blocksAnew (c .before .before .before .before .args .m .now) (c .before .before .before .before .args .tracks) (c .before .before .before .before .args .patterns) (firstBlock Pattern (c .before .before .before .before .args .chunk))) (c .before .before .before .before .pre .inside) (c .before .data-length .ensures)
+returns-2 c =
+    let entry = c .before .before .before .before in
+    let m = entry .args .m .now in
+    let chunk = entry .args .chunk in
+    room-counted m chunk (blocksAnew m (entry .args .tracks) (entry .args .patterns) (firstBlock Pattern chunk))
+    (entry .pre .inside) (c .before .data-length .ensures)
 
 pub room-needed-spec : {M : Type 1} → statement M
 room-needed-spec =

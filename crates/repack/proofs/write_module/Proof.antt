@@ -9,24 +9,62 @@ use Rattle.repack.proofs.write_module.Statement.{statement}
 use Rattle.repack.proofs.write_module.Tie as tie
 
 write-front-requires : tie.Need-write-front-requires
-write-front-requires c κs = (c .before .before .before .pre .0, front-room (c .before .before .before .args .m .now) (c .before .before .before .args .chunk) (blocksAnew (c .before .before .before .args .m .now) (c .before .before .before .args .tracks) (c .before .before .before .args .patterns) (firstBlock Pattern (c .before .before .before .args .chunk))) (c .before .before .before .pre .0 .inside) (c .before .before .before .pre .1))
+write-front-requires c κs =
+    let entry = c .before .before .before in
+    let m = entry .args .m .now in
+    let chunk = entry .args .chunk in (
+      entry .pre .0,
+      front-room m chunk (blocksAnew m (entry .args .tracks) (entry .args .patterns) (firstBlock Pattern chunk))
+          (entry .pre .0 .inside) (entry .pre .1),
+    )
 
 sub-copy-2 : tie.Need-sub-copy-2
-sub-copy-2 c = let room = rest-room (c .before .before .before .before .before .before .before .before .before .args .m .now) (c .before .before .before .before .before .before .before .before .before .args .chunk) (blocksAnew (c .before .before .before .before .before .before .before .before .before .args .m .now) (c .before .before .before .before .before .before .before .before .before .args .tracks) (c .before .before .before .before .before .before .before .before .before .args .patterns) (firstBlock Pattern (c .before .before .before .before .before .before .before .before .before .args .chunk))) (c .before .before .before .before .before .before .before .before .before .pre .0 .inside) (c .before .before .before .before .before .before .before .before .before .args .out .now) (c .before .before .before .before .before .before .before .before .before .pre .1) (c .before .before .before .before .before .write-front .ensures) in search needs
+sub-copy-2 c =
+    let entry = c .before .before .before .before .before .before .before .before .before in
+    let m = entry .args .m .now in
+    let chunk = entry .args .chunk in
+    let write-front = c .before .before .before .before .before .write-front in
+    let room = rest-room m chunk (blocksAnew m (entry .args .tracks) (entry .args .patterns) (firstBlock Pattern chunk))
+    (entry .pre .0 .inside) (entry .args .out .now) (entry .pre .1) (write-front .ensures) in
+    search needs
 
 part-copy-start-2 : tie.Need-part-copy-start-2
-part-copy-start-2 c = let room = rest-room (c .before .before .before .before .before .before .before .before .before .args .m .now) (c .before .before .before .before .before .before .before .before .before .args .chunk) (blocksAnew (c .before .before .before .before .before .before .before .before .before .args .m .now) (c .before .before .before .before .before .before .before .before .before .args .tracks) (c .before .before .before .before .before .before .before .before .before .args .patterns) (firstBlock Pattern (c .before .before .before .before .before .before .before .before .before .args .chunk))) (c .before .before .before .before .before .before .before .before .before .pre .0 .inside) (c .before .before .before .before .before .before .before .before .before .args .out .now) (c .before .before .before .before .before .before .before .before .before .pre .1) (c .before .before .before .before .before .write-front .ensures) in search needs
+part-copy-start-2 c = sub-copy-2 c
 
 copy-requires : tie.Need-copy-requires
-copy-requires c κs = let room = rest-room (c .before .before .before .before .before .before .before .before .before .before .args .m .now) (c .before .before .before .before .before .before .before .before .before .before .args .chunk) (blocksAnew (c .before .before .before .before .before .before .before .before .before .before .args .m .now) (c .before .before .before .before .before .before .before .before .before .before .args .tracks) (c .before .before .before .before .before .before .before .before .before .before .args .patterns) (firstBlock Pattern (c .before .before .before .before .before .before .before .before .before .before .args .chunk))) (c .before .before .before .before .before .before .before .before .before .before .pre .0 .inside) (c .before .before .before .before .before .before .before .before .before .before .args .out .now) (c .before .before .before .before .before .before .before .before .before .before .pre .1) (c .before .before .before .before .before .before .write-front .ensures) in omega (arith, rest-length (c .before .before .before .before .before .before .before .before .before .before .args .m .now) (c .before .before .before .before .before .before .before .before .before .before .args .chunk) (blocksAnew (c .before .before .before .before .before .before .before .before .before .before .args .m .now) (c .before .before .before .before .before .before .before .before .before .before .args .tracks) (c .before .before .before .before .before .before .before .before .before .before .args .patterns) (firstBlock Pattern (c .before .before .before .before .before .before .before .before .before .before .args .chunk))) (c .before .before .before .before .before .before .before .before .before .before .pre .0 .inside) (c .before .before .before .before .before .before .before .before .before .before .args .out .now) (c .before .before .before .before .before .before .before .before .before .before .pre .1) (c .before .before .before .before .before .before .write-front .ensures))
+copy-requires c κs =
+    let entry = c .before .before .before .before .before .before .before .before .before .before in
+    let m = entry .args .m .now in
+    let chunk = entry .args .chunk in
+    let blocks = blocksAnew m (entry .args .tracks) (entry .args .patterns) (firstBlock Pattern chunk) in
+    let out = entry .args .out .now in
+    let write-front = c .before .before .before .before .before .before .write-front in
+    let room = rest-room m chunk blocks (entry .pre .0 .inside) out (entry .pre .1) (write-front .ensures) in
+    omega (arith, rest-length m chunk blocks (entry .pre .0 .inside) out (entry .pre .1) (write-front .ensures))
 
 add-result : tie.Need-add-result
-add-result c = let room = rest-room (c .before .before .before .before .before .before .before .before .before .before .before .before .before .args .m .now) (c .before .before .before .before .before .before .before .before .before .before .before .before .before .args .chunk) (blocksAnew (c .before .before .before .before .before .before .before .before .before .before .before .before .before .args .m .now) (c .before .before .before .before .before .before .before .before .before .before .before .before .before .args .tracks) (c .before .before .before .before .before .before .before .before .before .before .before .before .before .args .patterns) (firstBlock Pattern (c .before .before .before .before .before .before .before .before .before .before .before .before .before .args .chunk))) (c .before .before .before .before .before .before .before .before .before .before .before .before .before .pre .0 .inside) (c .before .before .before .before .before .before .before .before .before .before .before .before .before .args .out .now) (c .before .before .before .before .before .before .before .before .before .before .before .before .before .pre .1) (c .before .before .before .before .before .before .before .before .before .write-front .ensures) in search needs
+add-result c =
+    let entry = c .before .before .before .before .before .before .before .before .before .before .before .before .before in
+    let m = entry .args .m .now in
+    let chunk = entry .args .chunk in
+    let write-front = c .before .before .before .before .before .before .before .before .before .write-front in
+    let room = rest-room m chunk (blocksAnew m (entry .args .tracks) (entry .args .patterns) (firstBlock Pattern chunk))
+    (entry .pre .0 .inside) (entry .args .out .now) (entry .pre .1) (write-front .ensures) in
+    search needs
 
 returns : tie.Need-returns
-returns c = module-written (c .before .before .before .before .before .before .before .before .before .before .before .before .before .args .m .now) (c .before .before .before .before .before .before .before .before .before .before .before .before .before .args .chunk) (blocksAnew (c .before .before .before .before .before .before .before .before .before .before .before .before .before .args .m .now) (c .before .before .before .before .before .before .before .before .before .before .before .before .before .args .tracks) (c .before .before .before .before .before .before .before .before .before .before .before .before .before .args .patterns) (firstBlock Pattern (c .before .before .before .before .before .before .before .before .before .before .before .before .before .args .chunk))) (c .before .before .before .before .before .before .before .before .before .before .before .before .before .pre .0 .inside) (c .before .before .before .before .before .before .before .before .before .before .before .before .before .args .out .now) (c .before .before .before .before .before .before .before .before .before .before .before .before .before .pre .1) (c .before .before .before .before .before .before .before .before .before .write-front .ensures) (c .before .before .copy .ensures .1)
+returns c =
+    let entry = c .before .before .before .before .before .before .before .before .before .before .before .before .before in
+    let m = entry .args .m .now in
+    let chunk = entry .args .chunk in
+    let write-front = c .before .before .before .before .before .before .before .before .before .write-front in
+    module-written m chunk (blocksAnew m (entry .args .tracks) (entry .args .patterns) (firstBlock Pattern chunk))
+    (entry .pre .0 .inside) (entry .args .out .now) (entry .pre .1) (write-front .ensures)
+    (c .before .before .copy .ensures .1)
 
 pub write-module-spec : {M : Type 1} → statement M
 write-module-spec =
     tie.close
-    (tie.spec write-front-requires (λ c. search needs) (λ c. search needs) (λ c. search needs) (λ c. search needs) (λ c. search needs) (λ c. search needs) (λ c. search needs) sub-copy-2 part-copy-start-2 (λ c. search needs) copy-requires (λ c. search needs) add-result (λ c. search needs) returns)
+    (tie.spec write-front-requires (λ c. search needs) (λ c. search needs) (λ c. search needs) (λ c. search needs)
+    (λ c. search needs) (λ c. search needs) (λ c. search needs) sub-copy-2 part-copy-start-2 (λ c. search needs) copy-requires
+    (λ c. search needs) add-result (λ c. search needs) returns)
