@@ -49,7 +49,9 @@ stored-again v h = go (ltb v 32768) refl
     go false t = simp t (omega (arith, h))
 
 -- A frame that is there is shown.
-pub frame-shown : (m : List ℕ) (at frame count bytes : ℕ) (outcome : Outcome) (z : ℤ) → outcome ≡ noRefusal → count ≡ sampleFrames m at → frame < count → bytes ≡ frameBytes m at → z ≡ frame16 m bytes (at + 8 + frame * bytes) → _≡_ {A = FrameAnswer} (record { outcome = outcome; frame = z }) (frameIn m at frame)
+pub frame-shown : (m : List ℕ) (at frame count bytes : ℕ) (outcome : Outcome) (z : ℤ) → outcome ≡ noRefusal
+    → count ≡ sampleFrames m at → frame < count → bytes ≡ frameBytes m at → z ≡ frame16 m bytes (at + 8 + frame * bytes)
+    → _≡_ {A = FrameAnswer} (record { outcome = outcome; frame = z }) (frameIn m at frame)
 frame-shown m at frame count bytes outcome z none counted less width e =
     let shown : z ≡ frameOf m at frame = e ∙ ap (λ (b : ℕ). frame16 m b (at + 8 + frame * b)) width in
     simp (← counted, lt-ltb frame count less, shown, none)

@@ -46,7 +46,8 @@ module _ (f : ℕ → ℤ) (n : ℕ) where
       let joint : length out ≡ length (pairs f 0 i) + length (h .rest) = ap length (h .same) ∙ length-append (pairs f 0 i) (h .rest) in
       omega (arith, pairs-length f i 0, h .room)
 
-  pub writing-turn : (out : List ℕ) (i v : ℕ) → Writing f n out i → i < n → v < 65536 → signed16 v ≡ f i → Writing f n (set (set out (2 * i) (v / 256)) (2 * i + 1) (v % 256)) (i + 1)
+  pub writing-turn : (out : List ℕ) (i v : ℕ) → Writing f n out i → i < n → v < 65536 → signed16 v ≡ f i
+      → Writing f n (set (set out (2 * i) (v / 256)) (2 * i + 1) (v % 256)) (i + 1)
   writing-turn out i v h less small e =
       let front : List ℕ = pairs f 0 i in
       let two : 2 ≤ length (h .rest) = omega (arith, h .room) in

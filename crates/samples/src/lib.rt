@@ -26,7 +26,9 @@ ghost use Prim.Native.Nat.{_*_, _/_, _<_, _+_, min};
 ghost use lib.ListN.{length};
 ghost use Rattle.refusal.specs.Lengths.{lengthIf, outputOf};
 ghost use Rattle.numbers.specs.Numbers.{SmallPlace, signed16};
-ghost use Rattle.samples.specs.Shown.{frameBytes, frame16, noSample, shownSample, sampleAnswer, noFrames, shownFrames, framesAnswer, framesPart, noFrame, frameIn, frameAnswer, allFramesSize, allFrames, allFramesAnswer, allFramesOutput};
+ghost use Rattle.samples.specs.Shown.{frameBytes, frame16, noSample, shownSample, sampleAnswer, noFrames, shownFrames};
+ghost use Rattle.samples.specs.Shown.{framesAnswer, framesPart, noFrame, frameIn, frameAnswer, allFramesSize};
+ghost use Rattle.samples.specs.Shown.{allFrames, allFramesAnswer, allFramesOutput};
 ghost use Rattle.samples.specs.Steps.{framesFrom};
 
 // A sample: the bits of a frame (8, 16 or 32), and how many frames there are.
@@ -218,7 +220,8 @@ fn all_frames_in(m: &[u8], at: usize, out: &mut [u8]) -> LengthAnswer
 
 // Writes all frames of a sample at 16 bits, two bytes for each.
 pub fn all_frames(m: &[u8], sample: usize, out: &mut [u8]) -> LengthAnswer
-    ensures { λ r. ⌜ (r ≡ allFramesAnswer (now (m .entry)) sample (length (now (out .entry)))) × (now (out .exit) ≡ allFramesOutput (now (m .entry)) sample (now (out .entry))) ⌝ }
+    ensures { λ r. ⌜ (r ≡ allFramesAnswer (now (m .entry)) sample (length (now (out .entry))))
+        × (now (out .exit) ≡ allFramesOutput (now (m .entry)) sample (now (out .entry))) ⌝ }
 {
     match find(m, Thing::Sample, sample) {
         Found::At(b) => all_frames_in(m, b.at, out),
