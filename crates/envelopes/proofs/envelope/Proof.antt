@@ -3,12 +3,19 @@ use Rattle.envelopes.proofs.envelope.Statement.{statement}
 use Rattle.envelopes.proofs.envelope.Tie as tie
 
 returns : tie.Need-returns
-returns c = simp (← c .before .before .before .before .before .thing-of .ensures, ← c .before .before .before .before .find .ensures .0 .0, c .before .before .b .given .1, c .envelope-at .ensures)
+returns c =
+    let thing-of = c .before .before .before .before .before .thing-of in
+    let find = c .before .before .before .before .find in
+    simp (← thing-of .ensures, ← find .ensures .0 .0, c .before .before .b .given .1, c .envelope-at .ensures)
 
 returns-2 : tie.Need-returns-2
-returns-2 c = simp (← c .before .before .before .before .before .thing-of .ensures, ← c .before .before .before .before .find .ensures .0 .0, c .before .before .r .given .1, c .no-envelope .ensures)
+returns-2 c =
+    let thing-of = c .before .before .before .before .before .thing-of in
+    let find = c .before .before .before .before .find in
+    simp (← thing-of .ensures, ← find .ensures .0 .0, c .before .before .r .given .1, c .no-envelope .ensures)
 
 pub envelope-spec : {M : Type 1} → statement M
 envelope-spec =
     tie.close
-    (tie.spec (λ c κs. search needs) (λ c κs. search needs) (λ c. search needs) (λ c κs. search needs) (λ c. search needs) (λ c κs. search needs) returns returns-2)
+    (tie.spec (λ c κs. search needs) (λ c κs. search needs) (λ c. search needs) (λ c κs. search needs) (λ c. search needs)
+    (λ c κs. search needs) returns returns-2)

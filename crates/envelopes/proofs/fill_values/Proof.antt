@@ -22,21 +22,34 @@ loop-holds : tie.Need-loop-holds Inv-loop μ-loop
 loop-holds c = filling-first _ _ _
 
 cast-value : tie.Need-cast-value Inv-loop μ-loop
-cast-value c = let kept = filling-length _ _ _ _ _ (c .before .loop .inv) in omega (arith, kept, c .loop-test .taken, c .before .before .before .pre)
+cast-value c =
+    let kept = filling-length _ _ _ _ _ (c .before .loop .inv) in
+    omega (arith, kept, c .loop-test .taken, c .before .before .before .pre)
 
 loop-less : tie.Need-loop-less Inv-loop μ-loop
 loop-less c = let kept = filling-length _ _ _ _ _ (c .before .before .loop .inv) in omega (arith, kept, c .before .loop-test .taken)
 
 loop-again : tie.Need-loop-again Inv-loop μ-loop
-loop-again c = filling-turn _ _ _ _ _ _ (c .before .before .loop .inv) (c .before .loop-test .taken) (toZ-ofZ w32 (c .value .result) (record { sfits = c .value .ok }) ∙ c .value .ensures ∙ ap (valueShown (c .before .before .before .before .args .m .now) (c .before .before .before .before .args .kind) (c .before .before .before .before .args .version) (c .before .before .before .before .args .at) (c .before .before .before .before .args .sections)) (sym (zero-add _)))
+loop-again c =
+    let entry = c .before .before .before .before in
+    let value = c .value in
+    filling-turn _ _ _ _ _ _ (c .before .before .loop .inv) (c .before .loop-test .taken)
+    (toZ-ofZ w32 (value .result) (record { sfits = value .ok })
+    ∙ value .ensures
+    ∙ ap (valueShown (entry .args .m .now) (entry .args .kind) (entry .args .version) (entry .args .at) (entry .args .sections)) (sym (zero-add _)))
 
 same-length : tie.Need-same-length Inv-loop μ-loop
 same-length c = filling-length _ _ _ _ _ (c .before .loop .inv)
 
 returns : tie.Need-returns Inv-loop μ-loop
-returns c = filling-last _ _ _ _ _ (c .before .loop .inv) (c .loop-test .left) ∙ ap (λ (n : ℕ). eachFrom (valueShown (c .before .before .before .args .m .now) (c .before .before .before .args .kind) (c .before .before .before .args .version) (c .before .before .before .args .at) (c .before .before .before .args .sections)) 0 n) (c .before .before .before .pre)
+returns c =
+    let entry = c .before .before .before in
+    filling-last _ _ _ _ _ (c .before .loop .inv) (c .loop-test .left)
+    ∙ ap (λ (n : ℕ). eachFrom (valueShown (entry .args .m .now) (entry .args .kind) (entry .args .version) (entry .args .at) (entry .args .sections)) 0 n)
+    (entry .pre)
 
 pub fill-values-spec : {M : Type 1} → statement M
 fill-values-spec =
     tie.close
-    (tie.spec Inv-loop μ-loop loop-holds cast-value (λ c κs. search needs) (λ c. search needs) (λ c. search needs) (λ c. search needs) loop-less loop-again same-length returns)
+    (tie.spec Inv-loop μ-loop loop-holds cast-value (λ c κs. search needs) (λ c. search needs) (λ c. search needs)
+    (λ c. search needs) loop-less loop-again same-length returns)

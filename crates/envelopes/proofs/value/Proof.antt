@@ -6,7 +6,10 @@ use Rattle.envelopes.proofs.value.Statement.{statement}
 use Rattle.envelopes.proofs.value.Tie as tie
 
 returns : tie.Need-returns
-returns c = simp (← c .before .before .before .in-use .ensures, c .before .before .if1 .taken, ← c .before .envelope-value .ensures) (toZ-ofZ w32 (c .value-of .result) (record { sfits = c .value-of .ok }) ∙ c .value-of .ensures)
+returns c =
+    let value-of = c .value-of in
+    simp (← c .before .before .before .in-use .ensures, c .before .before .if1 .taken, ← c .before .envelope-value .ensures)
+    (toZ-ofZ w32 (value-of .result) (record { sfits = value-of .ok }) ∙ value-of .ensures)
 
 returns-2 : tie.Need-returns-2
 returns-2 c = simp (← c .before .in-use .ensures, c .if1 .left)

@@ -27,9 +27,13 @@ returns-2 : tie.Need-returns-2
 returns-2 c = rw (c .enum-told .given .1) (toZ-pos w32 _ (omega arith))
 
 returns-3 : tie.Need-returns-3
-returns-3 c = simp (c .before .before .enum-told2 .given .1, ne-eqb _ _ (c .before .if1 .left)) (widened (c .signed .result) (c .signed .ok) ∙ c .signed .ensures)
+returns-3 c =
+    let signed = c .signed in
+    simp (c .before .before .enum-told2 .given .1, ne-eqb _ _ (c .before .if1 .left))
+    (widened (signed .result) (signed .ok) ∙ signed .ensures)
 
 pub value-of-spec : {M : Type 1} → statement M
 value-of-spec =
     tie.close
-    (tie.spec enum-told (λ c. search needs) (λ c. search needs) (λ c. search needs) mul-result sub-result returns (λ c κs. search needs) cast-result-3 returns-2 returns-3)
+    (tie.spec enum-told (λ c. search needs) (λ c. search needs) (λ c. search needs) mul-result sub-result returns
+    (λ c κs. search needs) cast-result-3 returns-2 returns-3)
