@@ -70,7 +70,8 @@ pub fn cell(m: &[u8], pattern: usize, row: usize, track: usize) -> CellAnswer
 
 // Unpacks the pattern of a block.
 fn unpack_in(m: &[u8], b: Block, out: &mut [u8]) -> LengthAnswer
-    ensures { λ r. ⌜ (r ≡ unpackIn (now (m .entry)) b (length (now (out .entry)))) × (now (out .exit) ≡ unpackOutputIn (now (m .entry)) b (now (out .entry))) ⌝ }
+    ensures { λ r. ⌜ (r ≡ unpackIn (now (m .entry)) b (length (now (out .entry))))
+        × (now (out .exit) ≡ unpackOutputIn (now (m .entry)) b (now (out .entry))) ⌝ }
 {
     let rows = pattern_rows(m, b.at) as usize;
     match packed_rows::unpack(packed_bytes(m, b.at), rows, b.tracks as usize, out) {
@@ -81,7 +82,8 @@ fn unpack_in(m: &[u8], b: Block, out: &mut [u8]) -> LengthAnswer
 
 // Unpacks a pattern, row by row, tracks ascending, six bytes for each cell.
 pub fn unpack(m: &[u8], pattern: usize, out: &mut [u8]) -> LengthAnswer
-    ensures { λ r. ⌜ (r ≡ unpackAnswer (now (m .entry)) pattern (length (now (out .entry)))) × (now (out .exit) ≡ unpackOutput (now (m .entry)) pattern (now (out .entry))) ⌝ }
+    ensures { λ r. ⌜ (r ≡ unpackAnswer (now (m .entry)) pattern (length (now (out .entry))))
+        × (now (out .exit) ≡ unpackOutput (now (m .entry)) pattern (now (out .entry))) ⌝ }
 {
     match find(m, Thing::Pattern, pattern) {
         Found::At(b) => unpack_in(m, b, out),

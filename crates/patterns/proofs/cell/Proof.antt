@@ -5,7 +5,9 @@ use Rattle.patterns.proofs.cell.Statement.{statement}
 use Rattle.patterns.proofs.cell.Tie as tie
 
 returns : tie.Need-returns
-returns c = is-answer cellNumbers (simp (← c .before .before .before .before .find .ensures .0 .0, c .before .before .b .given .1, c .cell-in .ensures))
+returns c =
+    let find = c .before .before .before .before .find in
+    is-answer cellNumbers (simp (← find .ensures .0 .0, c .before .before .b .given .1, c .cell-in .ensures))
 
 returns-2 : tie.Need-returns-2
 returns-2 c = is-answer cellNumbers (simp (← c .before .before .before .find .ensures .0 .0, c .before .r .given .1))
