@@ -20,7 +20,8 @@ ghost use mathlib.Core.Path.{_≡_};
 ghost use lib.ListN.{length};
 ghost use Rattle.refusal.specs.Lengths.{lengthIf, outputOf};
 ghost use Rattle.numbers.specs.Numbers.{SmallPlace};
-ghost use Rattle.songs.specs.Shown.{noSong, shownSong, songAnswer, noEntry, entryIn, entryAnswer, playlistSize, playlistBytes, playlistAnswer, playlistOutput};
+ghost use Rattle.songs.specs.Shown.{noSong, shownSong, songAnswer, noEntry, entryIn, entryAnswer, playlistSize};
+ghost use Rattle.songs.specs.Shown.{playlistBytes, playlistAnswer, playlistOutput};
 
 // A song: its name, and the number of entries of its playlist.
 #[repr(C)]
@@ -116,7 +117,8 @@ fn write_playlist(m: &[u8], at: usize, out: &mut [u8]) -> LengthAnswer
 
 // Writes a song's playlist, two bytes for each entry.
 pub fn playlist(m: &[u8], song: usize, out: &mut [u8]) -> LengthAnswer
-    ensures { λ r. ⌜ (r ≡ playlistAnswer (now (m .entry)) song (length (now (out .entry)))) × (now (out .exit) ≡ playlistOutput (now (m .entry)) song (now (out .entry))) ⌝ }
+    ensures { λ r. ⌜ (r ≡ playlistAnswer (now (m .entry)) song (length (now (out .entry))))
+        × (now (out .exit) ≡ playlistOutput (now (m .entry)) song (now (out .entry))) ⌝ }
 {
     match find(m, Thing::Song, song) {
         Found::At(b) => write_playlist(m, b.at, out),
