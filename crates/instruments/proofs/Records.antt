@@ -12,6 +12,19 @@ use Rattle.instruments.specs.Shown.{shownInstrument}
 use Rattle.instruments.specs.declared.InstrumentAnswer.{InstrumentAnswer}
 
 pub fields-shown : (m : List ℕ) (at : ℕ) {outcome : Outcome} {name : List ℕ} {sample volume stored flags rate start length : ℕ} {panning : ℤ}
-    → outcome ≡ noRefusal → name ≡ instrumentName m at → sample ≡ instrumentSample m at → volume ≡ instrumentVolume m at → stored ≡ instrumentPanning m at → panning ≡ signed16 stored → flags ≡ instrumentFlags m at → rate ≡ instrumentRate m at → start ≡ instrumentLoopStart m at → length ≡ instrumentLoopLength m at
-    → _≡_ {A = InstrumentAnswer} (record { outcome = outcome; name = name; sample = sample; volume = volume; panning = panning; flags = flags; rate = rate; «loop_start» = start; «loop_length» = length }) (shownInstrument m at)
+    → outcome ≡ noRefusal → name ≡ instrumentName m at → sample ≡ instrumentSample m at → volume ≡ instrumentVolume m at
+    → stored ≡ instrumentPanning m at → panning ≡ signed16 stored → flags ≡ instrumentFlags m at → rate ≡ instrumentRate m at
+    → start ≡ instrumentLoopStart m at
+    → length ≡ instrumentLoopLength m at
+    → _≡_ {A = InstrumentAnswer} (record {
+      outcome = outcome;
+      name = name;
+      sample = sample;
+      volume = volume;
+      panning = panning;
+      flags = flags;
+      rate = rate;
+      «loop_start» = start;
+      «loop_length» = length;
+    }) (shownInstrument m at)
 fields-shown m at o n s v p z f r b l = rw (o, n, s, v, z, p, f, r, b, l)
