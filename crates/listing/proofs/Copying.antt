@@ -14,14 +14,16 @@ use Rattle.listing_text.specs.declared.Listing.the-variants.{Written, Refused}
 use Rattle.io.specs.Counts.{Counts}
 
 -- One byte more.
-pub copy-turn : (text bytes : List ℕ) (i : ℕ) → i < length text → i < length bytes → take i text ≡ take i bytes → take (i + 1) (set text i (getD bytes i 0)) ≡ take (i + 1) bytes
+pub copy-turn : (text bytes : List ℕ) (i : ℕ) → i < length text → i < length bytes → take i text ≡ take i bytes
+    → take (i + 1) (set text i (getD bytes i 0)) ≡ take (i + 1) bytes
 copy-turn text bytes i h k e = rw (add-one i, take-suc-set text i (getD bytes i 0) h, e) (sym (take-suc bytes i 0 k))
 
 pub counts : (n : ℕ) (text : List ℕ) → n ≤ length text → Counts n text
 counts n text h = (h, sym (length-take-le n text h))
 
 -- In 256 bytes a listing has room: it is written, and is what the text begins with.
-module _ (m text text′ : List ℕ) (r : Listing) (answer : r ≡ linesAnswer m (length text)) (output : text′ ≡ linesOutput m text) (short : length (listing m) ≤ 256) (room : 256 ≤ length text) where
+module _ (m text text′ : List ℕ) (r : Listing) (answer : r ≡ linesAnswer m (length text))
+    (output : text′ ≡ linesOutput m text) (short : length (listing m) ≤ 256) (room : 256 ≤ length text) where
   answer-written : r ≡ Written (length (listing m))
   answer-written = answer ∙ simp (le-ltb (length text) (length (listing m)) (omega arith))
 

@@ -18,7 +18,13 @@ loop-holds : tie.Need-loop-holds Inv-loop μ-loop
 loop-holds c = (search needs, search needs, refl)
 
 loop-again : tie.Need-loop-again Inv-loop μ-loop
-loop-again c = (search needs, search needs, copy-turn (c .before .before .loop .text) (c .before .before .before .args .bytes .now) (c .before .before .loop .i) (omega arith) (omega arith) (c .before .before .loop .inv .2))
+loop-again c =
+    let loop = c .before .before .loop in (
+      search needs,
+      search needs,
+      copy-turn (loop .text) (c .before .before .before .args .bytes .now) (loop .i) (omega arith) (omega arith)
+          (loop .inv .2),
+    )
 
 returns : tie.Need-returns Inv-loop μ-loop
 returns c = (omega arith, c .before .loop .inv .2 ∙ take-all (c .before .loop .i) (c .before .before .args .bytes .now) (omega arith))
