@@ -45,7 +45,13 @@ module _ (m : List ℕ) (l : Layout) (o : opened m ≡ Found l) where
   values-fit PanningEnvelope = every-of (λ at hold. panning-fits m (l .instruments) (l .version) at hold) (opens .content .fields .panningEnvelopes)
 
   pub songs-length : length (recordsOf m l Song) ≡ l .places .song .length
-  songs-length = omega (arith, block-lengths (recordAt m (l .version) Song) (sizeOf (kindOf Song) m) (record-length m (l .version) Song) (l .songs) (l .places .song .at + 8), opens .content .blocks .songs)
+  songs-length =
+      omega (
+        arith,
+        block-lengths (recordAt m (l .version) Song) (sizeOf (kindOf Song) m) (record-length m (l .version) Song) (l .songs)
+            (l .places .song .at + 8),
+        opens .content .blocks .songs,
+      )
 
 -- The records of a kind that are of one length.
 module _ (m : List ℕ) (l : Layout) where
@@ -59,30 +65,48 @@ module _ (m : List ℕ) (l : Layout) where
   samples-length = equal-lengths (recordAt m (l .version) Sample) (sizeOf (kindOf Sample) m) 6 (record-length m (l .version) Sample) _ _
 
   pub volumes-length : length (recordsOf m l VolumeEnvelope) ≡ countOf m l VolumeEnvelope * 136
-  volumes-length = equal-lengths (recordAt m (l .version) VolumeEnvelope) (sizeOf (kindOf VolumeEnvelope) m) 136 (record-length m (l .version) VolumeEnvelope) _ _
+  volumes-length =
+      equal-lengths (recordAt m (l .version) VolumeEnvelope) (sizeOf (kindOf VolumeEnvelope) m) 136
+      (record-length m (l .version) VolumeEnvelope) _ _
 
   pub pannings-length : length (recordsOf m l PanningEnvelope) ≡ countOf m l PanningEnvelope * 136
-  pannings-length = equal-lengths (recordAt m (l .version) PanningEnvelope) (sizeOf (kindOf PanningEnvelope) m) 136 (record-length m (l .version) PanningEnvelope) _ _
+  pannings-length =
+      equal-lengths (recordAt m (l .version) PanningEnvelope) (sizeOf (kindOf PanningEnvelope) m) 136
+      (record-length m (l .version) PanningEnvelope) _ _
 
   -- The length that is told for each kind.
   pub songs-told : opened m ≡ Found l → (thing : Thing) (chunk : Place) → thing ≡ Song → chunk ≡ chunkOf l thing → chunk .length ≡ length (recordsOf m l thing)
   songs-told o thing chunk e c = rw e (ap (λ (p : Place). p .length) (rw e at c) ∙ sym (songs-length m l o))
 
-  pub told : (thing kind : Thing) (count w : ℕ) → thing ≡ kind → length (recordsOf m l kind) ≡ countOf m l kind * w → count ≡ countOf m l thing → count * w ≡ length (recordsOf m l thing)
+  pub told : (thing kind : Thing) (count w : ℕ) → thing ≡ kind → length (recordsOf m l kind) ≡ countOf m l kind * w
+      → count ≡ countOf m l thing
+      → count * w ≡ length (recordsOf m l thing)
   told thing kind count w e size c = rw e (ap (λ (n : ℕ). n * w) (rw e at c) ∙ sym size)
 
   -- All of them.
-  pub all-lengths : length (allRecords m l) ≡ 60 + length (recordsOf m l Song) + length (recordsOf m l Instrument) + length (recordsOf m l Pattern) + length (recordsOf m l Sample) + length (recordsOf m l VolumeEnvelope) + length (recordsOf m l PanningEnvelope)
+  pub all-lengths : length (allRecords m l)
+      ≡ 60 + length (recordsOf m l Song) + length (recordsOf m l Instrument) + length (recordsOf m l Pattern)
+      + length (recordsOf m l Sample) + length (recordsOf m l VolumeEnvelope) + length (recordsOf m l PanningEnvelope)
   all-lengths =
       let e : List ℕ = recordsOf m l VolumeEnvelope ++ recordsOf m l PanningEnvelope in
       let d : List ℕ = recordsOf m l Sample ++ e in
       let c : List ℕ = recordsOf m l Pattern ++ d in
       let b : List ℕ = recordsOf m l Instrument ++ c in
       let a : List ℕ = recordsOf m l Song ++ b in
-      omega (arith, summary-length m l, length-append (summaryRecord m l) a, length-append (recordsOf m l Song) b, length-append (recordsOf m l Instrument) c, length-append (recordsOf m l Pattern) d, length-append (recordsOf m l Sample) e, length-append (recordsOf m l VolumeEnvelope) (recordsOf m l PanningEnvelope))
+      omega (
+        arith,
+        summary-length m l,
+        length-append (summaryRecord m l) a,
+        length-append (recordsOf m l Song) b,
+        length-append (recordsOf m l Instrument) c,
+        length-append (recordsOf m l Pattern) d,
+        length-append (recordsOf m l Sample) e,
+        length-append (recordsOf m l VolumeEnvelope) (recordsOf m l PanningEnvelope),
+      )
 
 -- The blocks of a kind, by what the code has of them.
-module _ (m : List ℕ) (l : Layout) (thing : Thing) (kind : Kind) (chunk : Place) (start count : ℕ) (k : kind ≡ kindOf thing) (c : chunk ≡ chunkOf l thing) (s : start ≡ blockAt m kind chunk 0) (n : count ≡ countOf m l thing) where
+module _ (m : List ℕ) (l : Layout) (thing : Thing) (kind : Kind) (chunk : Place) (start count : ℕ) (k : kind ≡ kindOf thing)
+    (c : chunk ≡ chunkOf l thing) (s : start ≡ blockAt m kind chunk 0) (n : count ≡ countOf m l thing) where
   places-same : placesFrom (sizeOf kind m) count start ≡ blocksOf m (kindOf thing) (chunkOf l thing) (countOf m l thing)
   places-same = rw (s, k, c, n) refl
 
@@ -92,17 +116,28 @@ module _ (m : List ℕ) (l : Layout) (thing : Thing) (kind : Kind) (chunk : Plac
   pub records-ready : opened m ≡ Found l → Every (ValuesFit m (l .version) thing) (placesFrom (sizeOf kind m) count start)
   records-ready o = subst (Every (ValuesFit m (l .version) thing)) (sym places-same) (values-fit m l o thing)
 
-  pub records-written : (out : List ℕ) {out′ : List ℕ} {r : ℕ} → (r ≡ length (recordsFrom m kind thing (l .version) count start)) × (out′ ≡ recordsFrom m kind thing (l .version) count start ++ drop r out) → (r ≡ length (recordsOf m l thing)) × (out′ ≡ recordsOf m l thing ++ drop r out)
+  pub records-written : (out : List ℕ) {out′ : List ℕ} {r : ℕ}
+      → (r ≡ length (recordsFrom m kind thing (l .version) count start)) × (out′ ≡ recordsFrom m kind thing (l .version) count start ++ drop r out)
+      → (r ≡ length (recordsOf m l thing)) × (out′ ≡ recordsOf m l thing ++ drop r out)
   records-written out w = rw records-same at w
 
 -- All records, as they are written: three kinds, and the three others.
-pub all-split : (m : List ℕ) (l : Layout) → summaryRecord m l ++ (recordsOfThree m l Song Instrument Pattern ++ recordsOfThree m l Sample VolumeEnvelope PanningEnvelope) ≡ allRecords m l
+abbrev pub byThrees : List ℕ → Layout → List ℕ
+byThrees m l =
+    summaryRecord m l
+    ++ (recordsOfThree m l Song Instrument Pattern ++ recordsOfThree m l Sample VolumeEnvelope PanningEnvelope)
+
+pub all-split : (m : List ℕ) (l : Layout) → byThrees m l ≡ allRecords m l
 all-split m l =
     let others : List ℕ = recordsOfThree m l Sample VolumeEnvelope PanningEnvelope in
-    ap (λ (rest : List ℕ). summaryRecord m l ++ rest) (append-assoc (recordsOf m l Song) (recordsOf m l Instrument ++ recordsOf m l Pattern) others ∙ ap (λ (rest : List ℕ). recordsOf m l Song ++ rest) (append-assoc (recordsOf m l Instrument) (recordsOf m l Pattern) others))
+    ap (λ (rest : List ℕ). summaryRecord m l ++ rest)
+    (append-assoc (recordsOf m l Song) (recordsOf m l Instrument ++ recordsOf m l Pattern) others
+    ∙ ap (λ (rest : List ℕ). recordsOf m l Song ++ rest) (append-assoc (recordsOf m l Instrument) (recordsOf m l Pattern) others))
 
-pub all-written : (m : List ℕ) (l : Layout) (out : List ℕ) {out′ : List ℕ} {r : ℕ} → (r ≡ length (summaryRecord m l ++ (recordsOfThree m l Song Instrument Pattern ++ recordsOfThree m l Sample VolumeEnvelope PanningEnvelope))) × (out′ ≡ (summaryRecord m l ++ (recordsOfThree m l Song Instrument Pattern ++ recordsOfThree m l Sample VolumeEnvelope PanningEnvelope)) ++ drop r out) → (r ≡ length (allRecords m l)) × (out′ ≡ allRecords m l ++ drop r out)
+pub all-written : (m : List ℕ) (l : Layout) (out : List ℕ) {out′ : List ℕ} {r : ℕ}
+    → (r ≡ length (byThrees m l)) × (out′ ≡ byThrees m l ++ drop r out)
+    → (r ≡ length (allRecords m l)) × (out′ ≡ allRecords m l ++ drop r out)
 all-written m l out {out′} {r} w = subst (λ (all : List ℕ). (r ≡ length all) × (out′ ≡ all ++ drop r out)) (all-split m l) w
 
-pub all-room : (m : List ℕ) (l : Layout) {k : ℕ} → length (allRecords m l) ≤ k → length (summaryRecord m l ++ (recordsOfThree m l Song Instrument Pattern ++ recordsOfThree m l Sample VolumeEnvelope PanningEnvelope)) ≤ k
+pub all-room : (m : List ℕ) (l : Layout) {k : ℕ} → length (allRecords m l) ≤ k → length (byThrees m l) ≤ k
 all-room m l {k} h = subst (λ (all : List ℕ). length all ≤ k) (sym (all-split m l)) h

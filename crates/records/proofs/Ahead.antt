@@ -45,10 +45,13 @@ module _ {out₀ all : List ℕ} (room : length all ≤ length out₀) (out : Li
     pub ahead-part : length xs ≤ length (midOf to (length out - to) out)
     ahead-part = omega (arith, ahead-small, ahead-length (xs ++ rest) a, ap length (mid-end to out), length-drop to out)
 
-    pub ahead-next : (mid : List ℕ) {r : ℕ} → (r ≡ length xs) × (mid ≡ xs ++ drop r (midOf to (length out - to) out)) → Ahead out₀ all (putMid to (length out - to) out mid) (to + r) rest
+    pub ahead-next : (mid : List ℕ) {r : ℕ} → (r ≡ length xs) × (mid ≡ xs ++ drop r (midOf to (length out - to) out))
+        → Ahead out₀ all (putMid to (length out - to) out mid) (to + r) rest
     ahead-next mid next = record {
       done = a .done ++ xs;
-      written = put-next (a .done) xs out₀ out mid to (length out) (a .written) (a .place) (omega (arith, ahead-small, ahead-length (xs ++ rest) a)) (omega (arith, ahead-length (xs ++ rest) a)) (rw (next .0) at (next .1));
+      written = put-next (a .done) xs out₀ out mid to (length out) (a .written) (a .place)
+          (omega (arith, ahead-small, ahead-length (xs ++ rest) a)) (omega (arith, ahead-length (xs ++ rest) a))
+          (rw (next .0) at (next .1));
       place = omega (arith, length-append (a .done) xs, a .place, next .0);
       whole = append-assoc (a .done) xs rest ∙ a .whole;
     }
@@ -69,7 +72,8 @@ module _ {out₀ all : List ℕ} (room : length all ≤ length out₀) (out : Li
   pub last-part : length xs ≤ length (midOf to (length out - to) out)
   last-part = ahead-part room out xs [] last
 
-  pub ahead-last : (mid : List ℕ) {r : ℕ} → (r ≡ length xs) × (mid ≡ xs ++ drop r (midOf to (length out - to) out)) → (to + r ≡ length all) × (putMid to (length out - to) out mid ≡ all ++ drop (to + r) out₀)
+  pub ahead-last : (mid : List ℕ) {r : ℕ} → (r ≡ length xs) × (mid ≡ xs ++ drop r (midOf to (length out - to) out))
+      → (to + r ≡ length all) × (putMid to (length out - to) out mid ≡ all ++ drop (to + r) out₀)
   ahead-last mid next = ahead-over room (putMid to (length out - to) out mid) (ahead-next room out xs [] last mid next)
 
   -- It is put at its place.
@@ -123,7 +127,9 @@ module _ (xs ys zs out₀ : List ℕ) (room : length (xs ++ (ys ++ zs)) ≤ leng
       pub third-small : p + q + length zs ≤ length out₀
       third-small = last-small room out₂ zs behind-second
 
-      pub three-written : (mid₃ : List ℕ) {r : ℕ} → (r ≡ length zs) × (mid₃ ≡ zs ++ drop r (midOf (p + q) (length out₂ - (p + q)) out₂)) → (p + q + r ≡ length (xs ++ (ys ++ zs))) × (putMid (p + q) (length out₂ - (p + q)) out₂ mid₃ ≡ (xs ++ (ys ++ zs)) ++ drop (p + q + r) out₀)
+      pub three-written : (mid₃ : List ℕ) {r : ℕ}
+          → (r ≡ length zs) × (mid₃ ≡ zs ++ drop r (midOf (p + q) (length out₂ - (p + q)) out₂))
+          → (p + q + r ≡ length (xs ++ (ys ++ zs))) × (putMid (p + q) (length out₂ - (p + q)) out₂ mid₃ ≡ (xs ++ (ys ++ zs)) ++ drop (p + q + r) out₀)
       three-written mid₃ e₃ = ahead-last room out₂ zs behind-second mid₃ e₃
 
 -- Nothing is asked of blocks.
@@ -132,7 +138,8 @@ every-any h [] = none
 every-any h (x ∷ xs) = also (h x) (every-any h xs)
 
 -- The first of the blocks that are left, and the others.
-pub blocks-split : (f : ℕ → List ℕ) (size : ℕ → ℕ) (left at : ℕ) → 0 < left → joined (map f (placesFrom size left at)) ≡ f at ++ joined (map f (placesFrom size (left - 1) (at + size at)))
+pub blocks-split : (f : ℕ → List ℕ) (size : ℕ → ℕ) (left at : ℕ) → 0 < left
+    → joined (map f (placesFrom size left at)) ≡ f at ++ joined (map f (placesFrom size (left - 1) (at + size at)))
 blocks-split f size zero at some = absurd (omega arith)
 blocks-split f size (suc left) at some = let less : suc left - 1 ≡ left = omega arith in rw less refl
 
@@ -143,7 +150,8 @@ pub record AheadBlocks (f : ℕ → List ℕ) (size : ℕ → ℕ) (P : ℕ → 
   pub room : length (joined (map f (placesFrom size n start))) ≤ length out₀
 
 module _ {f : ℕ → List ℕ} {size : ℕ → ℕ} {P : ℕ → Type 0} {n start : ℕ} (out₀ : List ℕ) where
-  pub blocks-first : Every P (placesFrom size n start) → length (joined (map f (placesFrom size n start))) ≤ length out₀ → AheadBlocks f size P n start out₀ out₀ start 0 n
+  pub blocks-first : Every P (placesFrom size n start) → length (joined (map f (placesFrom size n start))) ≤ length out₀
+      → AheadBlocks f size P n start out₀ out₀ start 0 n
   blocks-first e room = record { ahead = ahead-first out₀ (joined (map f (placesFrom size n start))); each = e; room = room }
 
   module _ (out : List ℕ) {at to left : ℕ} (b : AheadBlocks f size P n start out₀ out at to left) where
@@ -177,7 +185,9 @@ module _ {f : ℕ → List ℕ} {size : ℕ → ℕ} {P : ℕ → Type 0} {n sta
       pub blocks-part : length (f at) ≤ length (midOf to (length out - to) out)
       blocks-part = ahead-part (b .room) out (f at) (joined (map f (placesFrom size (left - 1) (at + size at)))) next
 
-      pub blocks-turn : (mid : List ℕ) {r s : ℕ} → (r ≡ length (f at)) × (mid ≡ f at ++ drop r (midOf to (length out - to) out)) → s ≡ size at → AheadBlocks f size P n start out₀ (putMid to (length out - to) out mid) (at + s) (to + r) (left - 1)
+      pub blocks-turn : (mid : List ℕ) {r s : ℕ}
+          → (r ≡ length (f at)) × (mid ≡ f at ++ drop r (midOf to (length out - to) out)) → s ≡ size at
+          → AheadBlocks f size P n start out₀ (putMid to (length out - to) out mid) (at + s) (to + r) (left - 1)
       blocks-turn mid block e =
           record {
             ahead = rw e (ahead-next (b .room) out (f at) (joined (map f (placesFrom size (left - 1) (at + size at)))) next mid block);

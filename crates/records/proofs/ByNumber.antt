@@ -20,11 +20,14 @@ use Rattle.queries.proofs.Numbering.{counted-found}
 use Rattle.records.specs.Records.{recordAt, recordsOf}
 
 -- What a function gives for each number, where that is what another gives for the place that so many blocks lead to.
-each-placed : {A : Type 0} (f g : ℕ → A) (size : ℕ → ℕ) (n k at : ℕ) → ((i : ℕ) → i < n → f (k + i) ≡ g (placeAfter size i at)) → eachFrom f k n ≡ map g (placesFrom size n at)
+each-placed : {A : Type 0} (f g : ℕ → A) (size : ℕ → ℕ) (n k at : ℕ)
+    → ((i : ℕ) → i < n → f (k + i) ≡ g (placeAfter size i at))
+    → eachFrom f k n ≡ map g (placesFrom size n at)
 each-placed f g size zero k at h = refl
 each-placed f g size (suc n) k at h =
     let first : f k ≡ g at = simp add-zero at (h 0 (omega arith)) in
-    let rest : eachFrom f (k + 1) n ≡ map g (placesFrom size n (at + size at)) = each-placed f g size n (k + 1) (at + size at) (λ i less. ap f (omega arith) ∙ h (suc i) (omega arith)) in
+    let rest : eachFrom f (k + 1) n ≡ map g (placesFrom size n (at + size at)) =
+    each-placed f g size n (k + 1) (at + size at) (λ i less. ap f (omega arith) ∙ h (suc i) (omega arith)) in
     cc
 
 module _ (m : List ℕ) (l : Layout) (o : opened m ≡ Opened l) (thing : Thing) where
@@ -37,6 +40,9 @@ module _ (m : List ℕ) (l : Layout) (o : opened m ≡ Opened l) (thing : Thing)
       let same : firstOf thing + i - firstOf thing ≡ i = omega arith in
       rw same at (counted-found m l thing (firstOf thing + i) o (omega arith) (omega (arith, h)))
 
-  pub records-numbered : (tell : Found → List ℕ) → ((b : Block) → tell (At b) ≡ recordAt m (b .version) thing (b .at)) → joined (eachFrom (λ (number : ℕ). tell (found m thing number)) (firstOf thing) (countOf m l thing)) ≡ recordsOf m l thing
+  pub records-numbered : (tell : Found → List ℕ) → ((b : Block) → tell (At b) ≡ recordAt m (b .version) thing (b .at))
+      → joined (eachFrom (λ (number : ℕ). tell (found m thing number)) (firstOf thing) (countOf m l thing)) ≡ recordsOf m l thing
   records-numbered tell same =
-      ap joined (each-placed (λ (number : ℕ). tell (found m thing number)) (recordAt m (l .version) thing) (sizeOf (kindOf thing) m) (countOf m l thing) (firstOf thing) (firstBlock (kindOf thing) (chunkOf l thing)) (λ i h. ap tell (number-found i h) ∙ same (numbered i)))
+      ap joined (each-placed (λ (number : ℕ). tell (found m thing number)) (recordAt m (l .version) thing)
+      (sizeOf (kindOf thing) m) (countOf m l thing) (firstOf thing) (firstBlock (kindOf thing) (chunkOf l thing))
+      (λ i h. ap tell (number-found i h) ∙ same (numbered i)))

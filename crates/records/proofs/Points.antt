@@ -39,11 +39,14 @@ value-mag Panning version v h fits = go (eqb version 2) refl
     go false t = simp t (signed-mag v h)
 
 -- What is asked of a value in use.
-value-ready : (m : List ℕ) (kind : EnvelopeKind) (version at : ℕ) → ValuesFit m version (thingOf kind) at → (point : ℕ) → point ≤ envelopeSections m at → ValueFits kind version (envelopeValue m at point)
+value-ready : (m : List ℕ) (kind : EnvelopeKind) (version at : ℕ) → ValuesFit m version (thingOf kind) at → (point : ℕ)
+    → point ≤ envelopeSections m at
+    → ValueFits kind version (envelopeValue m at point)
 value-ready m Volume version at fits point h = tt
 value-ready m Panning version at fits point h = fits point h
 
-shown-mag : (m : List ℕ) (kind : EnvelopeKind) (version at point : ℕ) → Bytes m → ValuesFit m version (thingOf kind) at → mag (valueShown m kind version at (envelopeSections m at) point) < 65536
+shown-mag : (m : List ℕ) (kind : EnvelopeKind) (version at point : ℕ) → Bytes m → ValuesFit m version (thingOf kind) at
+    → mag (valueShown m kind version at (envelopeSections m at) point) < 65536
 shown-mag m kind version at point bytes fits = go (leb point (envelopeSections m at)) refl
   where
     go : (t : Bool) → leb point (envelopeSections m at) ≡ t → mag (valueShown m kind version at (envelopeSections m at) point) < 65536
@@ -61,6 +64,8 @@ module _ (m : List ℕ) (kind : EnvelopeKind) (version at point sections : ℕ) 
   pub passed-mag : Bytes m → ValuesFit m version (thingOf kind) at → mag (toZ w32 (ofZ w32 v)) < 65536
   passed-mag bytes fits = rw passed (shown-mag m kind version at point bytes fits)
 
-  pub point-written : (p u : ℕ) (out : List ℕ) → p ≡ positionShown m at sections point → u ≡ unsigned16 (toZ w32 (ofZ w32 v)) → 4 ≤ length out → putAt (bytes16 u) 2 (putAt (bytes16 p) 0 out) ≡ pointRecord m kind version at point ++ drop 4 out
+  pub point-written : (p u : ℕ) (out : List ℕ) → p ≡ positionShown m at sections point → u ≡ unsigned16 (toZ w32 (ofZ w32 v))
+      → 4 ≤ length out
+      → putAt (bytes16 u) 2 (putAt (bytes16 p) 0 out) ≡ pointRecord m kind version at point ++ drop 4 out
   unfolding flatten
   point-written p u out e f room = put-front (bytes16 p ∷ bytes16 u ∷ []) out room ∙ rw (e, f, passed, s) refl

@@ -48,13 +48,15 @@ record-length m version VolumeEnvelope at = refl
 record-length m version PanningEnvelope at = refl
 
 -- Records of one length.
-pub equal-lengths : (f : ℕ → List ℕ) (size : ℕ → ℕ) (w : ℕ) → ((at : ℕ) → length (f at) ≡ w) → (n at : ℕ) → length (joined (map f (placesFrom size n at))) ≡ n * w
+pub equal-lengths : (f : ℕ → List ℕ) (size : ℕ → ℕ) (w : ℕ) → ((at : ℕ) → length (f at) ≡ w) → (n at : ℕ)
+    → length (joined (map f (placesFrom size n at))) ≡ n * w
 equal-lengths f size w each zero at = omega arith
 equal-lengths f size w each (suc n) at =
     omega (arith, length-append (f at) (joined (map f (placesFrom size n (at + size at)))), each at, equal-lengths f size w each n (at + size at), suc-mul n w)
 
 -- Records that are as long as their blocks.
-pub block-lengths : (f : ℕ → List ℕ) (size : ℕ → ℕ) → ((at : ℕ) → length (f at) ≡ size at) → (n at : ℕ) → at + length (joined (map f (placesFrom size n at))) ≡ placeAfter size n at
+pub block-lengths : (f : ℕ → List ℕ) (size : ℕ → ℕ) → ((at : ℕ) → length (f at) ≡ size at) → (n at : ℕ)
+    → at + length (joined (map f (placesFrom size n at))) ≡ placeAfter size n at
 block-lengths f size each zero at = omega arith
 block-lengths f size each (suc n) at =
     omega (arith, length-append (f at) (joined (map f (placesFrom size n (at + size at)))), each at, block-lengths f size each n (at + size at))

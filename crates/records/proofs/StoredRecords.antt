@@ -29,7 +29,8 @@ bytes-split m (suc a) b at to e =
     ap (bytesFrom m at) (suc-add a b) ∙ ap (λ (rest : List ℕ). byteAt m at ∷ rest) (bytes-split m a b (at + 1) to (omega (arith, e)))
 
 -- Points, one by one.
-points-joined : (f : ℕ → ℕ) (g : ℕ → ℤ) (n k : ℕ) → pointRecords (eachFrom f k n) (eachFrom g k n) ≡ joined (map (λ (i : ℕ). bytes16 (f i) ++ bytes16 (unsigned16 (g i))) (placesFrom (λ point. 1) n k))
+points-joined : (f : ℕ → ℕ) (g : ℕ → ℤ) (n k : ℕ)
+    → pointRecords (eachFrom f k n) (eachFrom g k n) ≡ joined (map (λ (i : ℕ). bytes16 (f i) ++ bytes16 (unsigned16 (g i))) (placesFrom (λ point. 1) n k))
 points-joined f g zero k = refl
 points-joined f g (suc n) k = ap (λ (rest : List ℕ). bytes16 (f k) ++ (bytes16 (unsigned16 (g k)) ++ rest)) (points-joined f g n (k + 1))
 
@@ -71,7 +72,11 @@ module _ (m : List ℕ) (bytes : Bytes m) where
       ∙ ap (λ (rest : List ℕ). bytes16 (unsigned16 (signed16 (instrumentPanning m at))) ++ rest) (two-bytes (at + 48))))))))
 
   -- What stands before the points of an envelope.
-  head-stored : (at : ℕ) → bytesFrom m at 8 ≡ bytes16 (number16 m at) ++ (envelopeFlags m at ∷ envelopeSections m at ∷ envelopeFirstSustain m at ∷ envelopeLoopFirst m at ∷ envelopeLoopLast m at ∷ envelopeSecondSustain m at ∷ [])
+  head-stored : (at : ℕ)
+      → bytesFrom m at 8
+      ≡ bytes16 (number16 m at)
+      ++ (envelopeFlags m at ∷ envelopeSections m at ∷ envelopeFirstSustain m at ∷ envelopeLoopFirst m at
+      ∷ envelopeLoopLast m at ∷ envelopeSecondSustain m at ∷ [])
   head-stored at =
       let e3 : at + 2 + 1 ≡ at + 3 = omega arith in
       let e4 : at + 3 + 1 ≡ at + 4 = omega arith in
@@ -80,9 +85,14 @@ module _ (m : List ℕ) (bytes : Bytes m) where
       let e7 : at + 6 + 1 ≡ at + 7 = omega arith in
       next16 6 at (at + 2) refl ∙ rw (e3, e4, e5, e6, e7) refl
 
-  envelope-joined : (kind : EnvelopeKind) (version at : ℕ) → envelopeRecord (shownEnvelope m kind version at) ≡ bytesFrom m at 8 ++ pointsFrom m kind version at 32 0
+  envelope-joined : (kind : EnvelopeKind) (version at : ℕ)
+      → envelopeRecord (shownEnvelope m kind version at) ≡ bytesFrom m at 8 ++ pointsFrom m kind version at 32 0
   envelope-joined kind version at =
-      ap (λ (points : List ℕ). bytes16 (number16 m at) ++ (envelopeFlags m at ∷ envelopeSections m at ∷ envelopeFirstSustain m at ∷ envelopeLoopFirst m at ∷ envelopeLoopLast m at ∷ envelopeSecondSustain m at ∷ points)) (points-joined (positionShown m at (envelopeSections m at)) (valueShown m kind version at (envelopeSections m at)) 32 0)
+      ap (λ (points : List ℕ).
+      bytes16 (number16 m at)
+      ++ (envelopeFlags m at ∷ envelopeSections m at ∷ envelopeFirstSustain m at ∷ envelopeLoopFirst m at
+      ∷ envelopeLoopLast m at ∷ envelopeSecondSustain m at ∷ points))
+      (points-joined (positionShown m at (envelopeSections m at)) (valueShown m kind version at (envelopeSections m at)) 32 0)
       ∙ ap (λ (head : List ℕ). head ++ pointsFrom m kind version at 32 0) (sym (head-stored at))
 
   -- The record of an envelope: what stands before the points, and the points.

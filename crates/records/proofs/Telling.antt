@@ -21,42 +21,54 @@ use Rattle.patterns.specs.Shown.{rowsIf}
 use Rattle.songs.specs.Shown.{shownSong, songIf, entryIn, entryIf, playlistBytes}
 use Rattle.summary.specs.Shown.{versionIf, nameIf, infoIf}
 use Rattle.instruments.specs.Shown.{instrumentIf}
-use Rattle.records.specs.Records.{versionRecord, infoRecord, summaryRecord, songRecord, instrumentRecord, sampleRecord, envelopeRecord, recordAt, recordsOf, allRecords}
+use Rattle.records.specs.Records.{versionRecord, infoRecord, summaryRecord, songRecord, instrumentRecord, sampleRecord}
+use Rattle.records.specs.Records.{envelopeRecord, recordAt, recordsOf, allRecords}
 use Rattle.records.specs.Told.{summaryTold, songTold, instrumentTold, patternTold, sampleTold, envelopeTold, recordsTold}
 use Rattle.records.proofs.StoredRecords.{next16}
 use Rattle.records.proofs.ByNumber.{records-numbered}
 
 -- Bytes that are numbers one behind the other, told number by number.
-numbers-told : (m : List ℕ) → Bytes m → (f : ℕ → ℕ) (n k at : ℕ) → ((i : ℕ) → i < n → f (k + i) ≡ number16 m (at + 2 * i)) → joined (eachFrom (λ (i : ℕ). bytes16 (f i)) k n) ≡ bytesFrom m at (2 * n)
+numbers-told : (m : List ℕ) → Bytes m → (f : ℕ → ℕ) (n k at : ℕ) → ((i : ℕ) → i < n → f (k + i) ≡ number16 m (at + 2 * i))
+    → joined (eachFrom (λ (i : ℕ). bytes16 (f i)) k n) ≡ bytesFrom m at (2 * n)
 numbers-told m bytes f zero k at h = refl
 numbers-told m bytes f (suc n) k at h =
     let more : 2 + 2 * n ≡ 2 * suc n = omega arith in
     let first : f k ≡ number16 m at = simp add-zero at (h 0 (omega arith)) in
-    let rest : joined (eachFrom (λ (i : ℕ). bytes16 (f i)) (k + 1) n) ≡ bytesFrom m (at + 2) (2 * n) = numbers-told m bytes f n (k + 1) (at + 2) (λ i less. ap f (omega arith) ∙ h (suc i) (omega arith) ∙ ap (number16 m) (omega arith)) in
+    let rest : joined (eachFrom (λ (i : ℕ). bytes16 (f i)) (k + 1) n) ≡ bytesFrom m (at + 2) (2 * n) =
+    numbers-told m bytes f n (k + 1) (at + 2)
+    (λ i less. ap f (omega arith) ∙ h (suc i) (omega arith) ∙ ap (number16 m) (omega arith)) in
     ap (λ (v : ℕ). bytes16 v ++ joined (eachFrom (λ (i : ℕ). bytes16 (f i)) (k + 1) n)) first
     ∙ ap (λ (behind : List ℕ). bytes16 (number16 m at) ++ behind) rest
     ∙ sym (next16 m bytes (2 * n) at (at + 2) refl)
     ∙ ap (bytesFrom m at) more
 
 -- A playlist, entry by entry.
-playlist-told : (m : List ℕ) → Bytes m → (at : ℕ) → joined (eachFrom (λ (entry : ℕ). bytes16 (entryIn m at entry .pattern)) 0 (songLength m at)) ≡ playlistBytes m at
+playlist-told : (m : List ℕ) → Bytes m → (at : ℕ)
+    → joined (eachFrom (λ (entry : ℕ). bytes16 (entryIn m at entry .pattern)) 0 (songLength m at)) ≡ playlistBytes m at
 playlist-told m bytes at =
-    numbers-told m bytes (λ (entry : ℕ). entryIn m at entry .pattern) (songLength m at) 0 (at + 46) (λ i h. simp (lt-ltb (0 + i) (songLength m at) (omega arith)) (ap (λ (k : ℕ). songEntry m at k) (omega arith)))
+    numbers-told m bytes (λ (entry : ℕ). entryIn m at entry .pattern) (songLength m at) 0 (at + 46)
+    (λ i h. simp (lt-ltb (0 + i) (songLength m at) (omega arith)) (ap (λ (k : ℕ). songEntry m at k) (omega arith)))
 
 -- Lists that are the same, one behind the other.
-pub same-joint : {a b c d e f g a′ b′ c′ d′ e′ f′ g′ : List ℕ} → a ≡ a′ → b ≡ b′ → c ≡ c′ → d ≡ d′ → e ≡ e′ → f ≡ f′ → g ≡ g′ → a ++ (b ++ (c ++ (d ++ (e ++ (f ++ g))))) ≡ a′ ++ (b′ ++ (c′ ++ (d′ ++ (e′ ++ (f′ ++ g′)))))
+pub same-joint : {a b c d e f g a′ b′ c′ d′ e′ f′ g′ : List ℕ} → a ≡ a′ → b ≡ b′ → c ≡ c′ → d ≡ d′ → e ≡ e′ → f ≡ f′ → g ≡ g′
+    → a ++ (b ++ (c ++ (d ++ (e ++ (f ++ g))))) ≡ a′ ++ (b′ ++ (c′ ++ (d′ ++ (e′ ++ (f′ ++ g′)))))
 same-joint p q r s t u v = rw (p, q, r, s, t, u, v) refl
 
 module _ (m : List ℕ) (l : Layout) (o : opened m ≡ Opened l) where
   summary-told : summaryTold m ≡ summaryRecord m l
   summary-told =
-      ap (λ (x : Outline). versionRecord (versionIf x) ++ (nameIf m x .name ++ (infoRecord (infoIf x) ++ (bytes16 (countIf m Volume x .count) ++ bytes16 (countIf m Panning x .count))))) o
+      ap (λ (x : Outline).
+      versionRecord (versionIf x)
+      ++ (nameIf m x .name ++ (infoRecord (infoIf x) ++ (bytes16 (countIf m Volume x .count) ++ bytes16 (countIf m Panning x .count)))))
+      o
 
   songs-told : Bytes m → joined (eachFrom (songTold m) 0 (infoIf (opened m) .songs)) ≡ recordsOf m l Song
   unfolding recordAt
   songs-told bytes =
       ap (λ (x : Outline). joined (eachFrom (songTold m) 0 (infoIf x .songs))) o
-      ∙ records-numbered m l o Song (λ (f : Found). songRecord (songIf m f) (joined (eachFrom (λ (entry : ℕ). bytes16 (entryIf m entry f .pattern)) 0 (songIf m f .length)))) (λ b. ap (songRecord (shownSong m (b .at))) (playlist-told m bytes (b .at)))
+      ∙ records-numbered m l o Song
+      (λ (f : Found). songRecord (songIf m f) (joined (eachFrom (λ (entry : ℕ). bytes16 (entryIf m entry f .pattern)) 0 (songIf m f .length))))
+      (λ b. ap (songRecord (shownSong m (b .at))) (playlist-told m bytes (b .at)))
 
   instruments-told : joined (eachFrom (instrumentTold m) 1 (infoIf (opened m) .instruments)) ≡ recordsOf m l Instrument
   unfolding recordAt

@@ -43,7 +43,8 @@ module _ (m : List ℕ) (bytes : Bytes m) (accepted : moduleVerdict m ≡ Accept
 
   pub all-written : (out : List ℕ) → allOutput m out ≡ outputIf (lengthIf (length (recordsTold m)) (length out)) (recordsTold m) out
   all-written out =
-      ap (outputOpened (allRecords m) out) opens ∙ ap (λ (records : List ℕ). outputIf (lengthIf (length records) (length out)) records out) (records-told m bytes layout opens)
+      ap (outputOpened (allRecords m) out) opens
+      ∙ ap (λ (records : List ℕ). outputIf (lengthIf (length records) (length out)) records out) (records-told m bytes layout opens)
 
 module _ (m : List ℕ) (r : Refusal) (refused : moduleVerdict m ≡ Refused r) where
   pub all-refused : (room : ℕ) → allAnswer m room ≡ refusedLength r

@@ -1,5 +1,5 @@
 -- What the writers of records leave: each writes its record to the front of an output.
-use Prim.Native.Nat.{ℕ, _+_, _-_, _*_, _≤_}
+use Prim.Native.Nat.{ℕ, _-_, _*_, _≤_}
 use mathlib.Core.Path.{_≡_, refl, sym, ap, _∙_}
 use mathlib.Core.List.{List, [], _∷_, _++_, flatten}
 use native.Mathlib.Omega.{arith}
@@ -26,7 +26,9 @@ use Rattle.records.proofs.RecordLengths.{name-length, record-length, eq
 use Rattle.records.proofs.StoredRecords.{two-bytes, song-stored, instrument-stored, envelope-stored}
 
 -- A copy of so many bytes.
-pub stored-written : (m : List ℕ) (at n : ℕ) (out copied : List ℕ) → copied ≡ bytesFrom m at (length (take n out)) → n ≤ length out → copied ++ drop n out ≡ bytesFrom m at n ++ drop n out
+pub stored-written : (m : List ℕ) (at n : ℕ) (out copied : List ℕ) → copied ≡ bytesFrom m at (length (take n out))
+    → n ≤ length out
+    → copied ++ drop n out ≡ bytesFrom m at n ++ drop n out
 stored-written m at n out copied e h = ap (λ (l : List ℕ). l ++ drop n out) (e ∙ ap (bytesFrom m at) (length-take-le n out h))
 
 -- What the writer of a record answers and leaves.
@@ -34,19 +36,25 @@ abbrev pub RecordWritten : List ℕ → ℕ → Thing → ℕ → List ℕ → L
 RecordWritten m version thing at out out′ r = (r ≡ length (recordAt m version thing at)) × (out′ ≡ recordAt m version thing at ++ drop r out)
 
 -- The room that is asked for is there.
-pub room-of : (m : List ℕ) (version at : ℕ) (thing : Thing) {kind : Thing} {n k : ℕ} → thing ≡ kind → length (recordAt m version kind at) ≡ n → length (recordAt m version thing at) ≤ k → n ≤ k
+pub room-of : (m : List ℕ) (version at : ℕ) (thing : Thing) {kind : Thing} {n k : ℕ} → thing ≡ kind
+    → length (recordAt m version kind at) ≡ n → length (recordAt m version thing at) ≤ k
+    → n ≤ k
 room-of m version at thing {kind} {n} {k} e size room =
     let there : length (recordAt m version kind at) ≤ k = rw e at room in
     omega (arith, there, size)
 
 module _ (m : List ℕ) (bytes : Bytes m) (version at : ℕ) (thing : Thing) where
   module _ (out : List ℕ) {out′ : List ℕ} {n r : ℕ} where
-    written-as : (kind : Thing) (xs : List ℕ) → thing ≡ kind → xs ≡ recordAt m version kind at → length (recordAt m version kind at) ≡ n → (r ≡ n) × (out′ ≡ xs ++ drop n out) → RecordWritten m version thing at out out′ r
+    written-as : (kind : Thing) (xs : List ℕ) → thing ≡ kind → xs ≡ recordAt m version kind at
+        → length (recordAt m version kind at) ≡ n → (r ≡ n) × (out′ ≡ xs ++ drop n out)
+        → RecordWritten m version thing at out out′ r
     written-as kind xs e same size w = rw e (w .0 ∙ sym size, w .1 ∙ rw (same, w .0) refl)
 
     pub song-written : thing ≡ Song → n ≡ sizeOf SongKind m at → (r ≡ n) × (out′ ≡ bytesFrom m at n ++ drop n out) → RecordWritten m version thing at out out′ r
     unfolding recordAt sizeOf
-    song-written e size w = written-as Song (bytesFrom m at n) e (ap (bytesFrom m at) size ∙ song-stored m bytes at) (record-length m version Song at ∙ sym size) w
+    song-written e size w =
+        written-as Song (bytesFrom m at n) e (ap (bytesFrom m at) size ∙ song-stored m bytes at)
+        (record-length m version Song at ∙ sym size) w
 
   module _ (out : List ℕ) {out′ : List ℕ} {r : ℕ} where
     pub instrument-written : thing ≡ Instrument → (r ≡ 50) × (out′ ≡ bytesFrom m at 50 ++ drop 50 out) → RecordWritten m version thing at out out′ r
@@ -61,7 +69,9 @@ module _ (m : List ℕ) (bytes : Bytes m) (version at : ℕ) (thing : Thing) whe
     unfolding recordAt
     sample-written e w = written-as out Sample (sampleRecord (shownSample m at)) e refl (record-length m version Sample at) w
 
-    pub envelope-written : {kind : Thing} → thing ≡ kind → length (recordAt m version kind at) ≡ 136 → (r ≡ 136) × (out′ ≡ recordAt m version kind at ++ drop 136 out) → RecordWritten m version thing at out out′ r
+    pub envelope-written : {kind : Thing} → thing ≡ kind → length (recordAt m version kind at) ≡ 136
+        → (r ≡ 136) × (out′ ≡ recordAt m version kind at ++ drop 136 out)
+        → RecordWritten m version thing at out out′ r
     envelope-written {kind} e size w = written-as out kind (recordAt m version kind at) e refl size w
 
 -- A sample's record: two numbers.
@@ -75,7 +85,9 @@ module _ (m : List ℕ) (kind : EnvelopeKind) (version at : ℕ) where
   pub points-size : length (pointsFrom m kind version at 32 0) ≡ 128
   points-size = equal-lengths (pointRecord m kind version at) (λ point. 1) 4 (λ point. refl) 32 0
 
-  pub points-last : {P : ℕ → Type 0} (out₀ out : List ℕ) {point to left : ℕ} → AheadBlocks (pointRecord m kind version at) (λ point. 1) P 32 0 out₀ out point to left → left ≤ 0 → out ≡ pointsFrom m kind version at 32 0 ++ drop 128 out₀
+  pub points-last : {P : ℕ → Type 0} (out₀ out : List ℕ) {point to left : ℕ}
+      → AheadBlocks (pointRecord m kind version at) (λ point. 1) P 32 0 out₀ out point to left → left ≤ 0
+      → out ≡ pointsFrom m kind version at 32 0 ++ drop 128 out₀
   points-last out₀ out {to = to} b over =
       let done = blocks-last out₀ out b over in
       let all : to ≡ 128 = done .0 ∙ points-size in
@@ -86,7 +98,9 @@ module _ (m : List ℕ) (bytes : Bytes m) (kind : EnvelopeKind) (version at : �
   abbrev headed : List ℕ
   headed = copied ++ drop 8 out
 
-  pub head-points : copied ≡ bytesFrom m at (length (take 8 out)) → 136 ≤ length out → mid ≡ pointsFrom m kind version at 32 0 ++ drop 128 (midOf 8 (length headed - 8) headed) → putMid 8 (length headed - 8) headed mid ≡ recordAt m version (thingOf kind) at ++ drop 136 out
+  pub head-points : copied ≡ bytesFrom m at (length (take 8 out)) → 136 ≤ length out
+      → mid ≡ pointsFrom m kind version at 32 0 ++ drop 128 (midOf 8 (length headed - 8) headed)
+      → putMid 8 (length headed - 8) headed mid ≡ recordAt m version (thingOf kind) at ++ drop 136 out
   head-points e room is =
       let points : List ℕ = pointsFrom m kind version at 32 0 in
       let head : headed ≡ bytesFrom m at 8 ++ drop 8 out = stored-written m at 8 out copied e (omega (arith, room)) in
@@ -144,7 +158,11 @@ module _ (m : List ℕ) (l : Layout) (out name : List ℕ) (room : 60 ≤ length
     named = putMid 2 (length versioned - 2) versioned mid₂
 
     second : (44 ≡ length (nameOf m l)) × (mid₂ ≡ nameOf m l ++ drop 44 (midOf 2 (length versioned - 2) versioned))
-    second = (size, copied name (nameOf m l) (midOf 2 (length versioned - 2) versioned) mid₂ same is₂ ∙ ap (λ (k : ℕ). nameOf m l ++ drop k (midOf 2 (length versioned - 2) versioned)) (sym size))
+    second = (
+      size,
+      copied name (nameOf m l) (midOf 2 (length versioned - 2) versioned) mid₂ same is₂
+          ∙ ap (λ (k : ℕ). nameOf m l ++ drop k (midOf 2 (length versioned - 2) versioned)) (sym size),
+    )
 
     pub numbers-room : 60 ≤ length named
     numbers-room = omega (arith, third-length front (nameOf m l) (numbers m l) out fits versioned first mid₂ second, room)

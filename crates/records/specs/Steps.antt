@@ -1,6 +1,6 @@
 -- Definitions that private functions cite: the points of an envelope one by one, the records of some blocks, and what has to hold of
 -- an envelope so that 2 bytes hold each value.
-use Prim.Native.Nat.{ℕ, _+_, _≤_}
+use Prim.Native.Nat.{ℕ, _≤_}
 use mathlib.Core.Path.{_≡_}
 use mathlib.Core.List.{List, _++_, map}
 use Rattle.vocabulary.specs.Lists.{joined}

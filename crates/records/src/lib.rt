@@ -150,7 +150,8 @@ fn write_envelope(m: &[u8], kind: EnvelopeKind, version: u8, at: usize, out: &mu
 // Writes the record of what stands at a place to the front of an output, and answers its length.
 fn write_record(m: &[u8], thing: Thing, version: u8, at: usize, out: &mut [u8]) -> usize
     requires { ⌜ ValuesFit (now m) version thing at × (length (recordAt (now m) version thing at) ≤ length (now out)) ⌝ }
-    ensures { λ r. ⌜ (r ≡ length (recordAt (now (m .entry)) version thing at)) × (now (out .exit) ≡ recordAt (now (m .entry)) version thing at ++ drop r (now (out .entry))) ⌝ }
+    ensures { λ r. ⌜ (r ≡ length (recordAt (now (m .entry)) version thing at))
+        × (now (out .exit) ≡ recordAt (now (m .entry)) version thing at ++ drop r (now (out .entry))) ⌝ }
 {
     match thing {
         Thing::Song => write_stored(m, at, size(m, Kind::Song, at), out),
@@ -172,8 +173,11 @@ fn write_blocks(
     count: u16,
     out: &mut [u8],
 ) -> usize
-    requires { ⌜ SmallPlace start × Every (ValuesFit (now m) version thing) (placesFrom (sizeOf kind (now m)) count start) × (length (recordsFrom (now m) kind thing version count start) ≤ length (now out)) ⌝ }
-    ensures { λ r. ⌜ (r ≡ length (recordsFrom (now (m .entry)) kind thing version count start)) × (now (out .exit) ≡ recordsFrom (now (m .entry)) kind thing version count start ++ drop r (now (out .entry))) ⌝ }
+    requires { ⌜ SmallPlace start
+        × Every (ValuesFit (now m) version thing) (placesFrom (sizeOf kind (now m)) count start)
+        × (length (recordsFrom (now m) kind thing version count start) ≤ length (now out)) ⌝ }
+    ensures { λ r. ⌜ (r ≡ length (recordsFrom (now (m .entry)) kind thing version count start))
+        × (now (out .exit) ≡ recordsFrom (now (m .entry)) kind thing version count start ++ drop r (now (out .entry))) ⌝ }
 {
     let mut at = start;
     let mut to: usize = 0;
@@ -230,7 +234,8 @@ fn all_length(m: &[u8], l: Layout) -> usize
 // Writes the records of three kinds to the front of an output, one kind behind the other, and answers their length.
 fn write_three(m: &[u8], l: Layout, a: Thing, b: Thing, c: Thing, out: &mut [u8]) -> usize
     requires { ⌜ (opened (now m) ≡ Found l) × (length (recordsOfThree (now m) l a b c) ≤ length (now out)) ⌝ }
-    ensures { λ r. ⌜ (r ≡ length (recordsOfThree (now (m .entry)) l a b c)) × (now (out .exit) ≡ recordsOfThree (now (m .entry)) l a b c ++ drop r (now (out .entry))) ⌝ }
+    ensures { λ r. ⌜ (r ≡ length (recordsOfThree (now (m .entry)) l a b c))
+        × (now (out .exit) ≡ recordsOfThree (now (m .entry)) l a b c ++ drop r (now (out .entry))) ⌝ }
 {
     let first = write_records(m, l, a, out);
     let second = first + write_records(m, l, b, &mut out[first..]);
@@ -266,7 +271,8 @@ fn write_all(m: &[u8], l: Layout, out: &mut [u8]) -> usize
 // Writes all records of a module that is accepted: 17.
 fn all_opened(m: &[u8], l: Layout, out: &mut [u8]) -> LengthAnswer
     requires { ⌜ opened (now m) ≡ Found l ⌝ }
-    ensures { λ r. ⌜ (r ≡ answerOpened (allRecords (now (m .entry))) (length (now (out .entry))) (Found l)) × (now (out .exit) ≡ outputOpened (allRecords (now (m .entry))) (now (out .entry)) (Found l)) ⌝ }
+    ensures { λ r. ⌜ (r ≡ answerOpened (allRecords (now (m .entry))) (length (now (out .entry))) (Found l))
+        × (now (out .exit) ≡ outputOpened (allRecords (now (m .entry))) (now (out .entry)) (Found l)) ⌝ }
 {
     let needed = all_length(m, l);
     if out.len() < needed {

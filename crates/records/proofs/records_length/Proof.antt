@@ -9,24 +9,73 @@ enum-told : tie.Need-enum-told
 enum-told c = search needs
 
 returns : tie.Need-returns
-returns c = (songs-told (c .before .before .before .before .before .before .args .m .now) (c .before .before .before .before .before .before .args .l) (c .before .before .before .before .before .before .pre) (c .before .before .before .before .before .before .args .thing) (c .before .chunk-of .result) (c .before .before .enum-told .given .1) (c .before .chunk-of .ensures), search needs)
+returns c =
+    let entry = c .before .before .before .before .before .before in
+    let chunk-of = c .before .chunk-of in (
+      songs-told (entry .args .m .now) (entry .args .l) (entry .pre) (entry .args .thing) (chunk-of .result)
+          (c .before .before .enum-told .given .1) (chunk-of .ensures),
+      search needs,
+    )
 
 returns-2 : tie.Need-returns-2
-returns-2 c = (told (c .before .before .before .before .args .m .now) (c .before .before .before .before .args .l) (c .before .before .before .before .args .thing) Instrument (c .before .before .count-of .result) 50 (c .enum-told2 .given .1) (instruments-length (c .before .before .before .before .args .m .now) (c .before .before .before .before .args .l)) (c .before .before .count-of .ensures), omega (arith, c .before .before .count-of .ok))
+returns-2 c =
+    let entry = c .before .before .before .before in
+    let m = entry .args .m .now in
+    let l = entry .args .l in
+    let count-of = c .before .before .count-of in (
+      told m l (entry .args .thing) Instrument (count-of .result) 50 (c .enum-told2 .given .1) (instruments-length m l)
+          (count-of .ensures),
+      omega (arith, count-of .ok),
+    )
 
 returns-3 : tie.Need-returns-3
-returns-3 c = (told (c .before .before .before .before .args .m .now) (c .before .before .before .before .args .l) (c .before .before .before .before .args .thing) Pattern (c .before .before .count-of .result) 2 (c .enum-told3 .given .1) (patterns-length (c .before .before .before .before .args .m .now) (c .before .before .before .before .args .l)) (c .before .before .count-of .ensures), omega (arith, c .before .before .count-of .ok))
+returns-3 c =
+    let entry = c .before .before .before .before in
+    let m = entry .args .m .now in
+    let l = entry .args .l in
+    let count-of = c .before .before .count-of in (
+      told m l (entry .args .thing) Pattern (count-of .result) 2 (c .enum-told3 .given .1) (patterns-length m l)
+          (count-of .ensures),
+      omega (arith, count-of .ok),
+    )
 
 returns-4 : tie.Need-returns-4
-returns-4 c = (told (c .before .before .before .before .args .m .now) (c .before .before .before .before .args .l) (c .before .before .before .before .args .thing) Sample (c .before .before .count-of .result) 6 (c .enum-told4 .given .1) (samples-length (c .before .before .before .before .args .m .now) (c .before .before .before .before .args .l)) (c .before .before .count-of .ensures), omega (arith, c .before .before .count-of .ok))
+returns-4 c =
+    let entry = c .before .before .before .before in
+    let m = entry .args .m .now in
+    let l = entry .args .l in
+    let count-of = c .before .before .count-of in (
+      told m l (entry .args .thing) Sample (count-of .result) 6 (c .enum-told4 .given .1) (samples-length m l)
+          (count-of .ensures),
+      omega (arith, count-of .ok),
+    )
 
 returns-5 : tie.Need-returns-5
-returns-5 c = (told (c .before .before .before .before .args .m .now) (c .before .before .before .before .args .l) (c .before .before .before .before .args .thing) VolumeEnvelope (c .before .before .count-of .result) 136 (c .enum-told5 .given .1) (volumes-length (c .before .before .before .before .args .m .now) (c .before .before .before .before .args .l)) (c .before .before .count-of .ensures), omega (arith, c .before .before .count-of .ok))
+returns-5 c =
+    let entry = c .before .before .before .before in
+    let m = entry .args .m .now in
+    let l = entry .args .l in
+    let count-of = c .before .before .count-of in (
+      told m l (entry .args .thing) VolumeEnvelope (count-of .result) 136 (c .enum-told5 .given .1) (volumes-length m l)
+          (count-of .ensures),
+      omega (arith, count-of .ok),
+    )
 
 returns-6 : tie.Need-returns-6
-returns-6 c = (told (c .before .before .before .before .args .m .now) (c .before .before .before .before .args .l) (c .before .before .before .before .args .thing) PanningEnvelope (c .before .before .count-of .result) 136 (c .enum-told6 .given .1) (pannings-length (c .before .before .before .before .args .m .now) (c .before .before .before .before .args .l)) (c .before .before .count-of .ensures), omega (arith, c .before .before .count-of .ok))
+returns-6 c =
+    let entry = c .before .before .before .before in
+    let m = entry .args .m .now in
+    let l = entry .args .l in
+    let count-of = c .before .before .count-of in (
+      told m l (entry .args .thing) PanningEnvelope (count-of .result) 136 (c .enum-told6 .given .1) (pannings-length m l)
+          (count-of .ensures),
+      omega (arith, count-of .ok),
+    )
 
 pub records-length-spec : {M : Type 1} → statement M
 records-length-spec =
     tie.close
-    (tie.spec (λ c κs. search needs) (λ c. search needs) enum-told (λ c κs. search needs) (λ c. search needs) (λ c. search needs) (λ c. search needs) (λ c. search needs) (λ c. search needs) (λ c. search needs) (λ c. search needs) (λ c. search needs) (λ c. search needs) (λ c. search needs) (λ c. search needs) returns returns-2 returns-3 returns-4 returns-5 returns-6)
+    (tie.spec (λ c κs. search needs) (λ c. search needs) enum-told (λ c κs. search needs) (λ c. search needs)
+    (λ c. search needs) (λ c. search needs) (λ c. search needs) (λ c. search needs) (λ c. search needs) (λ c. search needs)
+    (λ c. search needs) (λ c. search needs) (λ c. search needs) (λ c. search needs) returns returns-2 returns-3 returns-4
+    returns-5 returns-6)

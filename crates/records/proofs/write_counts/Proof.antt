@@ -20,12 +20,13 @@ returns c =
     ∙ ap (putAt _ 58) (sixth .put166 .ensures
     ∙ ap (putAt _ 56) (fifth .put165 .ensures
     ∙ ap (putAt _ 54) (fourth .put164 .ensures
-    ∙ ap (putAt _ 52) (third .put163 .ensures
-    ∙ ap (putAt _ 50) (second .put162 .ensures
-    ∙ ap (putAt _ 48) (first .put16 .ensures))))))
-    ∙ counts-written (begin .args .m .now) (begin .args .l) (begin .args .out .now) _ _ (counted .before .envelope-count .ensures) (counted .envelope-count2 .ensures) (begin .pre)
+    ∙ ap (putAt _ 52) (third .put163 .ensures ∙ ap (putAt _ 50) (second .put162 .ensures ∙ ap (putAt _ 48) (first .put16 .ensures))))))
+    ∙ counts-written (begin .args .m .now) (begin .args .l) (begin .args .out .now) _ _
+    (counted .before .envelope-count .ensures) (counted .envelope-count2 .ensures) (begin .pre)
 
 pub write-counts-spec : {M : Type 1} → statement M
 write-counts-spec =
     tie.close
-    (tie.spec (λ c κs. search needs) (λ c κs. search needs) (λ c κs. search needs) (λ c κs. search needs) (λ c κs. search needs) (λ c κs. search needs) (λ c κs. search needs) (λ c κs. search needs) (λ c κs. search needs) (λ c. search needs) returns)
+    (tie.spec (λ c κs. search needs) (λ c κs. search needs) (λ c κs. search needs) (λ c κs. search needs)
+    (λ c κs. search needs) (λ c κs. search needs) (λ c κs. search needs) (λ c κs. search needs) (λ c κs. search needs)
+    (λ c. search needs) returns)

@@ -17,6 +17,7 @@ unsigned-requires c κs =
 
 returns : tie.Need-returns
 returns c =
+    let unsigned = c .before .before .before .before .unsigned in
     let first = c .before .before .before .before .before .before .before in
     let start = first .before .before .before .before .before .before in
     let args = start .args in
@@ -24,8 +25,8 @@ returns c =
     c .before .before .put162 .ensures
     ∙ ap (putAt _ 2) (first .put16 .ensures)
     ∙ point-written (args .m .now) (args .kind) (args .version) (args .at) (args .point) (args .sections) (value .result)
-    (start .pre .0) (record { sfits = value .ok }) (value .ensures)
-    _ _ (args .out .now) (first .before .before .before .position .ensures) (c .before .before .before .before .unsigned .ensures) (start .pre .2)
+    (start .pre .0) (record { sfits = value .ok }) (value .ensures) _ _ (args .out .now)
+    (first .before .before .before .position .ensures) (unsigned .ensures) (start .pre .2)
 
 pub write-point-spec : {M : Type 1} → statement M
 write-point-spec =

@@ -4,10 +4,31 @@ use Rattle.records.proofs.write_records.Statement.{statement}
 use Rattle.records.proofs.write_records.Tie as tie
 
 write-blocks-requires : tie.Need-write-blocks-requires
-write-blocks-requires c κs = (search needs, records-ready (c .before .before .before .before .before .before .before .args .m .now) (c .before .before .before .before .before .before .before .args .l) (c .before .before .before .before .before .before .before .args .thing) _ _ _ _ (c .before .before .before .before .kind-of .ensures) (c .before .before .before .chunk-of .ensures) (c .before .before .block-at .ensures .0) (c .before .count-of .ensures) (c .before .before .before .before .before .before .before .pre .0), rw (records-same (c .before .before .before .before .before .before .before .args .m .now) (c .before .before .before .before .before .before .before .args .l) (c .before .before .before .before .before .before .before .args .thing) _ _ _ _ (c .before .before .before .before .kind-of .ensures) (c .before .before .before .chunk-of .ensures) (c .before .before .block-at .ensures .0) (c .before .count-of .ensures)) (c .before .before .before .before .before .before .before .pre .1))
+write-blocks-requires c κs =
+    let entry = c .before .before .before .before .before .before .before in
+    let m = entry .args .m .now in
+    let l = entry .args .l in
+    let thing = entry .args .thing in
+    let kind-of = c .before .before .before .before .kind-of in
+    let chunk-of = c .before .before .before .chunk-of in
+    let block-at = c .before .before .block-at in
+    let count-of = c .before .count-of in (
+      search needs,
+      records-ready m l thing _ _ _ _ (kind-of .ensures) (chunk-of .ensures) (block-at .ensures .0) (count-of .ensures)
+          (entry .pre .0),
+      rw (records-same m l thing _ _ _ _ (kind-of .ensures) (chunk-of .ensures) (block-at .ensures .0) (count-of .ensures))
+          (entry .pre .1),
+    )
 
 returns : tie.Need-returns
-returns c = records-written (c .before .before .before .before .before .before .before .before .before .before .args .m .now) (c .before .before .before .before .before .before .before .before .before .before .args .l) (c .before .before .before .before .before .before .before .before .before .before .args .thing) _ _ _ _ (c .before .before .before .before .before .before .before .kind-of .ensures) (c .before .before .before .before .before .before .chunk-of .ensures) (c .before .before .before .before .before .block-at .ensures .0) (c .before .before .before .before .count-of .ensures) (c .before .before .before .before .before .before .before .before .before .before .args .out .now) (c .before .before .write-blocks .ensures)
+returns c =
+    let entry = c .before .before .before .before .before .before .before .before .before .before in
+    let kind-of = c .before .before .before .before .before .before .before .kind-of in
+    let chunk-of = c .before .before .before .before .before .before .chunk-of in
+    let block-at = c .before .before .before .before .before .block-at in
+    let count-of = c .before .before .before .before .count-of in
+    records-written (entry .args .m .now) (entry .args .l) (entry .args .thing) _ _ _ _ (kind-of .ensures) (chunk-of .ensures)
+    (block-at .ensures .0) (count-of .ensures) (entry .args .out .now) (c .before .before .write-blocks .ensures)
 
 pub write-records-spec : {M : Type 1} → statement M
 write-records-spec =

@@ -9,7 +9,12 @@ slice-aggregate-copy : tie.Need-slice-aggregate-copy
 slice-aggregate-copy c = sym (length-take-le _ (c .before .before .before .args .out .now) (c .before .before .before .pre))
 
 returns : tie.Need-returns
-returns c = (refl, stored-written (c .before .before .before .before .before .before .args .m .now) (c .before .before .before .before .before .before .args .at) (c .before .before .before .before .before .before .args .n) (c .before .before .before .before .before .before .args .out .now) _ (c .before .before .copy .ensures) (c .before .before .before .before .before .before .pre))
+returns c =
+    let entry = c .before .before .before .before .before .before in (
+      refl,
+      stored-written (entry .args .m .now) (entry .args .at) (entry .args .n) (entry .args .out .now) _
+          (c .before .before .copy .ensures) (entry .pre),
+    )
 
 pub write-stored-spec : {M : Type 1} → statement M
 write-stored-spec =

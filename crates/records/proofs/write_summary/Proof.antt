@@ -31,7 +31,8 @@ write-counts-requires c κs =
     let begin = c .before .before .before .before .before .before .before .before .before in
     let args = begin .args in
     let name = c .before .before .before .before .before .before .name-of in
-    numbers-room (args .m .now) (args .l) (args .out .now) (name .result) (begin .pre) (name .ensures) _ (c .before .before .before .copy .ensures .1)
+    numbers-room (args .m .now) (args .l) (args .out .now) (name .result) (begin .pre) (name .ensures) _
+    (c .before .before .before .copy .ensures .1)
 
 same-length : tie.Need-same-length
 same-length c =
@@ -43,12 +44,15 @@ same-length c =
 
 returns : tie.Need-returns
 returns c =
+    let copy = c .before .before .before .before .before .before .copy in
     let begin = c .before .before .before .before .before .before .before .before .before .before .before .before in
     let args = begin .args in
     let name = c .before .before .before .before .before .before .before .before .before .name-of in
-    c .before .before .write-counts .ensures ∙ summary-written (args .m .now) (args .l) (args .out .now) (name .result) (begin .pre) (name .ensures) _ (c .before .before .before .before .before .before .copy .ensures .1)
+    c .before .before .write-counts .ensures
+    ∙ summary-written (args .m .now) (args .l) (args .out .now) (name .result) (begin .pre) (name .ensures) _ (copy .ensures .1)
 
 pub write-summary-spec : {M : Type 1} → statement M
 write-summary-spec =
     tie.close
-    (tie.spec (λ c κs. search needs) (λ c. search needs) slice-write-out-2 (λ c. search needs) sub-copy part-copy-start (λ c. search needs) copy-requires write-counts-requires same-length returns)
+    (tie.spec (λ c κs. search needs) (λ c. search needs) slice-write-out-2 (λ c. search needs) sub-copy part-copy-start
+    (λ c. search needs) copy-requires write-counts-requires same-length returns)

@@ -7,39 +7,107 @@ use Rattle.records.proofs.write_three.Statement.{statement}
 use Rattle.records.proofs.write_three.Tie as tie
 
 write-records-requires : tie.Need-write-records-requires
-write-records-requires c κs = (c .before .before .before .pre .0, first-fits (recordsOf (c .before .before .before .args .m .now) (c .before .before .before .args .l) (c .before .before .before .args .a)) (recordsOf (c .before .before .before .args .m .now) (c .before .before .before .args .l) (c .before .before .before .args .b)) (recordsOf (c .before .before .before .args .m .now) (c .before .before .before .args .l) (c .before .before .before .args .c)) (c .before .before .before .args .out .now) (c .before .before .before .pre .1))
+write-records-requires c κs =
+    let entry = c .before .before .before in
+    let m = entry .args .m .now in
+    let l = entry .args .l in (
+      entry .pre .0,
+      first-fits (recordsOf m l (entry .args .a)) (recordsOf m l (entry .args .b)) (recordsOf m l (entry .args .c))
+          (entry .args .out .now) (entry .pre .1),
+    )
 
 sub-write-records : tie.Need-sub-write-records
-sub-write-records c = second-inside (recordsOf (c .before .before .before .before .before .before .args .m .now) (c .before .before .before .before .before .before .args .l) (c .before .before .before .before .before .before .args .a)) (recordsOf (c .before .before .before .before .before .before .args .m .now) (c .before .before .before .before .before .before .args .l) (c .before .before .before .before .before .before .args .b)) (recordsOf (c .before .before .before .before .before .before .args .m .now) (c .before .before .before .before .before .before .args .l) (c .before .before .before .before .before .before .args .c)) (c .before .before .before .before .before .before .args .out .now) (c .before .before .before .before .before .before .pre .1) _ (c .before .before .write-records .ensures)
+sub-write-records c =
+    let entry = c .before .before .before .before .before .before in
+    let m = entry .args .m .now in
+    let l = entry .args .l in
+    second-inside (recordsOf m l (entry .args .a)) (recordsOf m l (entry .args .b)) (recordsOf m l (entry .args .c))
+    (entry .args .out .now) (entry .pre .1) _ (c .before .before .write-records .ensures)
 
 part-write-records-start : tie.Need-part-write-records-start
-part-write-records-start c = second-inside (recordsOf (c .before .before .before .before .before .before .args .m .now) (c .before .before .before .before .before .before .args .l) (c .before .before .before .before .before .before .args .a)) (recordsOf (c .before .before .before .before .before .before .args .m .now) (c .before .before .before .before .before .before .args .l) (c .before .before .before .before .before .before .args .b)) (recordsOf (c .before .before .before .before .before .before .args .m .now) (c .before .before .before .before .before .before .args .l) (c .before .before .before .before .before .before .args .c)) (c .before .before .before .before .before .before .args .out .now) (c .before .before .before .before .before .before .pre .1) _ (c .before .before .write-records .ensures)
+part-write-records-start c = sub-write-records c
 
 write-records-requires-2 : tie.Need-write-records-requires-2
-write-records-requires-2 c κs = (c .before .before .before .before .before .before .before .pre .0, second-part (recordsOf (c .before .before .before .before .before .before .before .args .m .now) (c .before .before .before .before .before .before .before .args .l) (c .before .before .before .before .before .before .before .args .a)) (recordsOf (c .before .before .before .before .before .before .before .args .m .now) (c .before .before .before .before .before .before .before .args .l) (c .before .before .before .before .before .before .before .args .b)) (recordsOf (c .before .before .before .before .before .before .before .args .m .now) (c .before .before .before .before .before .before .before .args .l) (c .before .before .before .before .before .before .before .args .c)) (c .before .before .before .before .before .before .before .args .out .now) (c .before .before .before .before .before .before .before .pre .1) _ (c .before .before .before .write-records .ensures))
+write-records-requires-2 c κs =
+    let entry = c .before .before .before .before .before .before .before in
+    let m = entry .args .m .now in
+    let l = entry .args .l in (
+      entry .pre .0,
+      second-part (recordsOf m l (entry .args .a)) (recordsOf m l (entry .args .b)) (recordsOf m l (entry .args .c))
+          (entry .args .out .now) (entry .pre .1) _ (c .before .before .before .write-records .ensures),
+    )
 
 add-second : tie.Need-add-second
-add-second c = omega (arith, second-small (recordsOf (c .before .before .before .before .before .before .before .before .before .before .args .m .now) (c .before .before .before .before .before .before .before .before .before .before .args .l) (c .before .before .before .before .before .before .before .before .before .before .args .a)) (recordsOf (c .before .before .before .before .before .before .before .before .before .before .args .m .now) (c .before .before .before .before .before .before .before .before .before .before .args .l) (c .before .before .before .before .before .before .before .before .before .before .args .b)) (recordsOf (c .before .before .before .before .before .before .before .before .before .before .args .m .now) (c .before .before .before .before .before .before .before .before .before .before .args .l) (c .before .before .before .before .before .before .before .before .before .before .args .c)) (c .before .before .before .before .before .before .before .before .before .before .args .out .now) (c .before .before .before .before .before .before .before .before .before .before .pre .1) _ (c .before .before .before .before .before .before .write-records .ensures), c .before .before .write-records2 .ensures .0)
+add-second c =
+    let entry = c .before .before .before .before .before .before .before .before .before .before in
+    let m = entry .args .m .now in
+    let l = entry .args .l in
+    let write-records = c .before .before .before .before .before .before .write-records in
+    omega (
+      arith,
+      second-small (recordsOf m l (entry .args .a)) (recordsOf m l (entry .args .b)) (recordsOf m l (entry .args .c))
+          (entry .args .out .now) (entry .pre .1) _ (write-records .ensures),
+      c .before .before .write-records2 .ensures .0,
+    )
 
 sub-write-records-2 : tie.Need-sub-write-records-2
-sub-write-records-2 c = third-inside (recordsOf (c .before .before .before .before .before .before .before .before .before .before .args .m .now) (c .before .before .before .before .before .before .before .before .before .before .args .l) (c .before .before .before .before .before .before .before .before .before .before .args .a)) (recordsOf (c .before .before .before .before .before .before .before .before .before .before .args .m .now) (c .before .before .before .before .before .before .before .before .before .before .args .l) (c .before .before .before .before .before .before .before .before .before .before .args .b)) (recordsOf (c .before .before .before .before .before .before .before .before .before .before .args .m .now) (c .before .before .before .before .before .before .before .before .before .before .args .l) (c .before .before .before .before .before .before .before .before .before .before .args .c)) (c .before .before .before .before .before .before .before .before .before .before .args .out .now) (c .before .before .before .before .before .before .before .before .before .before .pre .1) _ (c .before .before .before .before .before .before .write-records .ensures) _ (c .before .before .write-records2 .ensures)
+sub-write-records-2 c =
+    let entry = c .before .before .before .before .before .before .before .before .before .before in
+    let m = entry .args .m .now in
+    let l = entry .args .l in
+    let write-records = c .before .before .before .before .before .before .write-records in
+    third-inside (recordsOf m l (entry .args .a)) (recordsOf m l (entry .args .b)) (recordsOf m l (entry .args .c))
+    (entry .args .out .now) (entry .pre .1) _ (write-records .ensures) _ (c .before .before .write-records2 .ensures)
 
 part-write-records-start-2 : tie.Need-part-write-records-start-2
-part-write-records-start-2 c = third-inside (recordsOf (c .before .before .before .before .before .before .before .before .before .before .args .m .now) (c .before .before .before .before .before .before .before .before .before .before .args .l) (c .before .before .before .before .before .before .before .before .before .before .args .a)) (recordsOf (c .before .before .before .before .before .before .before .before .before .before .args .m .now) (c .before .before .before .before .before .before .before .before .before .before .args .l) (c .before .before .before .before .before .before .before .before .before .before .args .b)) (recordsOf (c .before .before .before .before .before .before .before .before .before .before .args .m .now) (c .before .before .before .before .before .before .before .before .before .before .args .l) (c .before .before .before .before .before .before .before .before .before .before .args .c)) (c .before .before .before .before .before .before .before .before .before .before .args .out .now) (c .before .before .before .before .before .before .before .before .before .before .pre .1) _ (c .before .before .before .before .before .before .write-records .ensures) _ (c .before .before .write-records2 .ensures)
+part-write-records-start-2 c = sub-write-records-2 c
 
 write-records-requires-3 : tie.Need-write-records-requires-3
-write-records-requires-3 c κs = (c .before .before .before .before .before .before .before .before .before .before .before .pre .0, third-part (recordsOf (c .before .before .before .before .before .before .before .before .before .before .before .args .m .now) (c .before .before .before .before .before .before .before .before .before .before .before .args .l) (c .before .before .before .before .before .before .before .before .before .before .before .args .a)) (recordsOf (c .before .before .before .before .before .before .before .before .before .before .before .args .m .now) (c .before .before .before .before .before .before .before .before .before .before .before .args .l) (c .before .before .before .before .before .before .before .before .before .before .before .args .b)) (recordsOf (c .before .before .before .before .before .before .before .before .before .before .before .args .m .now) (c .before .before .before .before .before .before .before .before .before .before .before .args .l) (c .before .before .before .before .before .before .before .before .before .before .before .args .c)) (c .before .before .before .before .before .before .before .before .before .before .before .args .out .now) (c .before .before .before .before .before .before .before .before .before .before .before .pre .1) _ (c .before .before .before .before .before .before .before .write-records .ensures) _ (c .before .before .before .write-records2 .ensures))
+write-records-requires-3 c κs =
+    let entry = c .before .before .before .before .before .before .before .before .before .before .before in
+    let m = entry .args .m .now in
+    let l = entry .args .l in
+    let write-records = c .before .before .before .before .before .before .before .write-records in (
+      entry .pre .0,
+      third-part (recordsOf m l (entry .args .a)) (recordsOf m l (entry .args .b)) (recordsOf m l (entry .args .c))
+          (entry .args .out .now) (entry .pre .1) _ (write-records .ensures) _
+          (c .before .before .before .write-records2 .ensures),
+    )
 
 add-result : tie.Need-add-result
-add-result c = omega (arith, third-small (recordsOf (c .before .before .before .before .before .before .before .before .before .before .before .before .before .before .args .m .now) (c .before .before .before .before .before .before .before .before .before .before .before .before .before .before .args .l) (c .before .before .before .before .before .before .before .before .before .before .before .before .before .before .args .a)) (recordsOf (c .before .before .before .before .before .before .before .before .before .before .before .before .before .before .args .m .now) (c .before .before .before .before .before .before .before .before .before .before .before .before .before .before .args .l) (c .before .before .before .before .before .before .before .before .before .before .before .before .before .before .args .b)) (recordsOf (c .before .before .before .before .before .before .before .before .before .before .before .before .before .before .args .m .now) (c .before .before .before .before .before .before .before .before .before .before .before .before .before .before .args .l) (c .before .before .before .before .before .before .before .before .before .before .before .before .before .before .args .c)) (c .before .before .before .before .before .before .before .before .before .before .before .before .before .before .args .out .now) (c .before .before .before .before .before .before .before .before .before .before .before .before .before .before .pre .1) _ (c .before .before .before .before .before .before .before .before .before .before .write-records .ensures) _ (c .before .before .before .before .before .before .write-records2 .ensures), c .before .before .write-records3 .ensures .0)
+add-result c =
+    let entry = c .before .before .before .before .before .before .before .before .before .before .before .before .before .before in
+    let m = entry .args .m .now in
+    let l = entry .args .l in
+    let write-records = c .before .before .before .before .before .before .before .before .before .before .write-records in
+    let write-records2 = c .before .before .before .before .before .before .write-records2 in
+    omega (
+      arith,
+      third-small (recordsOf m l (entry .args .a)) (recordsOf m l (entry .args .b)) (recordsOf m l (entry .args .c))
+          (entry .args .out .now) (entry .pre .1) _ (write-records .ensures) _ (write-records2 .ensures),
+      c .before .before .write-records3 .ensures .0,
+    )
 
 same-length : tie.Need-same-length
-same-length c = c .before .out3 .given .1 ∙ c .before .before .before .before .before .out2 .given .1 ∙ c .before .before .before .before .before .before .before .before .before .out .given
+same-length c =
+    let out = c .before .before .before .before .before .before .before .before .before .out in
+    let out2 = c .before .before .before .before .before .out2 in
+    c .before .out3 .given .1 ∙ out2 .given .1 ∙ out .given
 
 returns : tie.Need-returns
-returns c = three-written (recordsOf (c .before .before .before .before .before .before .before .before .before .before .before .before .before .before .args .m .now) (c .before .before .before .before .before .before .before .before .before .before .before .before .before .before .args .l) (c .before .before .before .before .before .before .before .before .before .before .before .before .before .before .args .a)) (recordsOf (c .before .before .before .before .before .before .before .before .before .before .before .before .before .before .args .m .now) (c .before .before .before .before .before .before .before .before .before .before .before .before .before .before .args .l) (c .before .before .before .before .before .before .before .before .before .before .before .before .before .before .args .b)) (recordsOf (c .before .before .before .before .before .before .before .before .before .before .before .before .before .before .args .m .now) (c .before .before .before .before .before .before .before .before .before .before .before .before .before .before .args .l) (c .before .before .before .before .before .before .before .before .before .before .before .before .before .before .args .c)) (c .before .before .before .before .before .before .before .before .before .before .before .before .before .before .args .out .now) (c .before .before .before .before .before .before .before .before .before .before .before .before .before .before .pre .1) _ (c .before .before .before .before .before .before .before .before .before .before .write-records .ensures) _ (c .before .before .before .before .before .before .write-records2 .ensures) _ (c .before .before .write-records3 .ensures)
+returns c =
+    let entry = c .before .before .before .before .before .before .before .before .before .before .before .before .before .before in
+    let m = entry .args .m .now in
+    let l = entry .args .l in
+    let write-records = c .before .before .before .before .before .before .before .before .before .before .write-records in
+    let write-records2 = c .before .before .before .before .before .before .write-records2 in
+    three-written (recordsOf m l (entry .args .a)) (recordsOf m l (entry .args .b)) (recordsOf m l (entry .args .c))
+    (entry .args .out .now) (entry .pre .1) _ (write-records .ensures) _ (write-records2 .ensures) _
+    (c .before .before .write-records3 .ensures)
 
 pub write-three-spec : {M : Type 1} → statement M
 write-three-spec =
     tie.close
-    (tie.spec write-records-requires sub-write-records part-write-records-start (λ c. search needs) write-records-requires-2 add-second sub-write-records-2 part-write-records-start-2 (λ c. search needs) write-records-requires-3 add-result same-length returns)
+    (tie.spec write-records-requires sub-write-records part-write-records-start (λ c. search needs) write-records-requires-2
+    add-second sub-write-records-2 part-write-records-start-2 (λ c. search needs) write-records-requires-3 add-result
+    same-length returns)
