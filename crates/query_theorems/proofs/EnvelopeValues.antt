@@ -42,32 +42,48 @@ same-at x (suc n) zero = refl
 same-at x (suc n) (suc i) = same-at x n i
 
 -- The rules of an envelope that is found.
-volume-holds : (m : List ℕ) (envelope : ℕ) (b : Block) → found m VolumeEnvelope envelope ≡ At b → (instruments : ℕ) × AllHold (envelopeRules m instruments false (b .at))
+volume-holds : (m : List ℕ) (envelope : ℕ) (b : Block) → found m VolumeEnvelope envelope ≡ At b
+    → (instruments : ℕ) × AllHold (envelopeRules m instruments false (b .at))
 volume-holds m envelope b e =
     let (l, o) = found-opened m VolumeEnvelope envelope b e in
     let s = found-numbered m VolumeEnvelope envelope b l o e in
-    let rules = module-opens m l o .content .fields .volumeEnvelopes in
-    (l .instruments, subst (λ (c : Block). AllHold (envelopeRules m (l .instruments) false (c .at))) (sym (s .block)) (every-place (λ at. AllHold (envelopeRules m (l .instruments) false at)) (sizeOf Envelope m) (envelopeCount m (l .places .venv)) (firstBlock Envelope (l .places .venv)) .0 rules (envelope - 0) (s .counted)))
+    let rules = module-opens m l o .content .fields .volumeEnvelopes in (
+      l .instruments,
+      subst (λ (c : Block). AllHold (envelopeRules m (l .instruments) false (c .at))) (sym (s .block))
+          (every-place (λ at. AllHold (envelopeRules m (l .instruments) false at)) (sizeOf Envelope m)
+          (envelopeCount m (l .places .venv)) (firstBlock Envelope (l .places .venv)) .0 rules (envelope - 0) (s .counted)),
+    )
 
-panning-holds : (m : List ℕ) (envelope : ℕ) (b : Block) → found m PanningEnvelope envelope ≡ At b → (instruments : ℕ) × AllHold (envelopeRules m instruments (eqb (b .version) 3) (b .at))
+panning-holds : (m : List ℕ) (envelope : ℕ) (b : Block) → found m PanningEnvelope envelope ≡ At b
+    → (instruments : ℕ) × AllHold (envelopeRules m instruments (eqb (b .version) 3) (b .at))
 panning-holds m envelope b e =
     let (l, o) = found-opened m PanningEnvelope envelope b e in
     let s = found-numbered m PanningEnvelope envelope b l o e in
-    let rules = module-opens m l o .content .fields .panningEnvelopes in
-    (l .instruments, subst (λ (c : Block). AllHold (envelopeRules m (l .instruments) (eqb (c .version) 3) (c .at))) (sym (s .block)) (every-place (λ at. AllHold (envelopeRules m (l .instruments) (eqb (l .version) 3) at)) (sizeOf Envelope m) (envelopeCount m (l .places .penv)) (firstBlock Envelope (l .places .penv)) .0 rules (envelope - 0) (s .counted)))
+    let rules = module-opens m l o .content .fields .panningEnvelopes in (
+      l .instruments,
+      subst (λ (c : Block). AllHold (envelopeRules m (l .instruments) (eqb (c .version) 3) (c .at))) (sym (s .block))
+          (every-place (λ at. AllHold (envelopeRules m (l .instruments) (eqb (l .version) 3) at)) (sizeOf Envelope m)
+          (envelopeCount m (l .places .penv)) (firstBlock Envelope (l .places .penv)) .0 rules (envelope - 0) (s .counted)),
+    )
 
 -- What is shown for a point of an envelope that is found.
-point-shown : (m : List ℕ) (kind : EnvelopeKind) (envelope : ℕ) (b : Block) → found m (thingOf kind) envelope ≡ At b → (point : ℕ) → point < 32 → valueAt m kind envelope point ≡ valueShown m kind (b .version) (b .at) (envelopeSections m (b .at)) point
+point-shown : (m : List ℕ) (kind : EnvelopeKind) (envelope : ℕ) (b : Block) → found m (thingOf kind) envelope ≡ At b
+    → (point : ℕ) → point < 32
+    → valueAt m kind envelope point ≡ valueShown m kind (b .version) (b .at) (envelopeSections m (b .at)) point
 point-shown m kind envelope b e point h =
     ap (λ (f : Found). getD (envelopeIf m kind f .values) point (pos 0)) e
     ∙ each-at (valueShown m kind (b .version) (b .at) (envelopeSections m (b .at))) (pos 0) 32 0 point h
     ∙ ap (valueShown m kind (b .version) (b .at) (envelopeSections m (b .at))) (omega arith)
 
 -- What holds of 0 and of each value in use holds of each value that is shown.
-each-value : (P : ℤ → Type 0) (m : List ℕ) (kind : EnvelopeKind) (envelope : ℕ) → P (pos 0) → ((b : Block) → found m (thingOf kind) envelope ≡ At b → (point : ℕ) → point ≤ envelopeSections m (b .at) → P (valueOf kind (b .version) (envelopeValue m (b .at) point))) → (point : ℕ) → P (valueAt m kind envelope point)
+each-value : (P : ℤ → Type 0) (m : List ℕ) (kind : EnvelopeKind) (envelope : ℕ) → P (pos 0)
+    → ((b : Block) → found m (thingOf kind) envelope ≡ At b → (point : ℕ) → point ≤ envelopeSections m (b .at)
+    → P (valueOf kind (b .version) (envelopeValue m (b .at) point))) → (point : ℕ)
+    → P (valueAt m kind envelope point)
 each-value P m kind envelope none each point = go (found m (thingOf kind) envelope) refl
   where
-    used : (b : Block) → found m (thingOf kind) envelope ≡ At b → (t : Bool) → leb point (envelopeSections m (b .at)) ≡ t → P (cond t (valueOf kind (b .version) (envelopeValue m (b .at) point)) (pos 0))
+    used : (b : Block) → found m (thingOf kind) envelope ≡ At b → (t : Bool) → leb point (envelopeSections m (b .at)) ≡ t
+        → P (cond t (valueOf kind (b .version) (envelopeValue m (b .at) point)) (pos 0))
     used b e true h = each b e point (leb-true point (envelopeSections m (b .at)) h)
     used b e false h = none
 
@@ -75,7 +91,9 @@ each-value P m kind envelope none each point = go (found m (thingOf kind) envelo
     within b e true h = subst P (sym (point-shown m kind envelope b e point (ltb-true point 32 h))) (used b e (leb point (envelopeSections m (b .at))) refl)
     within b e false h =
         let values : List ℤ = eachFrom (valueShown m kind (b .version) (b .at) (envelopeSections m (b .at))) 0 32 in
-        let past : getD values point (pos 0) ≡ pos 0 = List·getD-eq-default values (pos 0) {n = point} (omega (arith, each-length (valueShown m kind (b .version) (b .at) (envelopeSections m (b .at))) 32 0, ltb-false point 32 h)) in
+        let past : getD values point (pos 0) ≡ pos 0 =
+        List·getD-eq-default values (pos 0) {n = point}
+        (omega (arith, each-length (valueShown m kind (b .version) (b .at) (envelopeSections m (b .at))) 32 0, ltb-false point 32 h)) in
         subst P (sym (ap (λ (f : Found). getD (envelopeIf m kind f .values) point (pos 0)) e ∙ past)) none
 
     go : (f : Found) → found m (thingOf kind) envelope ≡ f → P (valueAt m kind envelope point)
@@ -99,7 +117,8 @@ small-between v h = rw (lt-ltb v 32768 (omega arith)) (record { le = tt }, leZ-s
 panning-between : (version v : ℕ) → valueFits (eqb version 3) v ≡ true → Between (negsuc 127) (pos 128) (valueOf Panning version v)
 panning-between version v = go (eqb version 2) (eqb version 3) refl refl
   where
-    go : (two three : Bool) → eqb version 2 ≡ two → eqb version 3 ≡ three → valueFits three v ≡ true → Between (negsuc 127) (pos 128) (cond two (pos (4 * v) -ℤ pos 128) (signed16 v))
+    go : (two three : Bool) → eqb version 2 ≡ two → eqb version 3 ≡ three → valueFits three v ≡ true
+        → Between (negsuc 127) (pos 128) (cond two (pos (4 * v) -ℤ pos 128) (signed16 v))
     go true true a c h = absurd (omega (arith, eqb-true version 2 a, eqb-true version 3 c))
     go true false a c h = scaled-between v (leb-true v 64 h)
     go false true a c h = panning-says v .0 h
@@ -108,7 +127,8 @@ panning-between version v = go (eqb version 2) (eqb version 3) refl refl
 pub volume-values : (m : List ℕ) (envelope point : ℕ) → Between (pos 0) (pos 64) (valueAt m Volume envelope point)
 volume-values m envelope = each-value (Between (pos 0) (pos 64)) m Volume envelope (record { le = tt }, record { le = tt }) each
   where
-    each : (b : Block) → found m VolumeEnvelope envelope ≡ At b → (point : ℕ) → point ≤ envelopeSections m (b .at) → Between (pos 0) (pos 64) (pos (envelopeValue m (b .at) point))
+    each : (b : Block) → found m VolumeEnvelope envelope ≡ At b → (point : ℕ) → point ≤ envelopeSections m (b .at)
+        → Between (pos 0) (pos 64) (pos (envelopeValue m (b .at) point))
     each b e point h =
         let (instruments, hold) = volume-holds m envelope b e in
         let v = envelopeValue m (b .at) point in
@@ -117,15 +137,20 @@ volume-values m envelope = each-value (Between (pos 0) (pos 64)) m Volume envelo
 pub panning-values : (m : List ℕ) (envelope point : ℕ) → Between (negsuc 127) (pos 128) (valueAt m Panning envelope point)
 panning-values m envelope = each-value (Between (negsuc 127) (pos 128)) m Panning envelope zero-panning each
   where
-    each : (b : Block) → found m PanningEnvelope envelope ≡ At b → (point : ℕ) → point ≤ envelopeSections m (b .at) → Between (negsuc 127) (pos 128) (valueOf Panning (b .version) (envelopeValue m (b .at) point))
+    each : (b : Block) → found m PanningEnvelope envelope ≡ At b → (point : ℕ) → point ≤ envelopeSections m (b .at)
+        → Between (negsuc 127) (pos 128) (valueOf Panning (b .version) (envelopeValue m (b .at) point))
     each b e point h =
         let (instruments, hold) = panning-holds m envelope b e in
         panning-between (b .version) (envelopeValue m (b .at) point) (value-fits m instruments (eqb (b .version) 3) (b .at) hold point h)
 
 -- Version 2.
-pub panning-scaled : (m : List ℕ) (envelope : ℕ) (b : Block) → found m PanningEnvelope envelope ≡ At b → b .version ≡ 2 → (point : ℕ) → point ≤ envelopeSections m (b .at) → (envelopeValue m (b .at) point ≤ 64) × (valueAt m Panning envelope point ≡ pos (4 * envelopeValue m (b .at) point) -ℤ pos 128)
+pub panning-scaled : (m : List ℕ) (envelope : ℕ) (b : Block) → found m PanningEnvelope envelope ≡ At b → b .version ≡ 2
+    → (point : ℕ) → point ≤ envelopeSections m (b .at)
+    → (envelopeValue m (b .at) point ≤ 64) × (valueAt m Panning envelope point ≡ pos (4 * envelopeValue m (b .at) point) -ℤ pos 128)
 panning-scaled m envelope b e two point h =
     let (instruments, hold) = panning-holds m envelope b e in
     let fits = value-fits m instruments (eqb (b .version) 3) (b .at) hold point h in
-    let sections = sections-fit m instruments (eqb (b .version) 3) (b .at) hold in
-    (leb-true (envelopeValue m (b .at) point) 64 (rw two at fits), point-shown m Panning envelope b e point (omega arith) ∙ rw (le-leb point (envelopeSections m (b .at)) h, two))
+    let sections = sections-fit m instruments (eqb (b .version) 3) (b .at) hold in (
+      leb-true (envelopeValue m (b .at) point) 64 (rw two at fits),
+      point-shown m Panning envelope b e point (omega arith) ∙ rw (le-leb point (envelopeSections m (b .at)) h, two),
+    )

@@ -18,7 +18,8 @@ use Rattle.layout.specs.declared.Outline.the-variants.{Found as Opened, Refused
 use Rattle.blocks.specs.Sizes.{sizeOf, placeAfter, firstBlock, blockAt, envelopeCount}
 use Rattle.blocks.specs.Filling.{dataEnd}
 use Rattle.blocks.specs.declared.Kind.{Kind}
-use Rattle.blocks.specs.declared.Kind.the-variants.{Song as SongKind, Instrument as InstrumentKind, Pattern as PatternKind, Sample as SampleKind, Envelope as EnvelopeKind}
+use Rattle.blocks.specs.declared.Kind.the-variants.{Song as SongKind, Instrument as InstrumentKind, Pattern as PatternKind}
+use Rattle.blocks.specs.declared.Kind.the-variants.{Sample as SampleKind, Envelope as EnvelopeKind}
 use Rattle.blocks.specs.Things.{kindOf, chunkOf, countOf}
 use Rattle.blocks.specs.declared.Thing.{Thing}
 use Rattle.blocks.specs.declared.Thing.the-variants.{Song, Instrument, Pattern, Sample, VolumeEnvelope, PanningEnvelope}
@@ -46,7 +47,11 @@ found-in m l thing number b = go (there m l thing number) refl
     go : (t : Bool) → there m l thing number ≡ t → cond t (At (blockOf m l thing number)) (Refused (refusal NotThere 0)) ≡ At b → Numbered m l thing number b
     go true h e =
         let says = and-says _ _ .0 h in
-        record { first = leb-says (firstOf thing) number .0 (says .0); counted = ltb-says (number - firstOf thing) (countOf m l thing) .0 (says .1); block = cc }
+        record {
+          first = leb-says (firstOf thing) number .0 (says .0);
+          counted = ltb-says (number - firstOf thing) (countOf m l thing) .0 (says .1);
+          block = cc;
+        }
     go false h e = let z : _≡_ {A = ℕ} 0 1 = cc in absurd (omega arith)
 
 module _ (m : List ℕ) (thing : Thing) (number : ℕ) (b : Block) where
@@ -126,7 +131,9 @@ block-in-chunk m thing number b e = in-layout (found-opened m thing number b e .
         })
 
 -- 14.
-pub first-block : (m : List ℕ) (l : Layout) (thing : Thing) (b : Block) → opened m ≡ Opened l → found m thing (firstOf thing) ≡ At b → b .at ≡ firstBlock (kindOf thing) (chunkOf l thing)
+pub first-block : (m : List ℕ) (l : Layout) (thing : Thing) (b : Block) → opened m ≡ Opened l
+    → found m thing (firstOf thing) ≡ At b
+    → b .at ≡ firstBlock (kindOf thing) (chunkOf l thing)
 first-block m l thing b o e =
     let none : firstOf thing - firstOf thing ≡ 0 = omega arith in
     ap (λ (c : Block). c .at) (found-numbered m thing (firstOf thing) b l o e .block) ∙ ap (blockAt m (kindOf thing) (chunkOf l thing)) none
@@ -137,7 +144,8 @@ after-more size zero at = refl
 after-more size (suc n) at = after-more size n (at + size at)
 
 module _ (m : List ℕ) (thing : Thing) (number : ℕ) (b : Block) (e : found m thing number ≡ At b) where
-  next-in : (l : Layout) → opened m ≡ Opened l → blockAt m (kindOf thing) (chunkOf l thing) (number + 1 - firstOf thing) ≡ b .at + sizeOf (kindOf thing) m (b .at)
+  next-in : (l : Layout) → opened m ≡ Opened l
+      → blockAt m (kindOf thing) (chunkOf l thing) (number + 1 - firstOf thing) ≡ b .at + sizeOf (kindOf thing) m (b .at)
   next-in l o =
       let s = found-numbered m thing number b l o e in
       let i : ℕ = number - firstOf thing in
@@ -150,7 +158,8 @@ module _ (m : List ℕ) (thing : Thing) (number : ℕ) (b : Block) (e : found m 
       in-layout : (l : Layout) → opened m ≡ Opened l → c .at ≡ b .at + sizeOf (kindOf thing) m (b .at)
       in-layout l o = ap (λ (d : Block). d .at) (found-numbered m thing (number + 1) c l o f .block) ∙ next-in l o
 
-  pub last-block : (l : Layout) (r : Refusal) → opened m ≡ Opened l → found m thing (number + 1) ≡ Refused r → b .at + sizeOf (kindOf thing) m (b .at) ≡ dataEnd (chunkOf l thing)
+  pub last-block : (l : Layout) (r : Refusal) → opened m ≡ Opened l → found m thing (number + 1) ≡ Refused r
+      → b .at + sizeOf (kindOf thing) m (b .at) ≡ dataEnd (chunkOf l thing)
   last-block l r o f = go (ltb (number + 1 - firstOf thing) (countOf m l thing)) refl
     where
       s : Numbered m l thing number b
@@ -161,10 +170,13 @@ module _ (m : List ℕ) (thing : Thing) (number : ℕ) (b : Block) (e : found m 
 
       go : (t : Bool) → ltb (number + 1 - firstOf thing) (countOf m l thing) ≡ t → b .at + sizeOf (kindOf thing) m (b .at) ≡ dataEnd (chunkOf l thing)
       go true h =
-          let more : found m thing (number + 1) ≡ At (blockOf m l thing (number + 1)) = counted-found m l thing (number + 1) o (omega (arith, s .first)) (ltb-true (number + 1 - firstOf thing) (countOf m l thing) h) in
+          let more : found m thing (number + 1) ≡ At (blockOf m l thing (number + 1)) =
+          counted-found m l thing (number + 1) o (omega (arith, s .first))
+          (ltb-true (number + 1 - firstOf thing) (countOf m l thing) h) in
           let z : _≡_ {A = ℕ} 0 1 = cc in
           absurd (omega arith)
       go false h =
-          let all : number + 1 - firstOf thing ≡ countOf m l thing = omega (arith, s .first, s .counted, ltb-false (number + 1 - firstOf thing) (countOf m l thing) h) in
+          let all : number + 1 - firstOf thing ≡ countOf m l thing =
+          omega (arith, s .first, s .counted, ltb-false (number + 1 - firstOf thing) (countOf m l thing) h) in
           let w = thing-whole (opens .places) thing (number - firstOf thing) (s .counted) in
           sym (next-in l o) ∙ ap (blockAt m (kindOf thing) (chunkOf l thing)) all ∙ thing-fills m l (opens .content .blocks) thing (w .present)

@@ -49,16 +49,25 @@ module _ (stream : List ℕ) (rows tracks : ℕ) (accepted : checkAnswer stream 
   unpacked : (room : ℕ) → lengthOf (streamAnswer stream rows tracks room) ≡ lengthIf (cellBytes rows tracks) room
   unpacked room = simp (fits, holds stream rows tracks accepted .read) (go (ltb room (cellBytes rows tracks)))
     where
-      go : (lacks : Bool) → lengthOf (cond lacks (UnpackingRefused (refusal Room (cellBytes rows tracks))) (Unpacked (cellBytes rows tracks))) ≡ cond lacks (refusedLength (refusal Room (cellBytes rows tracks))) (writtenLength (cellBytes rows tracks))
+      go : (lacks : Bool)
+          → lengthOf (cond lacks (UnpackingRefused (refusal Room (cellBytes rows tracks))) (Unpacked (cellBytes rows tracks)))
+          ≡ cond lacks (refusedLength (refusal Room (cellBytes rows tracks))) (writtenLength (cellBytes rows tracks))
       go true = refl
       go false = refl
 
   module _ (row track : ℕ) where
-    cell-read : cellThere rows tracks row track ≡ true → cellOf stream rows tracks row track ≡ CellFound (shownCell (getD (getD (rowsFrom tracks (holds stream rows tracks accepted .entries)) row []) (track - 1) emptyCell))
+    cell-read : cellThere rows tracks row track ≡ true
+        → cellOf stream rows tracks row track
+        ≡ CellFound (shownCell (getD (getD (rowsFrom tracks (holds stream rows tracks accepted .entries)) row []) (track - 1) emptyCell))
     cell-read h = simp (fits, h, holds stream rows tracks accepted .read)
 
-    cell-there : cellThere rows tracks row track ≡ true → cellOf stream rows tracks row track ≡ CellFound (shownCell (getD (getD (rowsOf rows tracks (cellsRead rows tracks stream)) row []) (track - 1) emptyCell))
-    cell-there h = cell-read h ∙ ap (λ (all : List Row). CellFound (shownCell (getD (getD all row []) (track - 1) emptyCell))) (sym (accepted-rows (holds stream rows tracks accepted)))
+    cell-there : cellThere rows tracks row track ≡ true
+        → cellOf stream rows tracks row track
+        ≡ CellFound (shownCell (getD (getD (rowsOf rows tracks (cellsRead rows tracks stream)) row []) (track - 1) emptyCell))
+    cell-there h =
+        cell-read h
+        ∙ ap (λ (all : List Row). CellFound (shownCell (getD (getD all row []) (track - 1) emptyCell)))
+        (sym (accepted-rows (holds stream rows tracks accepted)))
 
     cell-lacks : cellThere rows tracks row track ≡ false → cellOf stream rows tracks row track ≡ CellRefused (refusal NotThere 0)
     cell-lacks h = simp (fits, h)
@@ -84,14 +93,17 @@ module _ (m : List ℕ) (pattern : ℕ) (b : Block) (e : found m Pattern pattern
       let (l, o) = found-opened m Pattern pattern b e in
       let s = found-numbered m Pattern pattern b l o e in
       let streams = module-opens m l o .content .streams in
-      rw (s .block) (accepted-says _ .0 (every-first (every-place _ (sizeOf PatternKind m) (l .patterns) (firstBlock PatternKind (l .places .patt)) .0 streams (pattern - 0) (s .counted))))
+      rw (s .block) (accepted-says _ .0
+      (every-first (every-place _ (sizeOf PatternKind m) (l .patterns) (firstBlock PatternKind (l .places .patt)) .0 streams (pattern - 0) (s .counted))))
 
   pub unpack-length : (room : ℕ) → unpackAnswer m pattern room ≡ lengthIf (cellBytes (number16 m (b .at)) (b .tracks)) room
   unpack-length room = ap (unpackIf m room) e ∙ unpacked (packedBytes m (b .at)) (number16 m (b .at)) (b .tracks) stream-accepted room
 
   module _ (row track : ℕ) where
     pub cell-shown : HasCell m b row track → cellAnswer m pattern row track ≡ CellFound (shownCell (storedCell m b row track))
-    cell-shown h = ap (cellIf m row track) e ∙ cell-there (packedBytes m (b .at)) (number16 m (b .at)) (b .tracks) stream-accepted row track (there-says _ _ row track .1 h)
+    cell-shown h =
+        ap (cellIf m row track) e
+        ∙ cell-there (packedBytes m (b .at)) (number16 m (b .at)) (b .tracks) stream-accepted row track (there-says _ _ row track .1 h)
 
     pub cell-not-there : (cellAnswer m pattern row track ≡ CellRefused (refusal NotThere 0)) ↔ (HasCell m b row track → ⊥)
     cell-not-there = (
@@ -99,6 +111,7 @@ module _ (m : List ℕ) (pattern : ℕ) (b : Block) (e : found m Pattern pattern
       λ none. go none (cellThere (number16 m (b .at)) (b .tracks) row track) refl,
     )
       where
-        go : (HasCell m b row track → ⊥) → (t : Bool) → cellThere (number16 m (b .at)) (b .tracks) row track ≡ t → cellAnswer m pattern row track ≡ CellRefused (refusal NotThere 0)
+        go : (HasCell m b row track → ⊥) → (t : Bool) → cellThere (number16 m (b .at)) (b .tracks) row track ≡ t
+            → cellAnswer m pattern row track ≡ CellRefused (refusal NotThere 0)
         go none true h = absurd (none (there-says _ _ row track .0 h))
         go none false h = ap (cellIf m row track) e ∙ cell-lacks (packedBytes m (b .at)) (number16 m (b .at)) (b .tracks) stream-accepted row track h

@@ -50,7 +50,8 @@ module _ (m : List ℕ) (sample : ℕ) where
         let l = chunk .layout in
         let s = found-numbered m Sample sample b l (chunk .opens) e in
         let flags = module-opens m l (chunk .opens) .content .blocks .flags in
-        rw (s .block) (width-of (number32 m (blockAt m SampleKind (l .places .smpl) (sample - 1))) (every-first (every-place _ (sizeOf SampleKind m) (l .samples) (firstBlock SampleKind (l .places .smpl)) .0 flags (sample - 1) (s .counted))))
+        rw (s .block) (width-of (number32 m (blockAt m SampleKind (l .places .smpl) (sample - 1)))
+        (every-first (every-place _ (sizeOf SampleKind m) (l .samples) (firstBlock SampleKind (l .places .smpl)) .0 flags (sample - 1) (s .counted))))
 
     bytes : framesPart m sample ≡ partOf m (b .at + 8) (sampleFrames m (b .at) * frameBytes m (b .at))
     unfolding handed-out

@@ -138,7 +138,8 @@ unfolding smallModule
 p12 flags frame = smallModule 3 0 1 [] (0 ∷ 0 ∷ 0 ∷ flags ∷ 0 ∷ 0 ∷ 0 ∷ 1 ∷ frame) []
 
 pub samples : List Sample
-unfolding checked repacked p1 p2 p3 p4 p5 p7 p8 p9 g4Cells emptyCells sixFields threeCells threePacked noteShown accepted moduleChecked valueNumbers frameShown p10 p11 p12
+unfolding checked repacked p1 p2 p3 p4 p5 p7 p8 p9 g4Cells emptyCells sixFields threeCells threePacked
+    noteShown accepted moduleChecked valueNumbers frameShown p10 p11 p12
 samples =
     record { number = 1; found = checked 2 4 p1; registered = accepted }
     ∷ record { number = 1; found = cellNumbers (cellOf p1 2 4 0 2); registered = 0 ∷ 0 ∷ 2 ∷ 4 ∷ 7 ∷ 0 ∷ 1 ∷ 0 ∷ 0 ∷ 0 ∷ 0 ∷ [] }

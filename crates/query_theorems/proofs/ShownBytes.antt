@@ -31,7 +31,8 @@ use Rattle.query_theorems.proofs.FoundBlocks.{block-in-chunk}
 pub module-name : (m : List ℕ) (l : Layout) → opened m ≡ Opened l → l .places .name .present ≡ true → nameAnswer m .name ≡ partOf m (l .places .name .at + 8) 44
 module-name m l o h =
     let w = module-opens m l o .places .name h in
-    let shown : nameIf m (Opened l) .name ≡ bytesFrom m (l .places .name .at + 8) 44 = ap (λ (there : Bool). cond there (bytesFrom m (l .places .name .at + 8) 44) (replicate 44 0)) h in
+    let shown : nameIf m (Opened l) .name ≡ bytesFrom m (l .places .name .at + 8) 44 =
+    ap (λ (there : Bool). cond there (bytesFrom m (l .places .name .at + 8) 44) (replicate 44 0)) h in
     ap (λ (out : Outline). nameIf m out .name) o ∙ shown ∙ bytes-part m 44 (l .places .name .at + 8) (omega (arith, w .nameSize refl, w .inside))
 
 -- A block that is found ends in the module.

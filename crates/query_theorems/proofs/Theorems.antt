@@ -75,13 +75,19 @@ pub block-in-chunk : (m : List ℕ) (thing : Thing) (number : ℕ) (b : Block) �
 block-in-chunk = FoundBlocks.block-in-chunk
 
 -- 14.
-pub first-block : (m : List ℕ) (l : Layout) (thing : Thing) (b : Block) → opened m ≡ Opened l → found m thing (firstOf thing) ≡ At b → b .at ≡ firstBlock (kindOf thing) (chunkOf l thing)
+pub first-block : (m : List ℕ) (l : Layout) (thing : Thing) (b : Block) → opened m ≡ Opened l
+    → found m thing (firstOf thing) ≡ At b
+    → b .at ≡ firstBlock (kindOf thing) (chunkOf l thing)
 first-block = FoundBlocks.first-block
 
-pub next-block : (m : List ℕ) (thing : Thing) (number : ℕ) (b : Block) → found m thing number ≡ At b → (c : Block) → found m thing (number + 1) ≡ At c → c .at ≡ b .at + sizeOf (kindOf thing) m (b .at)
+pub next-block : (m : List ℕ) (thing : Thing) (number : ℕ) (b : Block) → found m thing number ≡ At b → (c : Block)
+    → found m thing (number + 1) ≡ At c
+    → c .at ≡ b .at + sizeOf (kindOf thing) m (b .at)
 next-block = FoundBlocks.next-block
 
-pub last-block : (m : List ℕ) (thing : Thing) (number : ℕ) (b : Block) → found m thing number ≡ At b → (l : Layout) (r : Refusal) → opened m ≡ Opened l → found m thing (number + 1) ≡ FindingRefused r → b .at + sizeOf (kindOf thing) m (b .at) ≡ dataEnd (chunkOf l thing)
+pub last-block : (m : List ℕ) (thing : Thing) (number : ℕ) (b : Block) → found m thing number ≡ At b
+    → (l : Layout) (r : Refusal) → opened m ≡ Opened l → found m thing (number + 1) ≡ FindingRefused r
+    → b .at + sizeOf (kindOf thing) m (b .at) ≡ dataEnd (chunkOf l thing)
 last-block = FoundBlocks.last-block
 
 -- 15.
@@ -118,7 +124,8 @@ song-name = ShownBytes.song-name
 pub playlist-bytes : (m : List ℕ) (song : ℕ) (b : Block) → found m Song song ≡ At b → playlistBytes m (b .at) ≡ partOf m (b .at + 46) (2 * songLength m (b .at))
 playlist-bytes = ShownBytes.playlist-bytes
 
-pub instrument-name : (m : List ℕ) (instrument : ℕ) (b : Block) → found m Instrument instrument ≡ At b → instrumentAnswer m instrument .name ≡ partOf m (b .at) 30
+pub instrument-name : (m : List ℕ) (instrument : ℕ) (b : Block) → found m Instrument instrument ≡ At b
+    → instrumentAnswer m instrument .name ≡ partOf m (b .at) 30
 instrument-name = ShownBytes.instrument-name
 
 -- 18.
@@ -128,7 +135,9 @@ volume-values = EnvelopeValues.volume-values
 pub panning-values : (m : List ℕ) (envelope point : ℕ) → Between (negsuc 127) (pos 128) (valueAt m Panning envelope point)
 panning-values = EnvelopeValues.panning-values
 
-pub panning-scaled : (m : List ℕ) (envelope : ℕ) (b : Block) → found m PanningEnvelope envelope ≡ At b → b .version ≡ 2 → (point : ℕ) → point ≤ envelopeSections m (b .at) → (envelopeValue m (b .at) point ≤ 64) × (valueAt m Panning envelope point ≡ pos (4 * envelopeValue m (b .at) point) -ℤ pos 128)
+pub panning-scaled : (m : List ℕ) (envelope : ℕ) (b : Block) → found m PanningEnvelope envelope ≡ At b → b .version ≡ 2
+    → (point : ℕ) → point ≤ envelopeSections m (b .at)
+    → (envelopeValue m (b .at) point ≤ 64) × (valueAt m Panning envelope point ≡ pos (4 * envelopeValue m (b .at) point) -ℤ pos 128)
 panning-scaled = EnvelopeValues.panning-scaled
 
 -- 24.

@@ -33,7 +33,8 @@ use Rattle.songs.specs.Shown.{songAnswer, entryAnswer, playlistAnswer}
 use Rattle.summary.specs.Shown.{versionAnswer, nameAnswer, infoAnswer}
 use Rattle.instruments.specs.Shown.{instrumentAnswer}
 use Rattle.query_theorems.proofs.Tables.{sameEach, same-rows}
-use Rattle.query_theorems.proofs.SmallModules.{checked, moduleChecked, chunk, moduleOf, info, content, song, fullInstrument, instrument, pattern, sample, envelope, oneEnvelope}
+use Rattle.query_theorems.proofs.SmallModules.{checked, moduleChecked, chunk, moduleOf, info, content, song}
+use Rattle.query_theorems.proofs.SmallModules.{fullInstrument, instrument, pattern, sample, envelope, oneEnvelope}
 
 -- A row of the table: what the definitions give, and the number and the place that document 01 says.
 pub record Worked : Type 0 where
