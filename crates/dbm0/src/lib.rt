@@ -104,7 +104,8 @@ pub extern "C" fn dbm0_entry(m: &[u8], song: usize, entry: usize) -> EntryAnswer
 // A song's playlist.
 #[no_mangle]
 pub extern "C" fn dbm0_playlist(m: &[u8], song: usize, out: &mut [u8]) -> LengthAnswer
-    ensures { λ r. ⌜ (r ≡ playlistAnswer (now (m .entry)) song (length (now (out .entry)))) × (now (out .exit) ≡ playlistOutput (now (m .entry)) song (now (out .entry))) ⌝ }
+    ensures { λ r. ⌜ (r ≡ playlistAnswer (now (m .entry)) song (length (now (out .entry))))
+        × (now (out .exit) ≡ playlistOutput (now (m .entry)) song (now (out .entry))) ⌝ }
 {
     songs::playlist(m, song, out)
 }
@@ -207,7 +208,8 @@ pub extern "C" fn dbm0_cell(m: &[u8], pattern: usize, row: usize, track: usize) 
 // All cells of a pattern.
 #[no_mangle]
 pub extern "C" fn dbm0_cells(m: &[u8], pattern: usize, out: &mut [u8]) -> LengthAnswer
-    ensures { λ r. ⌜ (r ≡ unpackAnswer (now (m .entry)) pattern (length (now (out .entry)))) × (now (out .exit) ≡ unpackOutput (now (m .entry)) pattern (now (out .entry))) ⌝ }
+    ensures { λ r. ⌜ (r ≡ unpackAnswer (now (m .entry)) pattern (length (now (out .entry))))
+        × (now (out .exit) ≡ unpackOutput (now (m .entry)) pattern (now (out .entry))) ⌝ }
 {
     patterns::unpack(m, pattern, out)
 }
@@ -239,7 +241,8 @@ pub extern "C" fn dbm0_frame(m: &[u8], sample: usize, frame: usize) -> FrameAnsw
 // All frames of a sample at 16 bits.
 #[no_mangle]
 pub extern "C" fn dbm0_all_frames(m: &[u8], sample: usize, out: &mut [u8]) -> LengthAnswer
-    ensures { λ r. ⌜ (r ≡ allFramesAnswer (now (m .entry)) sample (length (now (out .entry)))) × (now (out .exit) ≡ allFramesOutput (now (m .entry)) sample (now (out .entry))) ⌝ }
+    ensures { λ r. ⌜ (r ≡ allFramesAnswer (now (m .entry)) sample (length (now (out .entry))))
+        × (now (out .exit) ≡ allFramesOutput (now (m .entry)) sample (now (out .entry))) ⌝ }
 {
     samples::all_frames(m, sample, out)
 }
