@@ -39,7 +39,8 @@ pub record SamePattern (tracks : ℕ) (m n : List ℕ) (at to : ℕ) : Type 0 wh
   pub rows : number16 n to ≡ number16 m at
   pub here : checkAnswer (packedBytes m at) (number16 m at) tracks ≡ Accepted
   pub there : checkAnswer (packedBytes n to) (number16 n to) tracks ≡ Accepted
-  pub cells : rowsFrom tracks (entriesRead (readStream (number16 n to) tracks (packedBytes n to))) ≡ rowsFrom tracks (entriesRead (readStream (number16 m at) tracks (packedBytes m at)))
+  pub cells : rowsFrom tracks (entriesRead (readStream (number16 n to) tracks (packedBytes n to)))
+      ≡ rowsFrom tracks (entriesRead (readStream (number16 m at) tracks (packedBytes m at)))
 
 -- What is the same of the blocks of a thing: all bytes, but for a pattern, whose cells may be packed in another way.
 abbrev pub SameThing : Thing → ℕ → List ℕ → List ℕ → ℕ → ℕ → Type 0

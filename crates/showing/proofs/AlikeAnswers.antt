@@ -19,7 +19,10 @@ module _ {m n : List ℕ} (a : Alike m n) {A : Type 0} where
   by-opening f g e = ap g (a .otherOpens) ∙ e ∙ sym (ap f (a .opens))
 
   module _ (thing : Thing) (number : ℕ) (f g : Found → A) (refused : (r : Refusal) → g (Refused r) ≡ f (Refused r)) where
-    pub by-finding : ((b c : Block) → found m thing number ≡ At b → c .version ≡ b .version → c .tracks ≡ b .tracks → SameThing thing (b .tracks) m n (b .at) (c .at) → g (At c) ≡ f (At b)) → g (found n thing number) ≡ f (found m thing number)
+    pub by-finding : ((b c : Block) → found m thing number ≡ At b → c .version ≡ b .version → c .tracks ≡ b .tracks
+        → SameThing thing (b .tracks) m n (b .at) (c .at)
+        → g (At c) ≡ f (At b))
+        → g (found n thing number) ≡ f (found m thing number)
     by-finding same = go refl (a .found thing number)
       where
         go : {x y : Found} → found m thing number ≡ x → FoundAlike thing m n x y → g y ≡ f x

@@ -23,15 +23,28 @@ abbrev pointShown : {A : Type 0} → (ℕ → A) → A → ℕ → ℕ → List 
 pointShown shown unused offset sections m at point = cond (leb point sections) (shown (number16 m (at + offset + 4 * point))) unused
 
 module _ {m n : List ℕ} {at to : ℕ} (s : SameBlock Envelope m n at to) where
-  points-same : {A : Type 0} (shown : ℕ → A) (unused : A) (offset sections : ℕ) → offset ≤ 10 → eachFrom (pointShown shown unused offset sections n to) 0 32 ≡ eachFrom (pointShown shown unused offset sections m at) 0 32
+  points-same : {A : Type 0} (shown : ℕ → A) (unused : A) (offset sections : ℕ) → offset ≤ 10
+      → eachFrom (pointShown shown unused offset sections n to) 0 32 ≡ eachFrom (pointShown shown unused offset sections m at) 0 32
   unfolding sizeOf
   points-same shown unused offset sections first =
-      each-same (pointShown shown unused offset sections n to) (pointShown shown unused offset sections m at) 32 0 0 (λ i h. same-if (leb (0 + i) sections) unused (λ used. simp add-assoc (rw (same-16 s (offset + 4 * (0 + i)) (omega arith)))))
+      each-same (pointShown shown unused offset sections n to) (pointShown shown unused offset sections m at) 32 0 0
+      (λ i h. same-if (leb (0 + i) sections) unused (λ used. simp add-assoc (rw (same-16 s (offset + 4 * (0 + i)) (omega arith)))))
 
   pub envelope-same : (kind : EnvelopeKind) {version other : ℕ} → other ≡ version → shownEnvelope n kind other to ≡ shownEnvelope m kind version at
   unfolding sizeOf
   envelope-same kind {version} v =
-      rw (v, same-first16 s (omega arith), same-byte s 2 (omega arith), same-byte s 3 (omega arith), same-byte s 4 (omega arith), same-byte s 5 (omega arith), same-byte s 6 (omega arith), same-byte s 7 (omega arith), points-same (λ v. v) 0 8 (envelopeSections m at) (omega arith), points-same (valueOf kind version) (pos 0) 10 (envelopeSections m at) (omega arith))
+      rw (
+        v,
+        same-first16 s (omega arith),
+        same-byte s 2 (omega arith),
+        same-byte s 3 (omega arith),
+        same-byte s 4 (omega arith),
+        same-byte s 5 (omega arith),
+        same-byte s 6 (omega arith),
+        same-byte s 7 (omega arith),
+        points-same (λ v. v) 0 8 (envelopeSections m at) (omega arith),
+        points-same (valueOf kind version) (pos 0) 10 (envelopeSections m at) (omega arith),
+      )
 
 -- An envelope of either kind is the same by its block.
 envelope-block : (kind : EnvelopeKind) (tracks : ℕ) {m n : List ℕ} {at to : ℕ} → SameThing (thingOf kind) tracks m n at to → SameBlock Envelope m n at to
@@ -45,4 +58,5 @@ module _ {m n : List ℕ} (a : Alike m n) where
 
   pub same-envelope : (kind : EnvelopeKind) (envelope : ℕ) → envelopeAnswer n kind envelope ≡ envelopeAnswer m kind envelope
   same-envelope kind envelope =
-      by-finding a (thingOf kind) envelope (envelopeIf m kind) (envelopeIf n kind) (λ r. refl) (λ b c e v t s. envelope-same (envelope-block kind (b .tracks) s) kind v)
+      by-finding a (thingOf kind) envelope (envelopeIf m kind) (envelopeIf n kind) (λ r. refl)
+      (λ b c e v t s. envelope-same (envelope-block kind (b .tracks) s) kind v)

@@ -14,7 +14,16 @@ use Rattle.showing.proofs.AlikeAnswers.{by-finding}
 pub instrument-same : {m n : List ℕ} {at to : ℕ} → SameBlock InstrumentKind m n at to → shownInstrument n to ≡ shownInstrument m at
 unfolding sizeOf
 instrument-same s =
-    rw (same-front s 30 (omega arith), same-16 s 30 (omega arith), same-16 s 32 (omega arith), same-32 s 34 (omega arith), same-32 s 38 (omega arith), same-32 s 42 (omega arith), same-16 s 46 (omega arith), same-16 s 48 (omega arith))
+    rw (
+      same-front s 30 (omega arith),
+      same-16 s 30 (omega arith),
+      same-16 s 32 (omega arith),
+      same-32 s 34 (omega arith),
+      same-32 s 38 (omega arith),
+      same-32 s 42 (omega arith),
+      same-16 s 46 (omega arith),
+      same-16 s 48 (omega arith),
+    )
 
 pub same-instrument : {m n : List ℕ} → Alike m n → (instrument : ℕ) → instrumentAnswer n instrument ≡ instrumentAnswer m instrument
 same-instrument {m} {n} a instrument = by-finding a Instrument instrument (instrumentIf m) (instrumentIf n) (λ r. refl) (λ b c e v t s. instrument-same s)

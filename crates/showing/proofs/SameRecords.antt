@@ -16,7 +16,8 @@ use Rattle.queries.specs.declared.Found.the-variants.{At, Refused}
 use Rattle.envelopes.specs.declared.EnvelopeKind.the-variants.{Volume, Panning}
 use Rattle.songs.specs.Shown.{shownSong, playlistBytes}
 use Rattle.songs.specs.declared.SongAnswer.{SongAnswer}
-use Rattle.records.specs.Records.{songRecord, sampleRecord, instrumentRecord, envelopeRecord, summaryRecord, recordAt, recordsOf, allRecords, allAnswer, allOutput}
+use Rattle.records.specs.Records.{songRecord, sampleRecord, instrumentRecord, envelopeRecord, summaryRecord, recordAt}
+use Rattle.records.specs.Records.{recordsOf, allRecords, allAnswer, allOutput}
 use Rattle.records.proofs.ByNumber.{records-numbered}
 use Rattle.records.proofs.Telling.{same-joint}
 use Rattle.showing.proofs.Alike.{SameThing, Alike}
@@ -33,7 +34,9 @@ recordIf m thing (At b) = recordAt m (b .version) thing (b .at)
 recordIf m thing (Refused r) = []
 
 -- Blocks that hold the same have the same record.
-record-same : (m n : List ℕ) (thing : Thing) (tracks at to : ℕ) {version other : ℕ} → other ≡ version → SameThing thing tracks m n at to → recordAt n other thing to ≡ recordAt m version thing at
+record-same : (m n : List ℕ) (thing : Thing) (tracks at to : ℕ) {version other : ℕ} → other ≡ version
+    → SameThing thing tracks m n at to
+    → recordAt n other thing to ≡ recordAt m version thing at
 unfolding recordAt
 record-same m n Song tracks at to v s =
     ap (λ (shown : SongAnswer). songRecord shown (playlistBytes n to)) (song-same s) ∙ ap (songRecord (shownSong m at)) (playlist-same s)
@@ -61,7 +64,9 @@ module _ {m n : List ℕ} (a : Alike m n) where
   same-kind thing =
       sym (records-numbered n (a .other) (a .otherOpens) thing (recordIf n thing) (λ b. refl))
       ∙ ap (λ (count : ℕ). joined (eachFrom (λ (number : ℕ). recordIf n thing (found n thing number)) (firstOf thing) count)) (same-count thing)
-      ∙ ap joined (each-same (λ (number : ℕ). recordIf n thing (found n thing number)) (λ (number : ℕ). recordIf m thing (found m thing number)) (countOf m (a .layout) thing) (firstOf thing) (firstOf thing) (λ i h. same-record thing (firstOf thing + i)))
+      ∙ ap joined (each-same (λ (number : ℕ). recordIf n thing (found n thing number))
+      (λ (number : ℕ). recordIf m thing (found m thing number)) (countOf m (a .layout) thing) (firstOf thing) (firstOf thing)
+      (λ i h. same-record thing (firstOf thing + i)))
       ∙ records-numbered m (a .layout) (a .opens) thing (recordIf m thing) (λ b. refl)
 
   same-summary : summaryRecord n (a .other) ≡ summaryRecord m (a .layout)
@@ -70,11 +75,15 @@ module _ {m n : List ℕ} (a : Alike m n) where
 
   same-all : allRecords n (a .other) ≡ allRecords m (a .layout)
   same-all =
-      same-joint same-summary (same-kind Song) (same-kind Instrument) (same-kind Pattern) (same-kind Sample) (same-kind VolumeEnvelope) (same-kind PanningEnvelope)
+      same-joint same-summary (same-kind Song) (same-kind Instrument) (same-kind Pattern) (same-kind Sample)
+      (same-kind VolumeEnvelope) (same-kind PanningEnvelope)
 
   pub same-records : (room : ℕ) → allAnswer n room ≡ allAnswer m room
-  same-records room = by-opening a (answerOpened (allRecords m) room) (answerOpened (allRecords n) room) (ap (λ (all : List ℕ). lengthIf (length all) room) same-all)
+  same-records room =
+      by-opening a (answerOpened (allRecords m) room) (answerOpened (allRecords n) room)
+      (ap (λ (all : List ℕ). lengthIf (length all) room) same-all)
 
   pub same-records-output : (out : List ℕ) → allOutput n out ≡ allOutput m out
   same-records-output out =
-      by-opening a (outputOpened (allRecords m) out) (outputOpened (allRecords n) out) (ap (λ (all : List ℕ). outputIf (lengthIf (length all) (length out)) all out) same-all)
+      by-opening a (outputOpened (allRecords m) out) (outputOpened (allRecords n) out)
+      (ap (λ (all : List ℕ). outputIf (lengthIf (length all) (length out)) all out) same-all)

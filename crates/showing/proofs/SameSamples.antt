@@ -17,7 +17,8 @@ use Rattle.blocks.specs.Sizes.{sizeOf}
 use Rattle.blocks.specs.declared.Kind.the-variants.{Sample as SampleKind}
 use Rattle.blocks.specs.declared.Thing.the-variants.{Sample}
 use Rattle.queries.specs.Finding.{answerFound, outputFound}
-use Rattle.samples.specs.Shown.{frameBytes, shownSample, sampleIf, sampleAnswer, framesIf, frame16, frameOf, frameIn, frameIf, frameAnswer, allFrames, allFramesSize, allFramesAnswer, allFramesOutput}
+use Rattle.samples.specs.Shown.{frameBytes, shownSample, sampleIf, sampleAnswer, framesIf, frame16, frameOf, frameIn, frameIf}
+use Rattle.samples.specs.Shown.{frameAnswer, allFrames, allFramesSize, allFramesAnswer, allFramesOutput}
 use Rattle.query_theorems.proofs.SampleFrames.{frames-in}
 use Rattle.showing.specs.Showing.{SameFrames}
 use Rattle.showing.proofs.Alike.{SameBlock, Alike}
@@ -42,7 +43,8 @@ module _ {m n : List ℕ} {at to : ℕ} (s : SameBlock SampleKind m n at to) whe
   part-same = rw (count-same, flags-same) (same-part s 8 (sampleFrames m at * frameBytes m at) (omega arith))
 
   -- A frame of 1, 2 or 4 bytes within the block.
-  frame16-same : (bytes k : ℕ) → (bytes ≡ 1) ⊎ ((bytes ≡ 2) ⊎ (bytes ≡ 4)) → k + bytes ≤ sizeOf SampleKind m at → frame16 n bytes (to + k) ≡ frame16 m bytes (at + k)
+  frame16-same : (bytes k : ℕ) → (bytes ≡ 1) ⊎ ((bytes ≡ 2) ⊎ (bytes ≡ 4)) → k + bytes ≤ sizeOf SampleKind m at
+      → frame16 n bytes (to + k) ≡ frame16 m bytes (at + k)
   frame16-same bytes k (inl e) h = rw e (rw (same-byte s k (omega arith)))
   frame16-same bytes k (inr (inl e)) h = rw e (rw (same-16 s k (omega arith)))
   frame16-same bytes k (inr (inr e)) h = rw e (rw (same-32 s k (omega arith)))
@@ -51,13 +53,17 @@ module _ {m n : List ℕ} {at to : ℕ} (s : SameBlock SampleKind m n at to) whe
     frameOf-same : (frame : ℕ) → frame < sampleFrames m at → frameOf n to frame ≡ frameOf m at frame
     unfolding sizeOf
     frameOf-same frame h =
-        rw flags-same (simp add-assoc (frame16-same (frameBytes m at) (8 + frame * frameBytes m at) width (omega (arith, mul-le-mul-right (frameBytes m at) h))))
+        rw flags-same
+        (simp add-assoc (frame16-same (frameBytes m at) (8 + frame * frameBytes m at) width (omega (arith, mul-le-mul-right (frameBytes m at) h))))
 
     frame-same : (frame : ℕ) → frameIn n to frame ≡ frameIn m at frame
     frame-same frame = rw count-same (same-if (ltb frame (sampleFrames m at)) _ (λ h. rw (frameOf-same frame (ltb-true frame _ h))))
 
     allFrames-same : allFrames n to ≡ allFrames m at
-    allFrames-same = rw count-same (ap joined (each-same (λ frame. bytes16 (unsigned16 (frameOf n to frame))) (λ frame. bytes16 (unsigned16 (frameOf m at frame))) (sampleFrames m at) 0 0 (λ i h. ap (λ (z : ℤ). bytes16 (unsigned16 z)) (frameOf-same (0 + i) (omega arith)))))
+    allFrames-same =
+        rw count-same (ap joined (each-same (λ frame. bytes16 (unsigned16 (frameOf n to frame)))
+        (λ frame. bytes16 (unsigned16 (frameOf m at frame))) (sampleFrames m at) 0 0
+        (λ i h. ap (λ (z : ℤ). bytes16 (unsigned16 z)) (frameOf-same (0 + i) (omega arith)))))
 
     output-same : (out : List ℕ) → outputOf (allFramesSize n to) (allFrames n to) out ≡ outputOf (allFramesSize m at) (allFrames m at) out
     output-same out = rw (allFrames-same, count-same)
@@ -70,15 +76,22 @@ module _ {m n : List ℕ} (a : Alike m n) (sample : ℕ) where
   same-frames = record {
     outcome = by-finding a Sample sample (λ f. framesIf m f .outcome) (λ f. framesIf n f .outcome) (λ r. refl) (λ b c e v t s. refl);
     length = by-finding a Sample sample (λ f. framesIf m f .length) (λ f. framesIf n f .length) (λ r. refl) (λ b c e v t s. rw (count-same s, flags-same s));
-    bytes = by-finding a Sample sample (λ f. partOf m (framesIf m f .offset) (framesIf m f .length)) (λ f. partOf n (framesIf n f .offset) (framesIf n f .length)) (λ r. refl) (λ b c e v t s. part-same s);
+    bytes = by-finding a Sample sample (λ f. partOf m (framesIf m f .offset) (framesIf m f .length))
+        (λ f. partOf n (framesIf n f .offset) (framesIf n f .length)) (λ r. refl) (λ b c e v t s. part-same s);
   }
 
   pub same-frame : (frame : ℕ) → frameAnswer n sample frame ≡ frameAnswer m sample frame
-  same-frame frame = by-finding a Sample sample (frameIf m frame) (frameIf n frame) (λ r. refl) (λ b c e v t s. frame-same s (frames-in m sample b e .width) frame)
+  same-frame frame =
+      by-finding a Sample sample (frameIf m frame) (frameIf n frame) (λ r. refl)
+      (λ b c e v t s. frame-same s (frames-in m sample b e .width) frame)
 
   pub same-all-frames : (room : ℕ) → allFramesAnswer n sample room ≡ allFramesAnswer m sample room
-  same-all-frames room = by-finding a Sample sample (answerFound (allFramesSize m) room) (answerFound (allFramesSize n) room) (λ r. refl) (λ b c e v t s. rw (count-same s))
+  same-all-frames room =
+      by-finding a Sample sample (answerFound (allFramesSize m) room) (answerFound (allFramesSize n) room) (λ r. refl)
+      (λ b c e v t s. rw (count-same s))
 
   pub same-all-frames-output : (out : List ℕ) → allFramesOutput n sample out ≡ allFramesOutput m sample out
   same-all-frames-output out =
-      by-finding a Sample sample (outputFound (allFramesSize m) (allFrames m) out) (outputFound (allFramesSize n) (allFrames n) out) (λ r. refl) (λ b c e v t s. output-same s (frames-in m sample b e .width) out)
+      by-finding a Sample sample (outputFound (allFramesSize m) (allFrames m) out)
+      (outputFound (allFramesSize n) (allFrames n) out) (λ r. refl)
+      (λ b c e v t s. output-same s (frames-in m sample b e .width) out)

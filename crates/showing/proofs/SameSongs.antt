@@ -48,7 +48,11 @@ module _ {m n : List ℕ} (a : Alike m n) (song : ℕ) where
   same-entry entry = by-finding a Song song (entryIf m entry) (entryIf n entry) (λ r. refl) (λ b c e v t s. entry-same s entry)
 
   pub same-playlist : (room : ℕ) → playlistAnswer n song room ≡ playlistAnswer m song room
-  same-playlist room = by-finding a Song song (answerFound (playlistSize m) room) (answerFound (playlistSize n) room) (λ r. refl) (λ b c e v t s. rw (length-same s))
+  same-playlist room =
+      by-finding a Song song (answerFound (playlistSize m) room) (answerFound (playlistSize n) room) (λ r. refl)
+      (λ b c e v t s. rw (length-same s))
 
   pub same-playlist-output : (out : List ℕ) → playlistOutput n song out ≡ playlistOutput m song out
-  same-playlist-output out = by-finding a Song song (outputFound (playlistSize m) (playlistBytes m) out) (outputFound (playlistSize n) (playlistBytes n) out) (λ r. refl) (λ b c e v t s. output-same s out)
+  same-playlist-output out =
+      by-finding a Song song (outputFound (playlistSize m) (playlistBytes m) out)
+      (outputFound (playlistSize n) (playlistBytes n) out) (λ r. refl) (λ b c e v t s. output-same s out)
