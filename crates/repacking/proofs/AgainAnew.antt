@@ -25,10 +25,18 @@ module _ (m : List ℕ) (bytes : Bytes m) (l : Layout) (o : opened m ≡ Found l
   data-again =
       let there = patterns-there m bytes l o in
       let start : ℕ = k m bytes l o .places .patt .at + 8 in
-      let again : map (repackedBlock (n m bytes l o) (l .tracks)) (placesFrom (sizeOf Pattern (n m bytes l o)) (k m bytes l o .patterns) start) ≡ map (blockAnew (l .tracks)) (anew m bytes l o) =
-      subst (λ (count : ℕ). map (repackedBlock (n m bytes l o) (l .tracks)) (placesFrom (sizeOf Pattern (n m bytes l o)) count start) ≡ map (blockAnew (l .tracks)) (anew m bytes l o)) (there .filled .number) (blocks-anew (l .tracks) start (anew m bytes l o) (there .there) (there .sized)) in
-      ap (λ (tracks : ℕ). joined (map (repackedBlock (n m bytes l o) tracks) (placesFrom (sizeOf Pattern (n m bytes l o)) (k m bytes l o .patterns) start))) (counts m bytes l o .4)
-      ∙ ap joined (again ∙ map-stays (blockAnew (l .tracks)) (every-map (blockAnew (l .tracks)) (blocks m bytes l o) .1 (every-of (anew-again (l .tracks)) (sound-blocks m bytes l o))))
+      let again : map (repackedBlock (n m bytes l o) (l .tracks)) (placesFrom (sizeOf Pattern (n m bytes l o)) (k m bytes l o .patterns) start)
+      ≡ map (blockAnew (l .tracks)) (anew m bytes l o) =
+      subst (λ (count : ℕ).
+      map (repackedBlock (n m bytes l o) (l .tracks)) (placesFrom (sizeOf Pattern (n m bytes l o)) count start)
+      ≡ map (blockAnew (l .tracks)) (anew m bytes l o)) (there .filled .number)
+      (blocks-anew (l .tracks) start (anew m bytes l o) (there .there) (there .sized)) in
+      ap (λ (tracks : ℕ).
+      joined (map (repackedBlock (n m bytes l o) tracks) (placesFrom (sizeOf Pattern (n m bytes l o)) (k m bytes l o .patterns) start)))
+      (counts m bytes l o .4)
+      ∙ ap joined (again
+      ∙ map-stays (blockAnew (l .tracks))
+      (every-map (blockAnew (l .tracks)) (blocks m bytes l o) .1 (every-of (anew-again (l .tracks)) (sound-blocks m bytes l o))))
       ∙ sym (data-is m bytes l o)
 
   pub repacked-again : repacked (repackedModule m l) ≡ repackedModule m l
@@ -36,5 +44,7 @@ module _ (m : List ℕ) (bytes : Bytes m) (l : Layout) (o : opened m ≡ Found l
       ap (repackedIf (n m bytes l o)) (otherOpens m bytes l o)
       ∙ module-anew (rules-anew m bytes l o) (k m bytes l o)
       ∙ ap (λ (content : List ℕ). header m bytes l o ++ joined (map (chunkAnew content) (map (changed m bytes l o) (chunks m bytes l o)))) data-again
-      ∙ ap (λ (list : List (List ℕ)). header m bytes l o ++ joined list) (map-stays (changed m bytes l o) (every-map (changed m bytes l o) (chunks m bytes l o) .1 (every-of (λ chunk c. data-twice PATT (repackedPatterns m l) (λ one. one) no-change chunk c refl) (rules m bytes l o .whole))))
+      ∙ ap (λ (list : List (List ℕ)). header m bytes l o ++ joined list)
+      (map-stays (changed m bytes l o) (every-map (changed m bytes l o) (chunks m bytes l o) .1
+      (every-of (λ chunk c. data-twice PATT (repackedPatterns m l) (λ one. one) no-change chunk c refl) (rules m bytes l o .whole))))
       ∙ sym (repacked-bytes m bytes l o)

@@ -30,7 +30,8 @@ pub packed-same : {m block : List ℕ} {at : ℕ} → PartAt m at block → Size
 unfolding sizeOf
 packed-same {block = block} p s =
     let fits : 6 + number32 block 2 ≤ length block = omega (arith, s) in
-    stream-same p (omega arith) (partOf block 6 (number32 block 2)) (part-there block 6 (number32 block 2) fits) (sym (part-length block 6 (number32 block 2) fits))
+    stream-same p (omega arith) (partOf block 6 (number32 block 2)) (part-there block 6 (number32 block 2) fits)
+    (sym (part-length block 6 (number32 block 2) fits))
 
 pub rows-same : {m block : List ℕ} {at : ℕ} → PartAt m at block → Sized Pattern block → number16 m at ≡ number16 block 0
 rows-same {block = block} p s = let least = sized-least Pattern block s in number16-start p (omega arith)
@@ -41,7 +42,9 @@ anew-same {m} {block} {at} tracks p s =
     let least = sized-least Pattern block s in
     rw (part-front p 2 (omega arith), rows-same p s, packed-same p s)
 
-pub blocks-anew : {m : List ℕ} (tracks at : ℕ) (blocks : List (List ℕ)) → PartAt m at (joined blocks) → Every (Sized Pattern) blocks → map (repackedBlock m tracks) (placesFrom (sizeOf Pattern m) (length blocks) at) ≡ map (blockAnew tracks) blocks
+pub blocks-anew : {m : List ℕ} (tracks at : ℕ) (blocks : List (List ℕ)) → PartAt m at (joined blocks)
+    → Every (Sized Pattern) blocks
+    → map (repackedBlock m tracks) (placesFrom (sizeOf Pattern m) (length blocks) at) ≡ map (blockAnew tracks) blocks
 blocks-anew tracks at [] p none = refl
 blocks-anew {m} tracks at (block ∷ blocks) p (also s e) =
     let first : PartAt m at block = part-first block (joined blocks) p in
@@ -84,7 +87,12 @@ module _ (tracks : ℕ) (block : List ℕ) (b : SoundBlock tracks block) where
   stream-part = record { before = take 2 block ++ bytes32 (length stream); after = replicate (length stream % 2) 0; bytes = simp append-assoc; starts = six }
 
   pub filler-part : PartAt (blockAnew tracks block) (6 + length stream) (replicate (length stream % 2) 0)
-  filler-part = record { before = (take 2 block ++ bytes32 (length stream)) ++ stream; after = []; bytes = simp (append-assoc, append-nil); starts = omega (arith, length-append (take 2 block ++ bytes32 (length stream)) stream, six) }
+  filler-part = record {
+    before = (take 2 block ++ bytes32 (length stream)) ++ stream;
+    after = [];
+    bytes = simp (append-assoc, append-nil);
+    starts = omega (arith, length-append (take 2 block ++ bytes32 (length stream)) stream, six);
+  }
 
   pub anew-stream : packedBytes (blockAnew tracks block) 0 ≡ stream
   anew-stream = ap (partOf (blockAnew tracks block) 6) anew-length ∙ part-is stream-part
@@ -95,7 +103,8 @@ module _ (tracks : ℕ) (block : List ℕ) (b : SoundBlock tracks block) where
   pub anew-sound : SoundBlock tracks (blockAnew tracks block)
   anew-sound = record { sized = anew-sized; accepted = anew-accepted }
 
-  pub anew-cells : rowsHeld (number16 (blockAnew tracks block) 0) tracks (packedBytes (blockAnew tracks block) 0) ≡ rowsHeld (number16 block 0) tracks (packedBytes block 0)
+  pub anew-cells : rowsHeld (number16 (blockAnew tracks block) 0) tracks (packedBytes (blockAnew tracks block) 0)
+      ≡ rowsHeld (number16 block 0) tracks (packedBytes block 0)
   anew-cells = rw (anew-stream, anew-rows) (packed-rows (number16 block 0) tracks (packedBytes block 0) (b .accepted))
 
   pub anew-shorter : length (blockAnew tracks block) ≤ length block

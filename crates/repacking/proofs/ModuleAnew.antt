@@ -48,7 +48,9 @@ use Rattle.repacking.proofs.BlockAnew.{blockAnew, packed-same, rows-sam
 -- No block is longer than the module that they stand in.
 blocks-inside : {m : List ℕ} {at : ℕ} (blocks : List (List ℕ)) → PartAt m at (joined blocks) → Every (λ block. length block ≤ length m) blocks
 blocks-inside [] p = none
-blocks-inside (block ∷ blocks) p = also {x = block} (omega (arith, part-inside (part-first block (joined blocks) p))) (blocks-inside blocks (part-rest block (joined blocks) p))
+blocks-inside (block ∷ blocks) p =
+    also {x = block} (omega (arith, part-inside (part-first block (joined blocks) p)))
+    (blocks-inside blocks (part-rest block (joined blocks) p))
 
 -- A sound block is a pattern of which the rules hold.
 whole-part : (block : List ℕ) → PartAt block 0 block
@@ -96,9 +98,14 @@ module _ (m : List ℕ) (bytes : Bytes m) (l : Layout) (o : opened m ≡ Found l
   anew = map (blockAnew (l .tracks)) blocks
 
   pub blocks-in : BlocksIn Pattern m (l .places .patt .at + 8) 8 patt (l .patterns) blocks
-  blocks-in = filled-blocks (layout-of .patt .stands patt pattThere) Pattern 8 (l .patterns) blocks (counted (sym (layout-of .counts (all-of .info) (all-of .infoThere) .3)) (all-of .content .patternsFill)) (every-of (pattern-sized (number16 (all-of .info) 16)) (all-of .content .patternRules))
+  blocks-in =
+      filled-blocks (layout-of .patt .stands patt pattThere) Pattern 8 (l .patterns) blocks
+      (counted (sym (layout-of .counts (all-of .info) (all-of .infoThere) .3)) (all-of .content .patternsFill))
+      (every-of (pattern-sized (number16 (all-of .info) 16)) (all-of .content .patternRules))
 
-  sound-block : (at : ℕ) (block : List ℕ) → PartAt m at block → Sized Pattern block → AllHold (patternStreamRules m (l .tracks) at) → SoundBlock (l .tracks) block
+  sound-block : (at : ℕ) (block : List ℕ) → PartAt m at block → Sized Pattern block
+      → AllHold (patternStreamRules m (l .tracks) at)
+      → SoundBlock (l .tracks) block
   sound-block at block p s e =
       let accepted : streamVerdict m (l .tracks) at ≡ Accepted = accepted-says _ .0 (every-first e) in
       record { sized = s; accepted = rw (rows-same p s, packed-same p s) at accepted }
@@ -106,14 +113,17 @@ module _ (m : List ℕ) (bytes : Bytes m) (l : Layout) (o : opened m ≡ Found l
   pub sound-blocks : Every (SoundBlock (l .tracks)) blocks
   sound-blocks =
       places-blocks Pattern sound-block blocks (blocks-in .there) (blocks-in .sized)
-      (subst (λ (n : ℕ). Every (λ at. AllHold (patternStreamRules m (l .tracks) at)) (placesFrom (sizeOf Pattern m) n (l .places .patt .at + 8))) (sym (blocks-in .filled .number)) (opens .content .streams))
+      (subst (λ (n : ℕ). Every (λ at. AllHold (patternStreamRules m (l .tracks) at)) (placesFrom (sizeOf Pattern m) n (l .places .patt .at + 8)))
+      (sym (blocks-in .filled .number)) (opens .content .streams))
 
   pub sound-anew : Every (SoundBlock (l .tracks)) anew
   sound-anew = every-map (blockAnew (l .tracks)) blocks .1 (every-of (anew-sound (l .tracks)) sound-blocks)
 
   pub data-is : repackedPatterns m l ≡ joined anew
   data-is =
-      ap joined (subst (λ (n : ℕ). map (repackedBlock m (l .tracks)) (placesFrom (sizeOf Pattern m) n (l .places .patt .at + 8)) ≡ anew) (blocks-in .filled .number) (blocks-anew (l .tracks) (l .places .patt .at + 8) blocks (blocks-in .there) (blocks-in .sized)))
+      ap joined (subst (λ (n : ℕ). map (repackedBlock m (l .tracks)) (placesFrom (sizeOf Pattern m) n (l .places .patt .at + 8)) ≡ anew)
+      (blocks-in .filled .number)
+      (blocks-anew (l .tracks) (l .places .patt .at + 8) blocks (blocks-in .there) (blocks-in .sized)))
 
   abbrev pub changed : List ℕ → List ℕ
   changed = chunkAnew (repackedPatterns m l)
@@ -132,7 +142,10 @@ module _ (m : List ℕ) (bytes : Bytes m) (l : Layout) (o : opened m ≡ Found l
   patt-bytes = every-among (rules .whole) pattThere
 
   pub patt-size : length patt ≡ 8 + length (joined blocks)
-  patt-size = ap length (all-of .content .patternsFill .bytes) ∙ length-append (take 8 patt) (joined blocks) ∙ ap (λ (k : ℕ). k + length (joined blocks)) (length-take-le 8 patt (all-of .content .patternsFill .fronts))
+  patt-size =
+      ap length (all-of .content .patternsFill .bytes)
+      ∙ length-append (take 8 patt) (joined blocks)
+      ∙ ap (λ (k : ℕ). k + length (joined blocks)) (length-take-le 8 patt (all-of .content .patternsFill .fronts))
 
   pub patt-changed : changed patt ≡ withData (repackedPatterns m l) patt
   patt-changed = data-there Covered.patt (repackedPatterns m l) (λ c. c) patt-bytes (pattThere .named)
@@ -185,14 +198,17 @@ module _ (m : List ℕ) (bytes : Bytes m) (l : Layout) (o : opened m ≡ Found l
     samplesFill = filled-left all-of change refl Covered.smpl refl (all-of .smplThere) 10 (all-of .content .samplesFill);
     songRules = rw (length-map blocks (blockAnew (l .tracks))) (all-of .content .songRules);
     instrumentRules = all-of .content .instrumentRules;
-    patternRules = subst (λ (info : List ℕ). Every (PatternRules (number16 info 16)) anew) (sym info-same) (rw tracks-are (every-of (sound-rules (l .tracks)) sound-anew));
+    patternRules = subst (λ (info : List ℕ). Every (PatternRules (number16 info 16)) anew) (sym info-same)
+        (rw tracks-are (every-of (sound-rules (l .tracks)) sound-anew));
     sampleRules = all-of .content .sampleRules;
     asMany = refl;
   }
 
   -- It is bytes.
   pub patt-below : Bytes patt
-  patt-below = bytes-front patt (joined (pattThere .after)) (bytes-behind (header ++ joined (pattThere .before)) (patt ++ joined (pattThere .after)) (subst Bytes (bytes-split rules pattThere) bytes))
+  patt-below =
+      bytes-front patt (joined (pattThere .after))
+      (bytes-behind (header ++ joined (pattThere .before)) (patt ++ joined (pattThere .after)) (subst Bytes (bytes-split rules pattThere) bytes))
 
   pub blocks-bytes : Every Bytes blocks
   blocks-bytes = bytes-joined blocks .1 (bytes-behind (take 8 patt) (joined blocks) (subst Bytes (all-of .content .patternsFill .bytes) patt-below))
@@ -203,13 +219,18 @@ module _ (m : List ℕ) (bytes : Bytes m) (l : Layout) (o : opened m ≡ Found l
   block-bytes : (block : List ℕ) → (SoundBlock (l .tracks) block × Bytes block) × (length block ≤ length m) → Bytes (blockAnew (l .tracks) block)
   block-bytes block ((sound, below), inside) =
       let stream : List ℕ = repackedStream block (l .tracks) 0 in
-      let short : length stream < 0x100000000 = omega (arith, anew-shorter (l .tracks) block sound, length-append (take 2 block) (packed stream), packed-size stream, inside, small) in
+      let short : length stream < 0x100000000 =
+      omega (arith, anew-shorter (l .tracks) block sound, length-append (take 2 block) (packed stream), packed-size stream, inside, small) in
+      let below-packed = bytes-of-part block 6 (number32 block 2) below in
+      let below-stream = packed-bytes (number16 block 0) (l .tracks) (packedBytes block 0) (sound .accepted) below-packed in
       bytes-append (take 2 block) (packed stream) (bytes-take 2 block below)
       (bytes-append (bytes32 (length stream)) (stream ++ replicate (length stream % 2) 0) (bytes32-bytes (length stream) short)
-      (bytes-append stream (replicate (length stream % 2) 0) (packed-bytes (number16 block 0) (l .tracks) (packedBytes block 0) (sound .accepted) (bytes-of-part block 6 (number32 block 2) below)) (bytes-replicate (length stream % 2))))
+      (bytes-append stream (replicate (length stream % 2) 0) below-stream (bytes-replicate (length stream % 2))))
 
   content-bytes : Bytes (repackedPatterns m l)
-  content-bytes = rw data-is (bytes-joined anew .0 (every-map (blockAnew (l .tracks)) blocks .1 (every-of block-bytes (every-both (every-both sound-blocks blocks-bytes) (blocks-inside blocks (blocks-in .there))))))
+  content-bytes =
+      rw data-is (bytes-joined anew .0 (every-map (blockAnew (l .tracks)) blocks .1
+      (every-of block-bytes (every-both (every-both sound-blocks blocks-bytes) (blocks-inside blocks (blocks-in .there))))))
 
   patt-part : PartAt m (length (header ++ joined (pattThere .before))) patt
   patt-part = record { before = header ++ joined (pattThere .before); after = joined (pattThere .after); bytes = bytes-split rules pattThere; starts = refl }

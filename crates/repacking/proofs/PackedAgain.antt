@@ -25,10 +25,14 @@ module _ (rows tracks : ℕ) (stream : List ℕ) (accepted : checkAnswer stream 
   first = holds stream rows tracks accepted
 
   again : AcceptedAs rows tracks (packedStream (rowsHeld rows tracks stream)) (cellsRead rows tracks stream)
-  again = subst (λ (pattern : List Row). AcceptedAs rows tracks (packedStream pattern) (cellsRead rows tracks stream)) (sym (held-rows first)) (round-trip rows tracks (cellsRead rows tracks stream) (accepted-length first))
+  again =
+      subst (λ (pattern : List Row). AcceptedAs rows tracks (packedStream pattern) (cellsRead rows tracks stream))
+      (sym (held-rows first)) (round-trip rows tracks (cellsRead rows tracks stream) (accepted-length first))
 
   pub packed-accepted : checkAnswer (packedStream (rowsHeld rows tracks stream)) rows tracks ≡ Accepted
-  packed-accepted = accepts-exactly rows tracks (packedStream (rowsHeld rows tracks stream)) (accepted-sizes stream rows tracks accepted) .1 (again .entries, accepted-stream again)
+  packed-accepted =
+      accepts-exactly rows tracks (packedStream (rowsHeld rows tracks stream)) (accepted-sizes stream rows tracks accepted) .1
+      (again .entries, accepted-stream again)
 
   pub packed-rows : rowsHeld rows tracks (packedStream (rowsHeld rows tracks stream)) ≡ rowsHeld rows tracks stream
   packed-rows = held-rows again ∙ sym (held-rows first)

@@ -14,7 +14,8 @@ use Rattle.vocabulary.proofs.MappedLists.{every-map}
 use Rattle.refusal.specs.declared.Verdict.the-variants.{Accepted}
 use Rattle.cells.specs.Cells.{Cell, Row, emptyCell, nonZeros}
 use Rattle.numbers.specs.Numbers.{Bytes}
-use Rattle.numbers.proofs.AllBytes.{bytes-getD, bytes-nil, bytes-cons, bytes-first, bytes-rest, bytes-append, bytes-front, bytes-drop, bytes-joined, bytes-replicate}
+use Rattle.numbers.proofs.AllBytes.{bytes-getD, bytes-nil, bytes-cons, bytes-first, bytes-rest, bytes-append, bytes-front}
+use Rattle.numbers.proofs.AllBytes.{bytes-drop, bytes-joined, bytes-replicate}
 use Rattle.packed_rows.specs.Entries.{Entry, named, entryBytes, store, carryOut, carryAll, rowFrom, rowsFrom, rowStream, streamOf}
 use Rattle.packed_rows.specs.Stream.{readStream, entriesRead}
 use Rattle.packed_rows.specs.Packer.{packedEntry, packedEntries, packedStream}
@@ -46,7 +47,9 @@ stream-bytes rows = (
 store-bytes : (ns : List Bool) (values : List ℕ) (cell : Cell) → Bytes values → Bytes cell → Bytes (store ns values cell)
 store-bytes [] values cell v c = c
 store-bytes (n ∷ ns) values [] v c = bytes-nil
-store-bytes (true ∷ ns) values (f ∷ cell) v c = bytes-cons (getD values 0 0) (store ns (drop 1 values) cell) (bytes-getD values 0 v) (store-bytes ns (drop 1 values) cell (bytes-drop 1 values v) (bytes-rest f cell c))
+store-bytes (true ∷ ns) values (f ∷ cell) v c =
+    bytes-cons (getD values 0 0) (store ns (drop 1 values) cell) (bytes-getD values 0 v)
+    (store-bytes ns (drop 1 values) cell (bytes-drop 1 values v) (bytes-rest f cell c))
 store-bytes (false ∷ ns) values (f ∷ cell) v c = bytes-cons f (store ns values cell) (bytes-first f cell c) (store-bytes ns values cell v (bytes-rest f cell c))
 
 carry-bytes : {n : ℕ} (es : List Entry) (row : Row) → EntriesBytes es → Each Bytes n row → Each Bytes n (carryAll es row)
@@ -54,7 +57,8 @@ carry-bytes [] row h b = b
 carry-bytes (e ∷ es) row h b =
     let fields : Bytes (e .fields) = bytes-rest (e .mask) (e .fields) (bytes-rest (e .track) (e .mask ∷ e .fields) (every-first h)) in
     let old : Cell = getD row (e .track - 1) emptyCell in
-    let stored : Bytes (store (named (e .mask)) (e .fields) old) = store-bytes (named (e .mask)) (e .fields) old fields (each-getD (e .track - 1) emptyCell (bytes-replicate 6) b) in
+    let stored : Bytes (store (named (e .mask)) (e .fields) old) =
+    store-bytes (named (e .mask)) (e .fields) old fields (each-getD (e .track - 1) emptyCell (bytes-replicate 6) b) in
     carry-bytes es (carryOut e row) (every-rest h) (each-set (e .track - 1) _ stored b)
 
 row-from-bytes : (tracks : ℕ) (es : List Entry) → EntriesBytes es → Each Bytes tracks (rowFrom tracks es)
@@ -75,20 +79,24 @@ packed-entry-bytes track cell low high l c =
     let small = packed-sound track track cell low (omega arith) l .small in
     bytes-cons track (e .mask ∷ e .fields) high (bytes-cons (e .mask) (e .fields) (omega arith) (non-zeros-bytes cell c))
 
-entries-bytes : {track n : ℕ} {row : Row} {es : List Entry} → Packs track row es → Blocks n 6 row → Each Bytes n row → 1 ≤ track → track + n ≤ 256 → EntriesBytes es
+entries-bytes : {track n : ℕ} {row : Row} {es : List Entry} → Packs track row es → Blocks n 6 row → Each Bytes n row
+    → 1 ≤ track → track + n ≤ 256
+    → EntriesBytes es
 entries-bytes done no-cell no-cell low fits = none
 entries-bytes (written {track = track} {cell = cell} q p) (one-cell l b) (one-cell c cs) low fits =
     also (packed-entry-bytes track cell low (omega arith) l c) (entries-bytes p b cs (omega arith) (omega arith))
 entries-bytes (passed q p) (one-cell l b) (one-cell c cs) low fits = entries-bytes p b cs (omega arith) (omega arith)
 
-pub repacked-bytes : (tracks : ℕ) → tracks ≤ 254 → (entries : List (List Entry)) → Every EntriesBytes entries → Every EntriesBytes (map packedEntries (rowsFrom tracks entries))
+pub repacked-bytes : (tracks : ℕ) → tracks ≤ 254 → (entries : List (List Entry)) → Every EntriesBytes entries
+    → Every EntriesBytes (map packedEntries (rowsFrom tracks entries))
 repacked-bytes tracks few entries h =
     every-map packedEntries (rowsFrom tracks entries) .1
     (every-map (rowFrom tracks) entries .1
     (every-of (λ es e. entries-bytes (packs 1 (rowFrom tracks es)) (row-from-shaped tracks es) (row-from-bytes tracks es e) (omega arith) (omega arith)) h))
 
 -- An accepted stream of bytes.
-pub packed-bytes : (rows tracks : ℕ) (stream : List ℕ) → checkAnswer stream rows tracks ≡ Accepted → Bytes stream → Bytes (packedStream (rowsFrom tracks (entriesRead (readStream rows tracks stream))))
+pub packed-bytes : (rows tracks : ℕ) (stream : List ℕ) → checkAnswer stream rows tracks ≡ Accepted → Bytes stream
+    → Bytes (packedStream (rowsFrom tracks (entriesRead (readStream rows tracks stream))))
 packed-bytes rows tracks stream ok h =
     let accepted = holds stream rows tracks ok in
     let few : tracks ≤ 254 = sizes rows tracks (accepted-sizes stream rows tracks ok) .few-tracks in

@@ -37,7 +37,9 @@ use Rattle.repack.proofs.Accepting.{patterns-in, module-replaced}
 use Rattle.query_theorems.proofs.FoundBlocks.{found-numbered}
 use Rattle.repacking.specs.Packed.{fillerOf, PackedAt}
 use Rattle.repacking.proofs.BlockAnew.{blockAnew, packed-same, rows-same, SoundBlock, anew-length, anew-stream, filler-part, anew-shorter}
-use Rattle.repacking.proofs.ModuleAnew.{header, patt, pattThere, all-of, blocks, blocks-in, blocks-bytes, sound-blocks, rules, data-is, patt-bytes, patt-changed, patt-below, patt-size, repacked-size, repacked-bytes}
+use Rattle.repacking.proofs.ModuleAnew.{header, patt, pattThere, all-of, blocks, blocks-in, blocks-bytes, sound-blocks}
+use Rattle.repacking.proofs.ModuleAnew.{rules, data-is, patt-bytes, patt-changed, patt-below, patt-size, repacked-size}
+use Rattle.repacking.proofs.ModuleAnew.{repacked-bytes}
 
 -- The 4 bytes at a place are those of their number.
 number-small : (xs : List ℕ) (at : ℕ) → Bytes xs → number32 xs at < 0x100000000
@@ -48,7 +50,8 @@ four-again : (xs : List ℕ) (at : ℕ) → Bytes xs → at + 4 ≤ length xs �
 four-again xs at below fits =
     let k : ℕ = number32 xs at in
     let same : number32 (drop at xs) 0 ≡ number32 (bytes32 k) 0 = number32-drop at xs 0 ∙ ap (number32 xs) (add-zero at) ∙ sym (bytes32-again k) in
-    sym (number-letters (drop at xs) (bytes32 k) (omega (arith, length-drop at xs)) (λ i h. bytes-drop at xs below i) (record { size = refl; below = λ i h. bytes32-bytes k (number-small xs at below) i }) same)
+    sym (number-letters (drop at xs) (bytes32 k) (omega (arith, length-drop at xs)) (λ i h. bytes-drop at xs below i)
+    (record { size = refl; below = λ i h. bytes32-bytes k (number-small xs at below) i }) same)
 
 -- A list as its parts.
 parts-of : (xs : List ℕ) (a b : ℕ) → drop a xs ≡ partOf xs a b ++ drop (a + b) xs
@@ -72,12 +75,23 @@ module _ {m block : List ℕ} {at : ℕ} (tracks : ℕ) (p : PartAt m at block) 
       let fits : 6 + k + k % 2 ≤ length block = omega (arith, s) in
       let part = part-of-part p (part-there block (6 + k) (k % 2) fits) in
       let size : length (partOf block (6 + k) (k % 2)) ≡ k % 2 = part-length block (6 + k) (k % 2) fits in
-      ap (λ (n : ℕ). partOf m (at + 6 + n) (n % 2)) length-same ∙ ap (λ (to : ℕ). partOf m to (k % 2)) (add-assoc at 6 k) ∙ ap (partOf m (at + (6 + k))) (sym size) ∙ part-is part
+      ap (λ (n : ℕ). partOf m (at + 6 + n) (n % 2)) length-same
+      ∙ ap (λ (to : ℕ). partOf m to (k % 2)) (add-assoc at 6 k)
+      ∙ ap (partOf m (at + (6 + k))) (sym size)
+      ∙ part-is part
 
   pub packed-in-block : PackedAt m tracks at ↔ PackedAt block tracks 0
   packed-in-block = (
-    λ h. record { stream = sym (packed-same p s) ∙ h .stream ∙ stream-same; filler = sym filler-same ∙ h .filler ∙ ap (λ (n : ℕ). replicate (n % 2) 0) length-same },
-    λ h. record { stream = packed-same p s ∙ h .stream ∙ sym stream-same; filler = filler-same ∙ h .filler ∙ ap (λ (n : ℕ). replicate (n % 2) 0) (sym length-same) },
+    λ h.
+        record {
+          stream = sym (packed-same p s) ∙ h .stream ∙ stream-same;
+          filler = sym filler-same ∙ h .filler ∙ ap (λ (n : ℕ). replicate (n % 2) 0) length-same;
+        },
+    λ h.
+        record {
+          stream = packed-same p s ∙ h .stream ∙ sym stream-same;
+          filler = filler-same ∙ h .filler ∙ ap (λ (n : ℕ). replicate (n % 2) 0) (sym length-same);
+        },
   )
 
 -- A block is the block anew exactly when its stream is the packer's and its filler 0.
@@ -91,8 +105,13 @@ module _ (tracks : ℕ) (block : List ℕ) (b : SoundBlock tracks block) (below 
 
   block-parts : block ≡ take 2 block ++ (partOf block 2 4 ++ (partOf block 6 (number32 block 2) ++ fillerOf block 0))
   block-parts =
-      let last : drop (6 + number32 block 2) block ≡ fillerOf block 0 = sym (take-all (number32 block 2 % 2) (drop (6 + number32 block 2) block) (omega (arith, length-drop (6 + number32 block 2) block, size))) in
-      sym (take-append-drop 2 block) ∙ ap (λ (rest : List ℕ). take 2 block ++ rest) (parts-of block 2 4 ∙ ap (λ (rest : List ℕ). partOf block 2 4 ++ rest) (parts-of block 6 (number32 block 2) ∙ ap (λ (rest : List ℕ). partOf block 6 (number32 block 2) ++ rest) last))
+      let last : drop (6 + number32 block 2) block ≡ fillerOf block 0 =
+      sym (take-all (number32 block 2 % 2) (drop (6 + number32 block 2) block) (omega (arith, length-drop (6 + number32 block 2) block, size))) in
+      sym (take-append-drop 2 block)
+      ∙ ap (λ (rest : List ℕ). take 2 block ++ rest)
+      (parts-of block 2 4
+      ∙ ap (λ (rest : List ℕ). partOf block 2 4 ++ rest)
+      (parts-of block 6 (number32 block 2) ∙ ap (λ (rest : List ℕ). partOf block 6 (number32 block 2) ++ rest) last))
 
   packed-stays : PackedAt block tracks 0 → blockAnew tracks block ≡ block
   packed-stays h =
@@ -121,12 +140,21 @@ module _ (tracks : ℕ) (block : List ℕ) (b : SoundBlock tracks block) (below 
       }
 
 -- Blocks that become no longer are the same one behind the other only where each is the same.
-each-same : (g : List ℕ → List ℕ) {list : List (List ℕ)} → Every (λ block. length (g block) ≤ length block) list → joined (map g list) ≡ joined list → Every (λ block. g block ≡ block) list
+each-same : (g : List ℕ → List ℕ) {list : List (List ℕ)} → Every (λ block. length (g block) ≤ length block) list
+    → joined (map g list) ≡ joined list
+    → Every (λ block. g block ≡ block) list
 each-same g none e = none
 each-same g (also {x = block} {xs = list} h hs) e =
-    let long : length (g block) ≡ length block = omega (arith, ap length e, length-append (g block) (joined (map g list)), length-append block (joined list), joined-shorter g hs, h) in
-    let front : g block ≡ block = sym (take-at (g block) (joined (map g list)) (length block) long) ∙ ap (take (length block)) e ∙ take-at block (joined list) (length block) refl in
-    let rest : joined (map g list) ≡ joined list = sym (drop-at (g block) (joined (map g list)) (length block) long) ∙ ap (drop (length block)) e ∙ drop-at block (joined list) (length block) refl in
+    let long : length (g block) ≡ length block =
+    omega (arith, ap length e, length-append (g block) (joined (map g list)), length-append block (joined list), joined-shorter g hs, h) in
+    let front : g block ≡ block =
+    sym (take-at (g block) (joined (map g list)) (length block) long)
+    ∙ ap (take (length block)) e
+    ∙ take-at block (joined list) (length block) refl in
+    let rest : joined (map g list) ≡ joined list =
+    sym (drop-at (g block) (joined (map g list)) (length block) long)
+    ∙ ap (drop (length block)) e
+    ∙ drop-at block (joined list) (length block) refl in
     also front (each-same g hs rest)
 
 every-index : {P : List ℕ → Type 0} (list : List (List ℕ)) → ((i : ℕ) → i < length list → P (getD list i [])) → Every P list
@@ -158,7 +186,8 @@ module _ (m : List ℕ) (bytes : Bytes m) (l : Layout) (o : opened m ≡ Found l
     packed-block : AllPacked → blockAnew (l .tracks) block ≡ block
     packed-block all =
         let same : i - 0 ≡ i = omega arith in
-        let at : PackedAt m (l .tracks) (placeAfter (sizeOf PatternKind m) i (l .places .patt .at + 8)) = rw same at (all i (blockOf m l Pattern i) counted-there) in
+        let at : PackedAt m (l .tracks) (placeAfter (sizeOf PatternKind m) i (l .places .patt .at + 8)) =
+        rw same at (all i (blockOf m l Pattern i) counted-there) in
         packed-stays (l .tracks) block sound below (packed-in-block (l .tracks) there (sound .sized) .0 at)
 
   -- PATT's data are the blocks.
@@ -171,7 +200,8 @@ module _ (m : List ℕ) (bytes : Bytes m) (l : Layout) (o : opened m ≡ Found l
       let size = patt-size m bytes l o in
       let behind : drop 8 chunk ≡ joined (blocks m bytes l o) = data-behind in
       let number : length (repackedPatterns m l) ≡ number32 chunk 4 = omega (arith, ap length e, size, patt-bytes m bytes l o .size) in
-      let four : bytes32 (length (repackedPatterns m l)) ≡ partOf chunk 4 4 = ap bytes32 number ∙ four-again chunk 4 (patt-below m bytes l o) (omega (arith, size)) in
+      let four : bytes32 (length (repackedPatterns m l)) ≡ partOf chunk 4 4 =
+      ap bytes32 number ∙ four-again chunk 4 (patt-below m bytes l o) (omega (arith, size)) in
       ap (λ (content : List ℕ). take 4 chunk ++ (bytes32 (length (repackedPatterns m l)) ++ content)) (e ∙ sym behind)
       ∙ ap (λ (bytes : List ℕ). take 4 chunk ++ (bytes ++ drop 8 chunk)) four
       ∙ ap (λ (rest : List ℕ). take 4 chunk ++ rest) (sym (parts-of chunk 4 4))
@@ -180,13 +210,17 @@ module _ (m : List ℕ) (bytes : Bytes m) (l : Layout) (o : opened m ≡ Found l
       data-behind : drop 8 (patt m bytes l o) ≡ joined (blocks m bytes l o)
       data-behind =
           let filled = all-of m bytes l o .content .patternsFill in
-          ap (drop 8) (filled .bytes) ∙ drop-at (take 8 (patt m bytes l o)) (joined (blocks m bytes l o)) 8 (length-take-le 8 (patt m bytes l o) (filled .fronts))
+          ap (drop 8) (filled .bytes)
+          ∙ drop-at (take 8 (patt m bytes l o)) (joined (blocks m bytes l o)) 8 (length-take-le 8 (patt m bytes l o) (filled .fronts))
 
   module-same : repackedPatterns m l ≡ joined (blocks m bytes l o) → repackedModule m l ≡ m
   module-same e =
       let a = pattThere m bytes l o in
       repacked-bytes m bytes l o
-      ∙ ap (λ (list : List (List ℕ)). header m bytes l o ++ joined list) (split-alone Covered.patt (data-same-but PATT (repackedPatterns m l) (λ c. c)) (rules m bytes l o) a ∙ ap (λ (chunk : List ℕ). a .before ++ (chunk ∷ a .after)) (patt-changed m bytes l o ∙ patt-same e) ∙ sym (a .splits))
+      ∙ ap (λ (list : List (List ℕ)). header m bytes l o ++ joined list)
+      (split-alone Covered.patt (data-same-but PATT (repackedPatterns m l) (λ c. c)) (rules m bytes l o) a
+      ∙ ap (λ (chunk : List ℕ). a .before ++ (chunk ∷ a .after)) (patt-changed m bytes l o ∙ patt-same e)
+      ∙ sym (a .splits))
       ∙ sym (rules m bytes l o .bytes)
 
   -- Where the module repacked is the module, PATT's data stayed.
@@ -197,10 +231,15 @@ module _ (m : List ℕ) (bytes : Bytes m) (l : Layout) (o : opened m ≡ Found l
       let behind : List ℕ = drop (at + 8 + l .places .patt .length) m in
       let inside : at + 8 + l .places .patt .length ≤ length m = patterns-in m bytes l o .inside in
       let front : List ℕ = take (at + 4) m ++ bytes32 (length content) in
-      let eight : length front ≡ at + 8 = omega (arith, length-append (take (at + 4) m) (bytes32 (length content)), length-take-le (at + 4) m (omega (arith, inside))) in
+      let eight : length front ≡ at + 8 =
+      omega (arith, length-append (take (at + 4) m) (bytes32 (length content)), length-take-le (at + 4) m (omega (arith, inside))) in
       let long : length content ≡ length (joined (blocks m bytes l o)) = omega (arith, repacked-size m bytes l o, ap length e) in
-      let is : front ++ (content ++ behind) ≡ m = append-assoc (take (at + 4) m) (bytes32 (length content)) (content ++ behind) ∙ sym (module-replaced m bytes l o) ∙ e in
-      let here : partOf m (at + 8) (length content) ≡ content = ap (λ (list : List ℕ). partOf list (at + 8) (length content)) (sym is) ∙ ap (take (length content)) (drop-at front (content ++ behind) (at + 8) eight) ∙ take-at content behind (length content) refl in
+      let is : front ++ (content ++ behind) ≡ m =
+      append-assoc (take (at + 4) m) (bytes32 (length content)) (content ++ behind) ∙ sym (module-replaced m bytes l o) ∙ e in
+      let here : partOf m (at + 8) (length content) ≡ content =
+      ap (λ (list : List ℕ). partOf list (at + 8) (length content)) (sym is)
+      ∙ ap (take (length content)) (drop-at front (content ++ behind) (at + 8) eight)
+      ∙ take-at content behind (length content) refl in
       sym here ∙ ap (partOf m (at + 8)) long ∙ part-is (blocks-in m bytes l o .there)
 
   same-packed : repackedModule m l ≡ m → AllPacked
@@ -209,7 +248,8 @@ module _ (m : List ℕ) (bytes : Bytes m) (l : Layout) (o : opened m ≡ Found l
       let each = each-same (blockAnew (l .tracks)) (every-of (anew-shorter (l .tracks)) (sound-blocks m bytes l o)) (sym (data-is m bytes l o) ∙ same-data e) in
       let s = found-numbered m Pattern pattern b l o f in
       let h : pattern - 0 < length list = omega (arith, s .counted, blocks-in m bytes l o .filled .number) in
-      rw (s .block) (packed-in-block (l .tracks) (there (pattern - 0) h) (sound (pattern - 0) h .sized) .1 (stays-packed (l .tracks) (block (pattern - 0) h) (sound (pattern - 0) h) (below (pattern - 0) h) (every-at (pattern - 0) [] h each)))
+      rw (s .block) (packed-in-block (l .tracks) (there (pattern - 0) h) (sound (pattern - 0) h .sized) .1
+      (stays-packed (l .tracks) (block (pattern - 0) h) (sound (pattern - 0) h) (below (pattern - 0) h) (every-at (pattern - 0) [] h each)))
 
   pub same-exactly : (repackedModule m l ≡ m) ↔ AllPacked
   same-exactly = (same-packed, λ all. module-same (data-same (every-index (blocks m bytes l o) (λ i h. packed-block i h all))))
