@@ -19,7 +19,8 @@ use Rattle.format.specs.Description.{Info, Song, Instrument, Pattern, Sa
 use Rattle.format.specs.Encoding.{identifier, contents, chunkBytes, headerBytes, encoded}
 use Rattle.format.specs.WellFormed.{Fits32, ListsFit, EnvelopesFit, In, Once, InfoFirst, WellFormed}
 use Rattle.format.proofs.ChunksIn.{in-within, within-in, every-in, once-letters, letters-once}
-use Rattle.format.proofs.ChunkKinds.{Kind, named, counted, songs, instruments, patterns, samples, volumes, pannings, others, kindOf, Holding, holder, held-as}
+use Rattle.format.proofs.ChunkKinds.{Kind, named, counted, songs, instruments, patterns, samples, volumes, pannings}
+use Rattle.format.proofs.ChunkKinds.{others, kindOf, Holding, holder, held-as}
 
 -- Whether two kinds are the same.
 abbrev kindNumber : Kind → ℕ

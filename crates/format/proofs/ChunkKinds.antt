@@ -15,7 +15,9 @@ use Rattle.acceptance.proofs.Identifiers.{identifierOf, chunk-named}
 use Rattle.format.specs.Description.{Info, Song, Instrument, Pattern, Sample, Envelope, Chunk, NAME, INFO, SONG, INST, PATT, SMPL, VENV, PENV, Other}
 use Rattle.format.specs.Encoding.{songBytes, instrumentBytes, patternBytes, sampleBytes, chunkBytes}
 use Rattle.format.specs.WellFormed.{PatternFits, OtherFits}
-use Rattle.format.proofs.Delimited.{front-same, next32, all-same, every-any, info-same, song-delimited, song-some, instrument-delimited, instrument-some, pattern-delimited, pattern-some, sample-delimited, sample-some, envelopes-same}
+use Rattle.format.proofs.Delimited.{front-same, next32, all-same, every-any, info-same, song-delimited, song-some}
+use Rattle.format.proofs.Delimited.{instrument-delimited, instrument-some, pattern-delimited, pattern-some}
+use Rattle.format.proofs.Delimited.{sample-delimited, sample-some, envelopes-same}
 
 pub data Kind : Type 0 where
   named counted songs instruments patterns samples volumes pannings others : Kind
@@ -92,16 +94,30 @@ kindBy n =
     (cond (eqb n (identifierOf Covered.venv)) volumes
     (cond (eqb n (identifierOf Covered.penv)) pannings others)))))))
 
-pub not-covered : (letters bytes : List ℕ) → OtherFits letters bytes → ChunkBytes (chunkBytes (Other letters bytes)) → {covering : List ℕ} (covers : Covered covering) → eqb (number32 (chunkBytes (Other letters bytes)) 0) (identifierOf covers) ≡ false
+pub not-covered : (letters bytes : List ℕ) → OtherFits letters bytes → ChunkBytes (chunkBytes (Other letters bytes))
+    → {covering : List ℕ} (covers : Covered covering)
+    → eqb (number32 (chunkBytes (Other letters bytes)) 0) (identifierOf covers) ≡ false
 not-covered letters bytes fits c {covering} covers =
     let four : take 4 (chunkBytes (Other letters bytes)) ≡ letters = take-at letters (bytes32 (length bytes) ++ bytes) 4 (fits .four) in
     ne-eqb _ _ (λ same. fits .notCovered (subst Covered (sym (chunk-named c covers .0 same) ∙ four) covers))
 
-other-read : (letters bytes : List ℕ) → OtherFits letters bytes → ChunkBytes (chunkBytes (Other letters bytes)) → kindBy (number32 (chunkBytes (Other letters bytes)) 0) ≡ others
+other-read : (letters bytes : List ℕ) → OtherFits letters bytes → ChunkBytes (chunkBytes (Other letters bytes))
+    → kindBy (number32 (chunkBytes (Other letters bytes)) 0) ≡ others
 other-read letters bytes h c =
-    simp (not-covered letters bytes h c Covered.name, not-covered letters bytes h c Covered.info, not-covered letters bytes h c Covered.song, not-covered letters bytes h c Covered.inst, not-covered letters bytes h c Covered.patt, not-covered letters bytes h c Covered.smpl, not-covered letters bytes h c Covered.venv, not-covered letters bytes h c Covered.penv)
+    simp (
+      not-covered letters bytes h c Covered.name,
+      not-covered letters bytes h c Covered.info,
+      not-covered letters bytes h c Covered.song,
+      not-covered letters bytes h c Covered.inst,
+      not-covered letters bytes h c Covered.patt,
+      not-covered letters bytes h c Covered.smpl,
+      not-covered letters bytes h c Covered.venv,
+      not-covered letters bytes h c Covered.penv,
+    )
 
-kind-read : (c : Chunk) → ((letters bytes : List ℕ) → c ≡ Other letters bytes → OtherFits letters bytes) → ChunkBytes (chunkBytes c) → kindBy (number32 (chunkBytes c) 0) ≡ kindOf c
+kind-read : (c : Chunk) → ((letters bytes : List ℕ) → c ≡ Other letters bytes → OtherFits letters bytes)
+    → ChunkBytes (chunkBytes c)
+    → kindBy (number32 (chunkBytes c) 0) ≡ kindOf c
 unfolding number32 number16 byteAt
 kind-read (NAME name) other c = refl
 kind-read (INFO info) other c = refl
@@ -114,7 +130,9 @@ kind-read (PENV list) other c = refl
 kind-read (Other letters bytes) other c = other-read letters bytes (other letters bytes refl) c
 
 -- A chunk with covered letters is of the kind that they name.
-pub kind-covered : (c : Chunk) → ((letters bytes : List ℕ) → c ≡ Other letters bytes → OtherFits letters bytes) → ChunkBytes (chunkBytes c) → {letters : List ℕ} (covers : Covered letters) → take 4 (chunkBytes c) ≡ letters → kindOf c ≡ kindBy (identifierOf covers)
+pub kind-covered : (c : Chunk) → ((letters bytes : List ℕ) → c ≡ Other letters bytes → OtherFits letters bytes)
+    → ChunkBytes (chunkBytes c) → {letters : List ℕ} (covers : Covered letters) → take 4 (chunkBytes c) ≡ letters
+    → kindOf c ≡ kindBy (identifierOf covers)
 kind-covered c other whole covers same = sym (kind-read c other whole) ∙ ap kindBy (chunk-named whole covers .1 same)
 
 -- A chunk of which the bytes tell the end, and that is whole.
@@ -129,19 +147,29 @@ kind-same {tracks} {tracks′} {c} {other} p q e =
     ∙ kind-read other (λ letters bytes is. subst (Told tracks′) is (q .told)) (q .whole)
 
 -- The parts of a chunk: its identifier, and its data behind their length.
-pub parts-same : (letters letters′ bytes bytes′ : List ℕ) → length letters ≡ length letters′ → letters ++ (bytes32 (length bytes) ++ bytes) ≡ letters′ ++ (bytes32 (length bytes′) ++ bytes′) → (letters ≡ letters′) × (bytes ≡ bytes′)
+pub parts-same : (letters letters′ bytes bytes′ : List ℕ) → length letters ≡ length letters′
+    → letters ++ (bytes32 (length bytes) ++ bytes) ≡ letters′ ++ (bytes32 (length bytes′) ++ bytes′)
+    → (letters ≡ letters′) × (bytes ≡ bytes′)
 parts-same letters letters′ bytes bytes′ h e =
     let first = front-same letters letters′ h e in
     (first .0, next32 (length bytes) (length bytes′) (first .1) .1)
 
 -- What chunks of one kind with the same bytes hold is the same.
-holding-same : (tracks : ℕ) (k : Kind) (a b : Holding k) → Told tracks (holder k a) → Told tracks (holder k b) → chunkBytes (holder k a) ≡ chunkBytes (holder k b) → holder k a ≡ holder k b
+holding-same : (tracks : ℕ) (k : Kind) (a b : Holding k) → Told tracks (holder k a) → Told tracks (holder k b)
+    → chunkBytes (holder k a) ≡ chunkBytes (holder k b)
+    → holder k a ≡ holder k b
 holding-same tracks named a b p q e = ap NAME (parts-same nameLetters nameLetters a b refl e .1)
 holding-same tracks counted a b p q e = ap INFO (info-same a b (parts-same infoLetters infoLetters _ _ refl e .1))
 holding-same tracks songs a b p q e = ap SONG (all-same songBytes song-delimited song-some a b p q (parts-same songLetters songLetters _ _ refl e .1))
-holding-same tracks instruments a b p q e = ap INST (all-same instrumentBytes instrument-delimited instrument-some a b p q (parts-same instLetters instLetters _ _ refl e .1))
-holding-same tracks patterns a b p q e = ap PATT (all-same patternBytes (pattern-delimited tracks) (pattern-some tracks) a b p q (parts-same pattLetters pattLetters _ _ refl e .1))
-holding-same tracks samples a b p q e = ap SMPL (all-same sampleBytes sample-delimited sample-some a b (every-any a) (every-any b) (parts-same smplLetters smplLetters _ _ refl e .1))
+holding-same tracks instruments a b p q e =
+    ap INST
+    (all-same instrumentBytes instrument-delimited instrument-some a b p q (parts-same instLetters instLetters _ _ refl e .1))
+holding-same tracks patterns a b p q e =
+    ap PATT
+    (all-same patternBytes (pattern-delimited tracks) (pattern-some tracks) a b p q (parts-same pattLetters pattLetters _ _ refl e .1))
+holding-same tracks samples a b p q e =
+    ap SMPL
+    (all-same sampleBytes sample-delimited sample-some a b (every-any a) (every-any b) (parts-same smplLetters smplLetters _ _ refl e .1))
 holding-same tracks volumes a b p q e = ap VENV (envelopes-same a b p q (parts-same venvLetters venvLetters _ _ refl e .1))
 holding-same tracks pannings a b p q e = ap PENV (envelopes-same a b p q (parts-same penvLetters penvLetters _ _ refl e .1))
 holding-same tracks others a b p q e =

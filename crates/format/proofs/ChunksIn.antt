@@ -45,13 +45,16 @@ module _ {chunks : List Chunk} where
 
 -- Chunks of which a function gives the same, one by one.
 module _ {A : Type 0} (f : Chunk → A) where
-  pub in-other : (before after others : List Chunk) (c : Chunk) → map f (before ++ (c ∷ after)) ≡ map f others → (other : Chunk) × In others other × (f c ≡ f other)
+  pub in-other : (before after others : List Chunk) (c : Chunk) → map f (before ++ (c ∷ after)) ≡ map f others
+      → (other : Chunk) × In others other × (f c ≡ f other)
   in-other [] after [] c e = let z : _≡_ {A = ℕ} 0 1 = cc in absurd (omega arith)
   in-other [] after (x ∷ others) c e = (x, in-front x others, cc)
   in-other (b ∷ before) after [] c e = let z : _≡_ {A = ℕ} 0 1 = cc in absurd (omega arith)
   in-other (b ∷ before) after (x ∷ others) c e = let found = in-other before after others c (cc) in (found .0, in-behind x (found .1), found .2)
 
-  pub each-same : {P : Chunk → Type 0} → ((c other : Chunk) → P c → P other → f c ≡ f other → c ≡ other) → (chunks others : List Chunk) → Every P chunks → Every P others → map f chunks ≡ map f others → chunks ≡ others
+  pub each-same : {P : Chunk → Type 0} → ((c other : Chunk) → P c → P other → f c ≡ f other → c ≡ other)
+      → (chunks others : List Chunk) → Every P chunks → Every P others → map f chunks ≡ map f others
+      → chunks ≡ others
   each-same one [] [] p q e = refl
   each-same one [] (x ∷ others) p q e = let z : _≡_ {A = ℕ} 0 1 = cc in absurd (omega arith)
   each-same one (c ∷ chunks) [] p q e = let z : _≡_ {A = ℕ} 0 1 = cc in absurd (omega arith)

@@ -15,7 +15,8 @@ use Rattle.packed_rows.specs.Entries.{streamOf}
 use Rattle.packed_rows.specs.Theorems.{StreamOf}
 use Rattle.packed_rows.proofs.Grammar.{reads-one}
 use Rattle.format.specs.Description.{Info, Song, Instrument, Pattern, Width, eight, sixteen, thirtyTwo, Sample, Envelope}
-use Rattle.format.specs.Encoding.{infoBytes, songBytes, instrumentBytes, patternBytes, flagsOf, frameBytes, sampleBytes, pointBytes, envelopeBytes, envelopesBytes}
+use Rattle.format.specs.Encoding.{infoBytes, songBytes, instrumentBytes, patternBytes, flagsOf, frameBytes, sampleBytes}
+use Rattle.format.specs.Encoding.{pointBytes, envelopeBytes, envelopesBytes}
 use Rattle.format.specs.WellFormed.{PatternFits}
 
 -- Two lists of one length at the front.
@@ -47,12 +48,15 @@ Delimited {A} Fits f = (x y : A) (s t : List ℕ) → Fits x → Fits y → f x 
 
 -- Pieces one behind the other: as many on both sides; or, where no piece is empty, all bytes.
 module _ {A : Type 0} {Fits : A → Type 0} (f : A → List ℕ) (delimited : Delimited Fits f) where
-  pub pieces-same : (xs ys : List A) (s t : List ℕ) → Every Fits xs → Every Fits ys → length xs ≡ length ys → joined (map f xs) ++ s ≡ joined (map f ys) ++ t → (xs ≡ ys) × (s ≡ t)
+  pub pieces-same : (xs ys : List A) (s t : List ℕ) → Every Fits xs → Every Fits ys → length xs ≡ length ys
+      → joined (map f xs) ++ s ≡ joined (map f ys) ++ t
+      → (xs ≡ ys) × (s ≡ t)
   pieces-same [] [] s t p q h e = (refl, e)
   pieces-same [] (y ∷ ys) s t p q h e = absurd (omega arith)
   pieces-same (x ∷ xs) [] s t p q h e = absurd (omega arith)
   pieces-same (x ∷ xs) (y ∷ ys) s t (also p ps) (also q qs) h e =
-      let first = delimited x y (joined (map f xs) ++ s) (joined (map f ys) ++ t) p q (sym (append-assoc (f x) (joined (map f xs)) s) ∙ e ∙ append-assoc (f y) (joined (map f ys)) t) in
+      let first = delimited x y (joined (map f xs) ++ s) (joined (map f ys) ++ t) p q
+      (sym (append-assoc (f x) (joined (map f xs)) s) ∙ e ∙ append-assoc (f y) (joined (map f ys)) t) in
       let rest = pieces-same xs ys s t ps qs (omega arith) (first .1) in
       (λ i. first .0 i ∷ rest .0 i, rest .1)
 
@@ -91,7 +95,8 @@ pub song-delimited : Delimited (λ s. length (s .name) ≡ 44) songBytes
 song-delimited a b s t p q e =
     let name = front-same (a .name) (b .name) (p ∙ sym q) (simp append-assoc at e) in
     let many = next16 (length (a .playlist)) (length (b .playlist)) (name .1) in
-    let playlist = pieces-same bytes16 bytes16-delimited (a .playlist) (b .playlist) s t (every-any (a .playlist)) (every-any (b .playlist)) (many .0) (many .1) in
+    let playlist = pieces-same bytes16 bytes16-delimited (a .playlist) (b .playlist) s t (every-any (a .playlist))
+    (every-any (b .playlist)) (many .0) (many .1) in
     (λ i. record { name = name .0 i; playlist = playlist .0 i }, playlist .1)
 
 pub song-some : (s : Song) → length (s .name) ≡ 44 → 0 < length (songBytes s)
@@ -108,7 +113,17 @@ instrument-delimited i j s t p q e =
     let long = next32 (i .loopLength) (j .loopLength) (start .1) in
     let panning = next16 (i .panning) (j .panning) (long .1) in
     let flags = next16 (i .flags) (j .flags) (panning .1) in (
-      λ k. record { name = name .0 k; sample = sample .0 k; volume = volume .0 k; rate = rate .0 k; loopStart = start .0 k; loopLength = long .0 k; panning = panning .0 k; flags = flags .0 k },
+      λ k.
+          record {
+            name = name .0 k;
+            sample = sample .0 k;
+            volume = volume .0 k;
+            rate = rate .0 k;
+            loopStart = start .0 k;
+            loopLength = long .0 k;
+            panning = panning .0 k;
+            flags = flags .0 k;
+          },
       flags .1,
     )
 
@@ -151,7 +166,8 @@ sample-delimited a b s t p q e =
     let flags = next32 (flagsOf (a .width)) (flagsOf (b .width)) e in
     let width : a .width ≡ b .width = sym (width-again (a .width)) ∙ ap widthOf (flags .0) ∙ width-again (b .width) in
     let many = next32 (length (a .frames)) (length (b .frames)) (flags .1) in
-    let frames = pieces-same (frameBytes (b .width)) (frame-delimited (b .width)) (a .frames) (b .frames) s t (every-any (a .frames)) (every-any (b .frames)) (many .0) (rw width at (many .1)) in
+    let frames = pieces-same (frameBytes (b .width)) (frame-delimited (b .width)) (a .frames) (b .frames) s t
+    (every-any (a .frames)) (every-any (b .frames)) (many .0) (rw width at (many .1)) in
     (λ i. record { width = width i; frames = frames .0 i }, frames .1)
 
 pub sample-some : (s : Sample) → Any s → 0 < length (sampleBytes s)
@@ -164,17 +180,33 @@ point-delimited a b s t p q e =
     let value = next16 (a .value) (b .value) (position .1) in
     (λ i. record { position = position .0 i; value = value .0 i }, value .1)
 
+abbrev sixBytes : Envelope → List ℕ
+sixBytes e = e .flags ∷ e .sections ∷ e .firstSustain ∷ e .loopFirst ∷ e .loopLast ∷ e .secondSustain ∷ []
+
 pub envelope-delimited : Delimited (λ e. length (e .points) ≡ 32) envelopeBytes
 envelope-delimited a b s t p q e =
     let instrument = next16 (a .instrument) (b .instrument) e in
-    let six = front-same (a .flags ∷ a .sections ∷ a .firstSustain ∷ a .loopFirst ∷ a .loopLast ∷ a .secondSustain ∷ []) (b .flags ∷ b .sections ∷ b .firstSustain ∷ b .loopFirst ∷ b .loopLast ∷ b .secondSustain ∷ []) refl (instrument .1) in
+    let six = front-same (sixBytes a) (sixBytes b) refl (instrument .1) in
     let points = pieces-same pointBytes point-delimited (a .points) (b .points) s t (every-any (a .points)) (every-any (b .points)) (p ∙ sym q) (six .1) in
-    let byte : (k : ℕ) → getD (a .flags ∷ a .sections ∷ a .firstSustain ∷ a .loopFirst ∷ a .loopLast ∷ a .secondSustain ∷ []) k 0 ≡ getD (b .flags ∷ b .sections ∷ b .firstSustain ∷ b .loopFirst ∷ b .loopLast ∷ b .secondSustain ∷ []) k 0 = λ k. ap (λ (l : List ℕ). getD l k 0) (six .0) in (
-      λ i. record { instrument = instrument .0 i; flags = byte 0 i; sections = byte 1 i; firstSustain = byte 2 i; loopFirst = byte 3 i; loopLast = byte 4 i; secondSustain = byte 5 i; points = points .0 i },
+    let byte : (k : ℕ) → getD (sixBytes a) k 0 ≡ getD (sixBytes b) k 0 =
+    λ k. ap (λ (l : List ℕ). getD l k 0) (six .0) in (
+      λ i.
+          record {
+            instrument = instrument .0 i;
+            flags = byte 0 i;
+            sections = byte 1 i;
+            firstSustain = byte 2 i;
+            loopFirst = byte 3 i;
+            loopLast = byte 4 i;
+            secondSustain = byte 5 i;
+            points = points .0 i;
+          },
       points .1,
     )
 
-pub envelopes-same : (xs ys : List Envelope) → Every (λ e. length (e .points) ≡ 32) xs → Every (λ e. length (e .points) ≡ 32) ys → envelopesBytes xs ≡ envelopesBytes ys → xs ≡ ys
+pub envelopes-same : (xs ys : List Envelope) → Every (λ e. length (e .points) ≡ 32) xs
+    → Every (λ e. length (e .points) ≡ 32) ys → envelopesBytes xs ≡ envelopesBytes ys
+    → xs ≡ ys
 envelopes-same xs ys p q e =
     let many = next16 (length xs) (length ys) e in
     pieces-same envelopeBytes envelope-delimited xs ys [] [] p q (many .0) (ap (λ (l : List ℕ). l ++ []) (many .1)) .0

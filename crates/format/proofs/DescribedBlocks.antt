@@ -47,7 +47,8 @@ module _ (m : List ℕ) (bytes : Bytes m) where
       ∙ ap (λ (rest : List ℕ). take (flagsOf w) (drop at m) ++ rest) behind
       ∙ take-append-drop (flagsOf w) (drop at m)
 
-  pub number-then : (w : Width) (at : ℕ) {rest : List ℕ} → at + flagsOf w ≤ length m → rest ≡ drop (at + flagsOf w) m → frameBytes w (numberAt w m at) ++ rest ≡ drop at m
+  pub number-then : (w : Width) (at : ℕ) {rest : List ℕ} → at + flagsOf w ≤ length m → rest ≡ drop (at + flagsOf w) m
+      → frameBytes w (numberAt w m at) ++ rest ≡ drop at m
   number-then w at h e = ap (λ (rest : List ℕ). frameBytes w (numberAt w m at) ++ rest) e ∙ number-next w at (at + flagsOf w) refl h
 
   -- It fits its bytes.
@@ -57,7 +58,8 @@ module _ (m : List ℕ) (bytes : Bytes m) where
   number-fits thirtyTwo at = number32-below m bytes at
 
 -- Pieces one behind the other, each at its place: what is read off them, encoded again, are the bytes from the first place to the last.
-module _ {A : Type 0} (encode : A → List ℕ) (read : ℕ → A) (m : List ℕ) (place : ℕ → ℕ) (n : ℕ) (next : (i : ℕ) → i < n → encode (read i) ++ drop (place (i + 1)) m ≡ drop (place i) m) where
+module _ {A : Type 0} (encode : A → List ℕ) (read : ℕ → A) (m : List ℕ) (place : ℕ → ℕ) (n : ℕ)
+    (next : (i : ℕ) → i < n → encode (read i) ++ drop (place (i + 1)) m ≡ drop (place i) m) where
   pieces-from : (left k : ℕ) → k + left ≡ n → joined (map encode (eachFrom read k left)) ++ drop (place n) m ≡ drop (place k) m
   pieces-from zero k e = ap (λ (i : ℕ). drop (place i) m) (omega arith)
   pieces-from (suc left) k e =
@@ -86,7 +88,13 @@ none-left m at h = sym (drop-of-length-le m {i = at} h)
 
 -- M9: INFO, of which the chunk is given.
 abbrev pub infoIn : List ℕ → Info
-infoIn info = record { instruments = number16 info 8; samples = number16 info 10; songs = number16 info 12; patterns = number16 info 14; tracks = number16 info 16 }
+infoIn info = record {
+  instruments = number16 info 8;
+  samples = number16 info 10;
+  songs = number16 info 12;
+  patterns = number16 info 14;
+  tracks = number16 info 16;
+}
 
 module _ (info : List ℕ) (bytes : Bytes info) (r : InfoRules info) where
   pub info-again : infoBytes (infoIn info) ≡ drop 8 info
@@ -202,7 +210,8 @@ module _ (tracks : ℕ) {block : List ℕ} (r : PatternRules tracks block) where
       many = rw (r .sound .count) (number-fits (r .front) front-bytes sixteen 0);
       packed = rw (← r .sound .bytes, ← r .packed) (number-fits (r .front) front-bytes thirtyTwo 2);
       sound = r .sound .sound;
-      fields = every-of (λ es. every-of (λ e h. bytes-rest (e .mask) (e .fields) (bytes-rest (e .track) (e .mask ∷ e .fields) h))) (stream-bytes (r .entries) .1 (subst Bytes (r .sound .bytes) (bytes-front (r .stream) (r .filler) rest-bytes)));
+      fields = every-of (λ es. every-of (λ e h. bytes-rest (e .mask) (e .fields) (bytes-rest (e .track) (e .mask ∷ e .fields) h)))
+          (stream-bytes (r .entries) .1 (subst Bytes (r .sound .bytes) (bytes-front (r .stream) (r .filler) rest-bytes)));
       filler = (rw (← r .sound .bytes) (r .odd), bytes-behind (r .stream) (r .filler) rest-bytes);
     }
 
@@ -211,11 +220,13 @@ abbrev pub patternsIn : (tracks : ℕ) {blocks : List (List ℕ)} → Every (Pat
 patternsIn tracks none = []
 patternsIn tracks (also r e) = patternIn tracks r ∷ patternsIn tracks e
 
-pub patterns-again : (tracks : ℕ) {blocks : List (List ℕ)} (e : Every (PatternRules tracks) blocks) → Every Bytes blocks → map patternBytes (patternsIn tracks e) ≡ blocks
+pub patterns-again : (tracks : ℕ) {blocks : List (List ℕ)} (e : Every (PatternRules tracks) blocks) → Every Bytes blocks
+    → map patternBytes (patternsIn tracks e) ≡ blocks
 patterns-again tracks none b = refl
 patterns-again tracks (also r e) b = rw (pattern-again tracks r (every-first b), patterns-again tracks e (every-rest b))
 
-pub patterns-fit : (tracks : ℕ) {blocks : List (List ℕ)} (e : Every (PatternRules tracks) blocks) → Every Bytes blocks → Every (PatternFits tracks) (patternsIn tracks e)
+pub patterns-fit : (tracks : ℕ) {blocks : List (List ℕ)} (e : Every (PatternRules tracks) blocks) → Every Bytes blocks
+    → Every (PatternFits tracks) (patternsIn tracks e)
 patterns-fit tracks none b = none
 patterns-fit tracks (also r e) b = also (pattern-fits tracks r (every-first b)) (patterns-fit tracks e (every-rest b))
 
@@ -287,7 +298,8 @@ envelopeIn block = record {
 module _ (instruments : ℕ) (ValueFits : ℕ → Type 0) (block : List ℕ) (bytes : Bytes block) (r : EnvelopeRules instruments ValueFits block) where
   point-next : (i : ℕ) → i < 32 → pointBytes (pointIn block i) ++ drop (8 + 4 * (i + 1)) block ≡ drop (8 + 4 * i) block
   point-next i h =
-      ap (λ (rest : List ℕ). bytes16 (number16 block (8 + 4 * i)) ++ rest) (number-next block bytes sixteen (10 + 4 * i) (8 + 4 * (i + 1)) (omega arith) (omega (arith, r .size)))
+      ap (λ (rest : List ℕ). bytes16 (number16 block (8 + 4 * i)) ++ rest)
+      (number-next block bytes sixteen (10 + 4 * i) (8 + 4 * (i + 1)) (omega arith) (omega (arith, r .size)))
       ∙ number-next block bytes sixteen (8 + 4 * i) (10 + 4 * i) (omega arith) (omega (arith, r .size))
 
   points-again : joined (map pointBytes (envelopeIn block .points)) ≡ drop 8 block
@@ -316,6 +328,7 @@ module _ (instruments : ℕ) (ValueFits : ℕ → Type 0) (block : List ℕ) (by
     loop = r .loop;
     secondSustain = r .secondSustain;
     many = refl;
-    points = every-each (pointIn block) 32 (λ i h. record { position = number-fits block bytes sixteen (8 + 4 * i); value = number-fits block bytes sixteen (10 + 4 * i) });
+    points = every-each (pointIn block) 32
+        (λ i h. record { position = number-fits block bytes sixteen (8 + 4 * i); value = number-fits block bytes sixteen (10 + 4 * i) });
     values = λ i h. subst ValueFits (value-told i (omega (arith, r .sections))) (r .values i h);
   }

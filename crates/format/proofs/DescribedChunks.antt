@@ -44,7 +44,9 @@ module _ {A : Type 0} (read : List ℕ → A) {R : List ℕ → Type 0} {blocks 
 abbrev pub envelopesIn : List ℕ → List Envelope
 envelopesIn chunk = map envelopeIn (blocksOf (number16 chunk 8) 136 (drop 10 chunk))
 
-every-sized : {size : ℕ} {P : List ℕ → Type 0} → ((block : List ℕ) → P block → length block ≡ size) → {blocks : List (List ℕ)} → Every P blocks → Blocks (length blocks) size blocks
+every-sized : {size : ℕ} {P : List ℕ → Type 0} → ((block : List ℕ) → P block → length block ≡ size) → {blocks : List (List ℕ)}
+    → Every P blocks
+    → Blocks (length blocks) size blocks
 every-sized h none = no-block
 every-sized h (also {x = block} p e) = one-block (h block p) (every-sized h e)
 
@@ -89,4 +91,5 @@ module _ (chunk : List ℕ) (bytes : Bytes chunk) (c : ChunkBytes chunk) where
 
   pub chunk-again : {letters held : List ℕ} → letters ≡ take 4 chunk → held ≡ drop 8 chunk → letters ++ (bytes32 (length held) ++ held) ≡ chunk
   chunk-again d e =
-      rw (d, e, data-length) (ap (λ (rest : List ℕ). take 4 chunk ++ rest) (number-then chunk bytes thirtyTwo 4 (omega (arith, c .size)) refl) ∙ take-append-drop 4 chunk)
+      rw (d, e, data-length)
+      (ap (λ (rest : List ℕ). take 4 chunk ++ rest) (number-then chunk bytes thirtyTwo 4 (omega (arith, c .size)) refl) ∙ take-append-drop 4 chunk)

@@ -24,12 +24,17 @@ use Rattle.acceptance.proofs.Holding.{false-never}
 use Rattle.acceptance.proofs.Identifiers.{identifierOf, chunk-named, covered-holds, covered-letters}
 use Rattle.acceptance.proofs.Acceptance.{accepted-exactly}
 use Rattle.acceptance.proofs.Recorded.{among-within}
-use Rattle.format.specs.Description.{Info, Song, Instrument, Pattern, eight, sixteen, Sample, Chunk, NAME, INFO, SONG, INST, PATT, SMPL, VENV, PENV, Other, Description}
+use Rattle.format.specs.Description.{Info, Song, Instrument, Pattern, eight, sixteen, Sample, Chunk, NAME, INFO, SONG}
+use Rattle.format.specs.Description.{INST, PATT, SMPL, VENV, PENV, Other, Description}
 use Rattle.format.specs.Encoding.{songBytes, instrumentBytes, patternBytes, sampleBytes, identifier, contents, chunkBytes, headerBytes, encoded}
 use Rattle.format.specs.WellFormed.{ManyBytes, EnvelopesFit, OtherFits, In, Once, InfoFirst, WellFormed}
-use Rattle.format.proofs.DescribedBlocks.{every-each, number-then, number-fits, infoIn, info-again, info-fits, songIn, song-again, song-fits, instrumentIn, instrument-again, instrument-fits, patternsIn, patterns-again, patterns-fit, sampleIn, sample-again, sample-fits}
+use Rattle.format.proofs.DescribedBlocks.{every-each, number-then, number-fits, infoIn, info-again, info-fits, songIn}
+use Rattle.format.proofs.DescribedBlocks.{song-again, song-fits, instrumentIn, instrument-again, instrument-fits}
+use Rattle.format.proofs.DescribedBlocks.{patternsIn, patterns-again, patterns-fit, sampleIn, sample-again}
+use Rattle.format.proofs.DescribedBlocks.{sample-fits}
 use Rattle.format.proofs.ChunksIn.{in-within, within-in, letters-once}
-use Rattle.format.proofs.DescribedChunks.{map-again, behind-front, blocks-bytes, all-again, all-fit, envelopesIn, envelopes-again, envelopes-fit, data-fits, chunk-again}
+use Rattle.format.proofs.DescribedChunks.{map-again, behind-front, blocks-bytes, all-again, all-fit, envelopesIn}
+use Rattle.format.proofs.DescribedChunks.{envelopes-again, envelopes-fit, data-fits, chunk-again}
 
 module _ (m : List ℕ) (bytes : Bytes m) (r : Rules m) where
   abbrev rules : ChunkRules m (r .header) (r .chunks)
@@ -54,7 +59,9 @@ module _ (m : List ℕ) (bytes : Bytes m) (r : Rules m) where
 
   -- M6: a covered chunk is the only one of its letters.
   only-chunk : {letters : List ℕ} → Covered letters → {one two : List ℕ} → Among (r .chunks) letters one → Among (r .chunks) letters two → one ≡ two
-  only-chunk {letters} covers a b = only-one (λ chunk. take 4 chunk ≡ letters) (rules .once letters covers) (among-within a) (among-within b) (a .named) (b .named)
+  only-chunk {letters} covers a b =
+      only-one (λ chunk. take 4 chunk ≡ letters) (rules .once letters covers) (among-within a) (among-within b) (a .named)
+      (b .named)
 
   -- What the mandatory chunks hold.
   abbrev info : Info
@@ -157,10 +164,14 @@ module _ (m : List ℕ) (bytes : Bytes m) (r : Rules m) where
     holds : contents c ≡ drop 8 chunk
     held : Held c
 
-  blocks-hold : {letters : List ℕ} (covers : Covered letters) {one chunk : List ℕ} → Among (r .chunks) letters one → Among (r .chunks) letters chunk → {count : ℕ} {blocks again : List (List ℕ)} → Filled 8 one count blocks → again ≡ blocks → joined again ≡ drop 8 chunk
+  blocks-hold : {letters : List ℕ} (covers : Covered letters) {one chunk : List ℕ} → Among (r .chunks) letters one
+      → Among (r .chunks) letters chunk → {count : ℕ} {blocks again : List (List ℕ)} → Filled 8 one count blocks
+      → again ≡ blocks
+      → joined again ≡ drop 8 chunk
   blocks-hold covers there a filled e = ap joined e ∙ behind-front filled ∙ ap (drop 8) (only-chunk covers there a)
 
-  covered-described : {letters : List ℕ} (covers : Covered letters) {chunk : List ℕ} → Among (r .chunks) letters chunk → Described chunk (coveredAs covers chunk)
+  covered-described : {letters : List ℕ} (covers : Covered letters) {chunk : List ℕ} → Among (r .chunks) letters chunk
+      → Described chunk (coveredAs covers chunk)
   covered-described Covered.name {chunk} a = record {
     letters = sym (a .named);
     holds = refl;
@@ -171,10 +182,26 @@ module _ (m : List ℕ) (bytes : Bytes m) (r : Rules m) where
     holds = info-again (r .info) (among-bytes (r .infoThere)) (rules .info (r .info) (r .infoThere)) ∙ ap (drop 8) (only-chunk Covered.info (r .infoThere) a);
     held = tt;
   }
-  covered-described Covered.song a = record { letters = sym (a .named); holds = blocks-hold Covered.song (r .songThere) a (content .songsFill) songs-again; held = tt }
-  covered-described Covered.inst a = record { letters = sym (a .named); holds = blocks-hold Covered.inst (r .instThere) a (content .instrumentsFill) instruments-again; held = tt }
-  covered-described Covered.patt a = record { letters = sym (a .named); holds = blocks-hold Covered.patt (r .pattThere) a (content .patternsFill) patterns-are; held = tt }
-  covered-described Covered.smpl a = record { letters = sym (a .named); holds = blocks-hold Covered.smpl (r .smplThere) a (content .samplesFill) samples-again; held = tt }
+  covered-described Covered.song a = record {
+    letters = sym (a .named);
+    holds = blocks-hold Covered.song (r .songThere) a (content .songsFill) songs-again;
+    held = tt;
+  }
+  covered-described Covered.inst a = record {
+    letters = sym (a .named);
+    holds = blocks-hold Covered.inst (r .instThere) a (content .instrumentsFill) instruments-again;
+    held = tt;
+  }
+  covered-described Covered.patt a = record {
+    letters = sym (a .named);
+    holds = blocks-hold Covered.patt (r .pattThere) a (content .patternsFill) patterns-are;
+    held = tt;
+  }
+  covered-described Covered.smpl a = record {
+    letters = sym (a .named);
+    holds = blocks-hold Covered.smpl (r .smplThere) a (content .samplesFill) samples-again;
+    held = tt;
+  }
   covered-described Covered.venv {chunk} a =
       let envelopes = content .volumeEnvelopes chunk a in
       record { letters = sym (a .named); holds = envelopes-again _ _ chunk (among-bytes a) envelopes; held = envelopes-fit _ _ chunk (among-bytes a) envelopes }
@@ -185,7 +212,8 @@ module _ (m : List ℕ) (bytes : Bytes m) (r : Rules m) where
   other-fits : (chunk : List ℕ) → Bytes chunk → ChunkBytes chunk → covered (number32 chunk 0) ≡ false → OtherFits (take 4 chunk) (drop 8 chunk)
   other-fits chunk below c e = record {
     four = length-take-le 4 chunk (omega (arith, c .size));
-    capitals = subst (Every (λ letter. (65 ≤ letter) × (letter ≤ 90))) (bytes-part chunk 4 0 (omega (arith, c .size))) (every-each (byteAt chunk) 4 (c .letters));
+    capitals = subst (Every (λ letter. (65 ≤ letter) × (letter ≤ 90))) (bytes-part chunk 4 0 (omega (arith, c .size)))
+        (every-each (byteAt chunk) 4 (c .letters));
     notCovered = λ covers. false-never (sym e ∙ ap covered (chunk-named c covers .1 refl) ∙ covered-holds covers);
     bytes = bytes-drop 8 chunk below;
   }
@@ -202,11 +230,14 @@ module _ (m : List ℕ) (bytes : Bytes m) (r : Rules m) where
       go chunk w false e =
           let other : Chunk = Other (take 4 chunk) (drop 8 chunk) in
           let is : describe chunk ≡ other = ap (λ (b : Bool). cond b (coveredBy (number32 chunk 0) chunk) other) e in
-          subst (Described chunk) (sym is) (record { letters = refl; holds = refl; held = other-fits chunk (within-every chunks-bytes w) (within-every (rules .whole) w) e })
+          subst (Described chunk) (sym is)
+          (record { letters = refl; holds = refl; held = other-fits chunk (within-every chunks-bytes w) (within-every (rules .whole) w) e })
 
   -- Its encoding is the chunk.
   chunks-again : Every (λ chunk. chunkBytes (describe chunk) ≡ chunk) (r .chunks)
-  chunks-again = every-of (λ chunk h. chunk-again chunk (h .0 .0) (h .0 .1) (h .1 .letters) (h .1 .holds)) (every-both (every-both chunks-bytes (rules .whole)) all-described)
+  chunks-again =
+      every-of (λ chunk h. chunk-again chunk (h .0 .0) (h .0 .1) (h .1 .letters) (h .1 .holds))
+      (every-both (every-both chunks-bytes (rules .whole)) all-described)
 
   -- The description.
   abbrev pub description : Description
@@ -245,7 +276,8 @@ module _ (m : List ℕ) (bytes : Bytes m) (r : Rules m) where
   there : {letters : List ℕ} (covers : Covered letters) {chunk : List ℕ} → Among (r .chunks) letters chunk → In (description .chunks) (coveredAs covers chunk)
   there covers a = subst (In (description .chunks)) (by-letters covers a) (within-in (within-mapped describe (among-within a)))
 
-  chunks-split : (before after : List Chunk) (c : Chunk) → description .chunks ≡ before ++ (c ∷ after) → r .chunks ≡ map chunkBytes before ++ (chunkBytes c ∷ map chunkBytes after)
+  chunks-split : (before after : List Chunk) (c : Chunk) → description .chunks ≡ before ++ (c ∷ after)
+      → r .chunks ≡ map chunkBytes before ++ (chunkBytes c ∷ map chunkBytes after)
   chunks-split before after c e = sym encodings ∙ ap (map chunkBytes) e ∙ map-append chunkBytes before (c ∷ after)
 
   -- M6.
@@ -271,12 +303,18 @@ module _ (m : List ℕ) (bytes : Bytes m) (r : Rules m) where
       among = record {
         before = found .1 .before;
         after = found .1 .after ++ (chunkBytes c ∷ map chunkBytes after);
-        splits = chunks-split before after c e ∙ ap (λ (l : List (List ℕ)). l ++ (chunkBytes c ∷ map chunkBytes after)) (found .1 .splits) ∙ append-assoc (found .1 .before) (found .0 ∷ found .1 .after) (chunkBytes c ∷ map chunkBytes after);
+        splits =
+            chunks-split before after c e
+            ∙ ap (λ (l : List (List ℕ)). l ++ (chunkBytes c ∷ map chunkBytes after)) (found .1 .splits)
+            ∙ append-assoc (found .1 .before) (found .0 ∷ found .1 .after) (chunkBytes c ∷ map chunkBytes after);
         named = found .1 .named;
       }
 
       in-before : In before (INFO info)
-      in-before = subst (λ (l : List Chunk). In l (INFO info)) back (subst (In (map describe (map chunkBytes before))) (by-letters Covered.info among) (within-in (within-mapped describe (among-within (found .1)))))
+      in-before =
+          subst (λ (l : List Chunk). In l (INFO info)) back
+          (subst (In (map describe (map chunkBytes before))) (by-letters Covered.info among)
+          (within-in (within-mapped describe (among-within (found .1)))))
 
   -- The blocks are as many as the patterns and instruments.
   pattern-count : length patterns ≡ length (content .patterns)
@@ -291,7 +329,8 @@ module _ (m : List ℕ) (bytes : Bytes m) (r : Rules m) where
     version = rules .version;
     revision = rules .revision;
     reserved = number-fits (r .header) header-bytes sixteen 6;
-    lengths = every-map describe (r .chunks) .1 (every-of (λ chunk h. data-fits chunk (h .0 .0) (h .0 .1) (h .1 .holds)) (every-both (every-both chunks-bytes (rules .whole)) all-described));
+    lengths = every-map describe (r .chunks) .1
+        (every-of (λ chunk h. data-fits chunk (h .0 .0) (h .0 .1) (h .1 .holds)) (every-both (every-both chunks-bytes (rules .whole)) all-described));
     once = chunks-once;
     infoFirst = info-first;
     others = λ letters held i. within-every all-held (in-within i);

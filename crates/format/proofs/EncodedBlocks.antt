@@ -24,17 +24,25 @@ use Rattle.acceptance.specs.Rules.{Filled, InfoRules, SongRules, InstrumentRule
 use Rattle.acceptance.proofs.Locating.{bytes16-number}
 use Rattle.repacking.proofs.PackedBytes.{EntriesBytes, stream-bytes}
 use Rattle.format.specs.Description.{Info, Song, Instrument, Pattern, Width, eight, sixteen, thirtyTwo, Sample, Point, Envelope, INFO}
-use Rattle.format.specs.Encoding.{infoBytes, songBytes, instrumentBytes, patternBytes, flagsOf, frameBytes, sampleBytes, pointBytes, envelopeBytes, envelopesBytes, chunkBytes}
-use Rattle.format.specs.WellFormed.{InfoFits, SongFits, InstrumentFits, PatternFits, FrameFits, SampleFits, PointFits, EnvelopeFits, EnvelopesFit, noSample, framesOf}
+use Rattle.format.specs.Encoding.{infoBytes, songBytes, instrumentBytes, patternBytes, flagsOf, frameBytes, sampleBytes}
+use Rattle.format.specs.Encoding.{pointBytes, envelopeBytes, envelopesBytes, chunkBytes}
+use Rattle.format.specs.WellFormed.{InfoFits, SongFits, InstrumentFits, PatternFits, FrameFits, SampleFits, PointFits}
+use Rattle.format.specs.WellFormed.{EnvelopeFits, EnvelopesFit, noSample, framesOf}
 use Rattle.format.proofs.Stored.{number16-past}
-use Rattle.format.proofs.ReadingBlocks.{info-read, song-size, song-length, song-entry, instrument-size, instrument-sample, instrument-volume, instrument-loop-start, instrument-loop-length, instrument-panning, instrument-flags, sample-size, sample-flags, sample-frames, envelope-size, envelope-instrument, envelope-flags, envelope-sections, envelope-first-sustain, envelope-loop-first, envelope-loop-last, envelope-second-sustain, envelope-value}
+use Rattle.format.proofs.ReadingBlocks.{info-read, song-size, song-length, song-entry, instrument-size}
+use Rattle.format.proofs.ReadingBlocks.{instrument-sample, instrument-volume, instrument-loop-start}
+use Rattle.format.proofs.ReadingBlocks.{instrument-loop-length, instrument-panning, instrument-flags, sample-size}
+use Rattle.format.proofs.ReadingBlocks.{sample-flags, sample-frames, envelope-size, envelope-instrument}
+use Rattle.format.proofs.ReadingBlocks.{envelope-flags, envelope-sections, envelope-first-sustain, envelope-loop-first}
+use Rattle.format.proofs.ReadingBlocks.{envelope-loop-last, envelope-second-sustain, envelope-value}
 
 -- Records of which the encoding of each is bytes.
 pub all-bytes : {A : Type 0} {P : A → Type 0} (f : A → List ℕ) → ((x : A) → P x → Bytes (f x)) → (xs : List A) → Every P xs → Bytes (joined (map f xs))
 all-bytes f each xs e = bytes-joined (map f xs) .0 (every-map f xs .1 (every-of each e))
 
 -- Blocks behind their front fill a chunk.
-pub filled-by : (front : List ℕ) (n : ℕ) → length front ≡ n → (blocks : List (List ℕ)) (count : ℕ) → length blocks ≡ count → Filled n (front ++ joined blocks) count blocks
+pub filled-by : (front : List ℕ) (n : ℕ) → length front ≡ n → (blocks : List (List ℕ)) (count : ℕ) → length blocks ≡ count
+    → Filled n (front ++ joined blocks) count blocks
 filled-by front n long blocks count many = record {
   fronts = omega (arith, long, length-append front (joined blocks));
   bytes = rw (take-at front (joined blocks) n long) refl;
@@ -126,7 +134,8 @@ module _ (tracks : ℕ) where
   entries-bytes few (e ∷ es) sound (also field fields) =
       let parts = both-true _ _ sound in
       let one = sound-facts tracks e (parts .0) in
-      also (bytes-cons (e .track) (e .mask ∷ e .fields) (omega (arith, one .high)) (bytes-cons (e .mask) (e .fields) (omega (arith, one .small)) field)) (entries-bytes few es (parts .1) fields)
+      also (bytes-cons (e .track) (e .mask ∷ e .fields) (omega (arith, one .high)) (bytes-cons (e .mask) (e .fields) (omega (arith, one .small)) field))
+      (entries-bytes few es (parts .1) fields)
 
   rows-bytes : tracks ≤ 254 → (rows : List (List Entry)) → allSound tracks rows ≡ true → Every (Every (λ e. Bytes (e .fields))) rows → Every EntriesBytes rows
   rows-bytes few [] sound fields = none
@@ -208,7 +217,8 @@ module _ (instruments : ℕ) (ValueFits : ℕ → Type 0) where
       flags = rw (envelope-flags e (fits .many)) (fits .flags);
       sections = rw (envelope-sections e (fits .many)) (fits .sections);
       firstSustain = rw (envelope-flags e (fits .many), envelope-first-sustain e (fits .many), envelope-sections e (fits .many)) (fits .firstSustain);
-      loop = rw (envelope-flags e (fits .many), envelope-loop-first e (fits .many), envelope-loop-last e (fits .many), envelope-sections e (fits .many)) (fits .loop);
+      loop = rw (envelope-flags e (fits .many), envelope-loop-first e (fits .many), envelope-loop-last e (fits .many), envelope-sections e (fits .many))
+          (fits .loop);
       secondSustain = rw (envelope-flags e (fits .many), envelope-second-sustain e (fits .many), envelope-sections e (fits .many)) (fits .secondSustain);
       values = λ i h. (
           let used : i ≤ e .sections = rw (envelope-sections e (fits .many)) at h in

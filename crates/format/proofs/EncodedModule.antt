@@ -19,19 +19,23 @@ use Rattle.numbers.specs.Numbers.{byteAt, Bytes, number32, bytes32}
 use Rattle.packed_rows.specs.Theorems.{every}
 use Rattle.packed_rows.proofs.Reading.{both-true}
 use Rattle.module.specs.Verdicts.{moduleVerdict}
-use Rattle.acceptance.specs.Rules.{ChunkBytes, Covered, NeedsInfo, Among, AtMostOnce, BehindInfo, InfoRules, Filled, EnvelopesRules, VolumeFits, PanningValueFits, Content, ChunkRules, Rules}
+use Rattle.acceptance.specs.Rules.{ChunkBytes, Covered, NeedsInfo, Among, AtMostOnce, BehindInfo, InfoRules, Filled}
+use Rattle.acceptance.specs.Rules.{EnvelopesRules, VolumeFits, PanningValueFits, Content, ChunkRules, Rules}
 use Rattle.acceptance.proofs.Locating.{byteAt-front, bytes32-number}
 use Rattle.acceptance.proofs.Holding.{leb-says, and-says}
 use Rattle.acceptance.proofs.Identifiers.{identifierOf}
 use Rattle.acceptance.proofs.Acceptance.{accepted-exactly}
 use Rattle.acceptance.proofs.Recorded.{among-within, within-among}
 use Rattle.format.specs.Description.{Chunk, NAME, INFO, SONG, INST, PATT, SMPL, VENV, PENV, Other, Description}
-use Rattle.format.specs.Encoding.{songBytes, instrumentBytes, patternBytes, sampleBytes, envelopesBytes, identifier, contents, chunkBytes, headerBytes, encoded}
+use Rattle.format.specs.Encoding.{songBytes, instrumentBytes, patternBytes, sampleBytes, envelopesBytes, identifier}
+use Rattle.format.specs.Encoding.{contents, chunkBytes, headerBytes, encoded}
 use Rattle.format.specs.WellFormed.{In, Fits32, WellFormed}
 use Rattle.format.proofs.ReadingBlocks.{info-read}
 use Rattle.format.proofs.ChunksIn.{in-within, within-in, every-in, in-every, once-letters, in-once}
 use Rattle.format.proofs.ChunkKinds.{holder, held-as, kindBy, kind-covered}
-use Rattle.format.proofs.EncodedBlocks.{all-bytes, filled-by, info-at, info-bytes, info-rules, song-bytes, song-rules, instrument-bytes, instrument-rules, pattern-bytes, pattern-rules, sample-bytes, sample-rules, envelopes-bytes, envelopes-rules}
+use Rattle.format.proofs.EncodedBlocks.{all-bytes, filled-by, info-at, info-bytes, info-rules, song-bytes, song-rules}
+use Rattle.format.proofs.EncodedBlocks.{instrument-bytes, instrument-rules, pattern-bytes, pattern-rules, sample-bytes}
+use Rattle.format.proofs.EncodedBlocks.{sample-rules, envelopes-bytes, envelopes-rules}
 
 -- M5: an identifier is four letters A to Z.
 pub record Capitals (letters : List ℕ) : Type 0 where
@@ -64,7 +68,9 @@ module _ (c : Chunk) (letters : Capitals (identifier c)) where
   unfolding byteAt
   chunk-whole = record {
     size = omega (arith, chunk-length, letters .four, length-append (identifier c) (bytes32 (length (contents c)) ++ contents c));
-    letters = λ i h. rw (byteAt-front (identifier c) (bytes32 (length (contents c)) ++ contents c) i (omega (arith, letters .four))) (every-at i 0 (omega (arith, letters .four)) (letters .each));
+    letters = λ i h.
+        rw (byteAt-front (identifier c) (bytes32 (length (contents c)) ++ contents c) i (omega (arith, letters .four)))
+        (every-at i 0 (omega (arith, letters .four)) (letters .each));
   }
 
   chunk-bytes : Fits32 (length (contents c)) → Bytes (contents c) → Bytes (chunkBytes c)
@@ -100,18 +106,23 @@ module _ (d : Description) (w : WellFormed d) where
   few-instruments = omega (arith, w .lists .instrumentCount, w .lists .infoFits .instruments)
 
   -- What a chunk holds is bytes: of the mandatory ones, which are there once, what the description has of them.
-  same-bytes : {c e : Chunk} → In (d .chunks) c → In (d .chunks) e → Covered (identifier c) → identifier c ≡ identifier e → Bytes (contents e) → Bytes (contents c)
+  same-bytes : {c e : Chunk} → In (d .chunks) c → In (d .chunks) e → Covered (identifier c) → identifier c ≡ identifier e
+      → Bytes (contents e)
+      → Bytes (contents c)
   same-bytes i j covers letters = subst (λ (c : Chunk). Bytes (contents c)) (sym (in-once (w .once) i j covers letters))
 
   held-bytes : (c : Chunk) → In (d .chunks) c → Bytes (contents c)
   held-bytes (NAME held) i = w .name held i .1
   held-bytes (INFO held) i = same-bytes i (w .infoThere) Covered.info refl (info-bytes (w .info) (w .lists .infoFits))
   held-bytes (SONG held) i =
-      same-bytes i (w .songsThere) Covered.song refl (all-bytes songBytes (λ s h. song-bytes (length (w .patterns)) s h few-patterns) (w .songs) (w .lists .songsFit))
+      same-bytes i (w .songsThere) Covered.song refl
+      (all-bytes songBytes (λ s h. song-bytes (length (w .patterns)) s h few-patterns) (w .songs) (w .lists .songsFit))
   held-bytes (INST held) i =
-      same-bytes i (w .instrumentsThere) Covered.inst refl (all-bytes instrumentBytes (λ n h. instrument-bytes (w .samples) n h few-samples) (w .instruments) (w .lists .instrumentsFit))
+      same-bytes i (w .instrumentsThere) Covered.inst refl
+      (all-bytes instrumentBytes (λ n h. instrument-bytes (w .samples) n h few-samples) (w .instruments) (w .lists .instrumentsFit))
   held-bytes (PATT held) i =
-      same-bytes i (w .patternsThere) Covered.patt refl (all-bytes patternBytes (λ p h. pattern-bytes (w .info .tracks) p h (w .lists .infoFits .tracks .1)) (w .patterns) (w .lists .patternsFit))
+      same-bytes i (w .patternsThere) Covered.patt refl
+      (all-bytes patternBytes (λ p h. pattern-bytes (w .info .tracks) p h (w .lists .infoFits .tracks .1)) (w .patterns) (w .lists .patternsFit))
   held-bytes (SMPL held) i = same-bytes i (w .samplesThere) Covered.smpl refl (all-bytes sampleBytes sample-bytes (w .samples) (w .lists .samplesFit))
   held-bytes (VENV held) i = envelopes-bytes (length (w .instruments)) _ held (w .volumeEnvelopes held i) few-instruments
   held-bytes (PENV held) i = envelopes-bytes (length (w .instruments)) _ held (w .panningEnvelopes held i) few-instruments
@@ -140,7 +151,8 @@ module _ (d : Description) (w : WellFormed d) where
   letters-of : (c : Chunk) → In (d .chunks) c → {chunk letters : List ℕ} → chunk ≡ chunkBytes c → take 4 chunk ≡ letters → identifier c ≡ letters
   letters-of c i same named = sym (chunk-named c (chunk-letters c i)) ∙ ap (take 4) (sym same) ∙ named
 
-  pub among-in : (letters chunk : List ℕ) → Among (map chunkBytes (d .chunks)) letters chunk → (c : Chunk) × In (d .chunks) c × (identifier c ≡ letters) × (chunk ≡ chunkBytes c)
+  pub among-in : (letters chunk : List ℕ) → Among (map chunkBytes (d .chunks)) letters chunk
+      → (c : Chunk) × In (d .chunks) c × (identifier c ≡ letters) × (chunk ≡ chunkBytes c)
   among-in letters chunk a =
       let (c, within, same) = mapped-within chunkBytes (among-within a) in
       (c, within-in within, letters-of c (within-in within) same (a .named), same)
@@ -150,7 +162,9 @@ module _ (d : Description) (w : WellFormed d) where
   Encodes {A} make chunk = (held : A) × In (d .chunks) (make held) × (chunk ≡ chunkBytes (make held))
 
   -- So a chunk with covered letters is what they name.
-  pub among-held : {letters : List ℕ} (covers : Covered letters) (chunk : List ℕ) → Among (map chunkBytes (d .chunks)) letters chunk → Encodes (holder (kindBy (identifierOf covers))) chunk
+  pub among-held : {letters : List ℕ} (covers : Covered letters) (chunk : List ℕ)
+      → Among (map chunkBytes (d .chunks)) letters chunk
+      → Encodes (holder (kindBy (identifierOf covers))) chunk
   among-held {letters} covers chunk a =
       let (c, i, letters-are, same) = among-in letters chunk a in
       let whole = chunk-whole c (chunk-letters c i) in
@@ -194,11 +208,16 @@ module _ (d : Description) (w : WellFormed d) where
   }
 
   -- B1 to B6, V1 to V7: the blocks of each chunk, as many as INFO says.
-  fills : {A : Type 0} (letters : List ℕ) → length letters ≡ 4 → (f : A → List ℕ) (xs : List A) {count : ℕ} → length xs ≡ count → Filled 8 (letters ++ (bytes32 (length (joined (map f xs))) ++ joined (map f xs))) count (map f xs)
+  fills : {A : Type 0} (letters : List ℕ) → length letters ≡ 4 → (f : A → List ℕ) (xs : List A) {count : ℕ}
+      → length xs ≡ count
+      → Filled 8 (letters ++ (bytes32 (length (joined (map f xs))) ++ joined (map f xs))) count (map f xs)
   fills letters four f xs many =
-      rw append-assoc at (filled-by (letters ++ bytes32 (length (joined (map f xs)))) 8 (length-append letters _ ∙ omega (arith, four)) (map f xs) _ (length-map xs f ∙ many))
+      rw append-assoc
+      at (filled-by (letters ++ bytes32 (length (joined (map f xs)))) 8 (length-append letters _ ∙ omega (arith, four)) (map f xs) _ (length-map xs f ∙ many))
 
-  encoded-content : Content (headerBytes d) (map chunkBytes (d .chunks)) (chunkBytes (INFO (w .info))) (chunkBytes (SONG (w .songs))) (chunkBytes (INST (w .instruments))) (chunkBytes (PATT (w .patterns))) (chunkBytes (SMPL (w .samples)))
+  encoded-content : Content (headerBytes d) (map chunkBytes (d .chunks)) (chunkBytes (INFO (w .info)))
+      (chunkBytes (SONG (w .songs))) (chunkBytes (INST (w .instruments))) (chunkBytes (PATT (w .patterns)))
+      (chunkBytes (SMPL (w .samples)))
   unfolding byteAt
   encoded-content = record {
     songs = map songBytes (w .songs);
@@ -206,12 +225,15 @@ module _ (d : Description) (w : WellFormed d) where
     patterns = map patternBytes (w .patterns);
     samples = map sampleBytes (w .samples);
     songsFill = fills songLetters refl songBytes (w .songs) (w .lists .songCount ∙ sym (info-at (w .info) 4 ∙ info-read (w .info) .songs));
-    instrumentsFill = fills instLetters refl instrumentBytes (w .instruments) (w .lists .instrumentCount ∙ sym (info-at (w .info) 0 ∙ info-read (w .info) .instruments));
+    instrumentsFill = fills instLetters refl instrumentBytes (w .instruments)
+        (w .lists .instrumentCount ∙ sym (info-at (w .info) 0 ∙ info-read (w .info) .instruments));
     patternsFill = fills pattLetters refl patternBytes (w .patterns) (w .lists .patternCount ∙ sym (info-at (w .info) 6 ∙ info-read (w .info) .patterns));
     samplesFill = fills smplLetters refl sampleBytes (w .samples) (w .lists .sampleCount ∙ sym (info-at (w .info) 2 ∙ info-read (w .info) .samples));
-    songRules = rw (length-map (w .patterns) patternBytes) (every-map songBytes (w .songs) .1 (every-of (song-rules (length (w .patterns))) (w .lists .songsFit)));
+    songRules = rw (length-map (w .patterns) patternBytes)
+        (every-map songBytes (w .songs) .1 (every-of (song-rules (length (w .patterns))) (w .lists .songsFit)));
     instrumentRules = every-map instrumentBytes (w .instruments) .1 (every-of (instrument-rules (w .samples)) (w .lists .instrumentsFit));
-    patternRules = rw (info-at (w .info) 8 ∙ info-read (w .info) .tracks) (every-map patternBytes (w .patterns) .1 (every-of (pattern-rules (w .info .tracks)) (w .lists .patternsFit)));
+    patternRules = rw (info-at (w .info) 8 ∙ info-read (w .info) .tracks)
+        (every-map patternBytes (w .patterns) .1 (every-of (pattern-rules (w .info .tracks)) (w .lists .patternsFit)));
     sampleRules = every-map sampleBytes (w .samples) .1 (every-of sample-rules (w .lists .samplesFit));
     volumeEnvelopes = λ chunk a. (
         let (held, i, same) = among-held Covered.venv chunk a in
@@ -221,7 +243,8 @@ module _ (d : Description) (w : WellFormed d) where
     panningEnvelopes = λ chunk a. (
         let (held, i, same) = among-held Covered.penv chunk a in
         let fits = rw (← length-map (w .instruments) instrumentBytes) at (w .panningEnvelopes held i) in
-        subst (EnvelopesRules _ (PanningValueFits (d .version))) (sym same) (envelopes-rules _ (PanningValueFits (d .version)) held fits (penvLetters ++ bytes32 (length (envelopesBytes held))) refl)
+        subst (EnvelopesRules _ (PanningValueFits (d .version))) (sym same)
+        (envelopes-rules _ (PanningValueFits (d .version)) held fits (penvLetters ++ bytes32 (length (envelopesBytes held))) refl)
         );
   }
 

@@ -42,27 +42,39 @@ pub record Listed (m : List ℕ) (l : Layout) (thing : Thing) {A : Type 0} (byte
   pub block : (i : ℕ) (other : A) → i < length xs → PartAt m (blockAt m (kindOf thing) (chunkOf l thing) i) (bytes (getD xs i other))
 
 -- So do the records of a chunk that stands in the module: behind its front, one behind the other.
-module _ {m : List ℕ} {l : Layout} (thing : Thing) {A : Type 0} (bytes : A → List ℕ) {Fits : A → Type 0} (sized : (x : A) → Fits x → Sized (kindOf thing) (bytes x)) where
-  pub chunk-listed : (front : List ℕ) (xs : List A) → Stands m (chunkOf l thing) (front ++ joined (map bytes xs)) → firstBlock (kindOf thing) (chunkOf l thing) ≡ chunkOf l thing .at + length front → countOf m l thing ≡ length xs → Every Fits xs → Listed m l thing bytes Fits xs
+module _ {m : List ℕ} {l : Layout} (thing : Thing) {A : Type 0} (bytes : A → List ℕ) {Fits : A → Type 0}
+    (sized : (x : A) → Fits x → Sized (kindOf thing) (bytes x)) where
+  pub chunk-listed : (front : List ℕ) (xs : List A) → Stands m (chunkOf l thing) (front ++ joined (map bytes xs))
+      → firstBlock (kindOf thing) (chunkOf l thing) ≡ chunkOf l thing .at + length front → countOf m l thing ≡ length xs
+      → Every Fits xs
+      → Listed m l thing bytes Fits xs
   chunk-listed front xs s first count fits = record {
     fits = fits;
     count = count;
     block = λ i other h. (
-        let rest : PartAt m (firstBlock (kindOf thing) (chunkOf l thing)) (joined (map bytes xs)) = rw first (part-rest front (joined (map bytes xs)) (stands-part s)) in
-        rw (sym (getD-mapped bytes xs i [] other h)) (block-there (kindOf thing) (map bytes xs) i (rw length-map h) rest (every-map bytes xs .1 (every-of sized fits)))
+        let rest : PartAt m (firstBlock (kindOf thing) (chunkOf l thing)) (joined (map bytes xs)) =
+        rw first (part-rest front (joined (map bytes xs)) (stands-part s)) in
+        rw (sym (getD-mapped bytes xs i [] other h))
+        (block-there (kindOf thing) (map bytes xs) i (rw length-map h) rest (every-map bytes xs .1 (every-of sized fits)))
         );
   }
 
 -- What a query answers by a number: what is shown of the record of that number, or the refusal.
-module _ {m : List ℕ} {l : Layout} (opens : opened m ≡ Opened l) {thing : Thing} {A : Type 0} {bytes : A → List ℕ} {Fits : A → Type 0} {xs : List A} (s : Listed m l thing bytes Fits xs) {R : Type 0} (answer : Found → R) (show : A → R) (other : A) where
-  pub by-number : ((x : A) → Fits x → (at : ℕ) → PartAt m at (bytes x) → answer (At (record { at = at; version = l .version; tracks = l .tracks })) ≡ show x) → (number : ℕ) → answer (found m thing number) ≡ listed show (answer (Refused notThere)) other (firstOf thing) xs number
+module _ {m : List ℕ} {l : Layout} (opens : opened m ≡ Opened l) {thing : Thing} {A : Type 0} {bytes : A → List ℕ}
+    {Fits : A → Type 0} {xs : List A} (s : Listed m l thing bytes Fits xs) {R : Type 0} (answer : Found → R) (show : A → R)
+    (other : A) where
+  pub by-number : ((x : A) → Fits x → (at : ℕ) → PartAt m at (bytes x) → answer (At (record { at = at; version = l .version; tracks = l .tracks })) ≡ show x)
+      → (number : ℕ)
+      → answer (found m thing number) ≡ listed show (answer (Refused notThere)) other (firstOf thing) xs number
   by-number shown number =
       ap (λ o. answer (foundIf m thing number o)) opens ∙ rw (s .count) (go (leb (firstOf thing) number && ltb (number - firstOf thing) (length xs)) refl)
     where
       i : ℕ
       i = number - firstOf thing
 
-      go : (t : Bool) → leb (firstOf thing) number && ltb (number - firstOf thing) (length xs) ≡ t → answer (cond t (At (blockOf m l thing number)) (Refused notThere)) ≡ cond t (show (getD xs (number - firstOf thing) other)) (answer (Refused notThere))
+      go : (t : Bool) → leb (firstOf thing) number && ltb (number - firstOf thing) (length xs) ≡ t
+          → answer (cond t (At (blockOf m l thing number)) (Refused notThere))
+          ≡ cond t (show (getD xs (number - firstOf thing) other)) (answer (Refused notThere))
       go true e =
           let h : i < length xs = ltb-says i (length xs) .0 (and-says (leb (firstOf thing) number) (ltb i (length xs)) .0 e .1) in
           shown (getD xs i other) (every-at i other h (s .fits)) (blockAt m (kindOf thing) (chunkOf l thing) i) (s .block i other h)
@@ -89,10 +101,20 @@ module _ (d : Description) (w : WellFormed d) where
 
   module _ {l : Layout} (layout : LayoutOf (encoded d) (headerBytes d) (map chunkBytes (d .chunks)) l) where
     -- M9: the layout has INFO's numbers.
-    pub info-numbers : (info : Info) → In (d .chunks) (INFO info) → (l .instruments ≡ info .instruments) × (l .samples ≡ info .samples) × (l .songs ≡ info .songs) × (l .patterns ≡ info .patterns) × (l .tracks ≡ info .tracks)
+    pub info-numbers : (info : Info) → In (d .chunks) (INFO info)
+        → (l .instruments ≡ info .instruments)
+        × (l .samples ≡ info .samples)
+        × (l .songs ≡ info .songs)
+        × (l .patterns ≡ info .patterns)
+        × (l .tracks ≡ info .tracks)
     info-numbers info i =
-        let counts = layout .counts (chunkBytes (INFO info)) (in-among (d .chunks) (INFO info) i refl) in
-        (counts .0 ∙ held 0 ∙ info-read info .instruments, counts .1 ∙ held 2 ∙ info-read info .samples, counts .2 ∙ held 4 ∙ info-read info .songs, counts .3 ∙ held 6 ∙ info-read info .patterns, counts .4 ∙ held 8 ∙ info-read info .tracks)
+        let counts = layout .counts (chunkBytes (INFO info)) (in-among (d .chunks) (INFO info) i refl) in (
+          counts .0 ∙ held 0 ∙ info-read info .instruments,
+          counts .1 ∙ held 2 ∙ info-read info .samples,
+          counts .2 ∙ held 4 ∙ info-read info .songs,
+          counts .3 ∙ held 6 ∙ info-read info .patterns,
+          counts .4 ∙ held 8 ∙ info-read info .tracks,
+        )
       where
         held : (k : ℕ) → number16 (chunkBytes (INFO info)) (8 + k) ≡ number16 (infoBytes info) k
         held = number16-past (infoLetters ++ bytes32 (length (infoBytes info))) (infoBytes info) 8 refl

@@ -13,7 +13,9 @@ use Rattle.layout.specs.declared.Place.{Place}
 use Rattle.layout.specs.declared.Layout.{Layout}
 use Rattle.blocks.specs.Things.{countOf}
 use Rattle.blocks.specs.declared.Thing.{Thing}
-use Rattle.blocks.specs.declared.Thing.the-variants.{Song as SongThing, Instrument as InstrumentThing, Pattern as PatternThing, Sample as SampleThing, VolumeEnvelope, PanningEnvelope}
+use Rattle.blocks.specs.declared.Thing.the-variants.{Song as SongThing, Instrument as InstrumentThing}
+use Rattle.blocks.specs.declared.Thing.the-variants.{Pattern as PatternThing, Sample as SampleThing, VolumeEnvelope}
+use Rattle.blocks.specs.declared.Thing.the-variants.{PanningEnvelope}
 use Rattle.acceptance.specs.Rules.{Among, Covered, VolumeFits, PanningValueFits}
 use Rattle.acceptance.proofs.Locating.{bytes16-number}
 use Rattle.acceptance.proofs.Standing.{Found, LayoutOf}
@@ -40,7 +42,9 @@ ValuesFit Volume version = VolumeFits
 ValuesFit Panning version = PanningValueFits version
 
 -- A chunk with these letters is not present where none stands among the chunks.
-missing : {m : List ℕ} {chunks : List (List ℕ)} {letters : List ℕ} {place : Place} → Found m chunks letters place → ((chunk : List ℕ) → Among chunks letters chunk → ⊥) → place .present ≡ false
+missing : {m : List ℕ} {chunks : List (List ℕ)} {letters : List ℕ} {place : Place} → Found m chunks letters place
+    → ((chunk : List ℕ) → Among chunks letters chunk → ⊥)
+    → place .present ≡ false
 missing {place = place} f lacks = go (place .present) refl
   where
     go : (there : Bool) → place .present ≡ there → place .present ≡ false
@@ -58,25 +62,29 @@ module _ (d : Description) (w : WellFormed d) {l : Layout} (layout : LayoutOf (e
       (layout .song .stands (chunkBytes (SONG (w .songs))) (in-among (d .chunks) (SONG (w .songs)) (w .songsThere) refl)) refl
       (info-numbers d w layout (w .info) (w .infoThere) .2 ∙ sym (w .lists .songCount)) (w .lists .songsFit))
 
-  pub instruments-listed : (instruments : List Instrument) → In (d .chunks) (INST instruments) → Listed (encoded d) l InstrumentThing instrumentBytes (InstrumentFits (w .samples)) instruments
+  pub instruments-listed : (instruments : List Instrument) → In (d .chunks) (INST instruments)
+      → Listed (encoded d) l InstrumentThing instrumentBytes (InstrumentFits (w .samples)) instruments
   instruments-listed instruments i =
       let one : INST (w .instruments) ≡ INST instruments = in-once (w .once) (w .instrumentsThere) i Covered.inst refl in
       let same : w .instruments ≡ instruments = cc in
       subst (Listed (encoded d) l InstrumentThing instrumentBytes (InstrumentFits (w .samples))) same
-      (chunk-listed InstrumentThing instrumentBytes instrument-sized (instLetters ++ bytes32 (length (joined (map instrumentBytes (w .instruments))))) (w .instruments)
-      (layout .inst .stands (chunkBytes (INST (w .instruments))) (in-among (d .chunks) (INST (w .instruments)) (w .instrumentsThere) refl)) refl
-      (info-numbers d w layout (w .info) (w .infoThere) .0 ∙ sym (w .lists .instrumentCount)) (w .lists .instrumentsFit))
+      (chunk-listed InstrumentThing instrumentBytes instrument-sized
+      (instLetters ++ bytes32 (length (joined (map instrumentBytes (w .instruments))))) (w .instruments)
+      (layout .inst .stands (chunkBytes (INST (w .instruments))) (in-among (d .chunks) (INST (w .instruments)) (w .instrumentsThere) refl))
+      refl (info-numbers d w layout (w .info) (w .infoThere) .0 ∙ sym (w .lists .instrumentCount)) (w .lists .instrumentsFit))
 
   pub info-same : (info : Info) → In (d .chunks) (INFO info) → w .info ≡ info
   info-same info i =
       let one : INFO (w .info) ≡ INFO info = in-once (w .once) (w .infoThere) i Covered.info refl in
       cc
 
-  pub patterns-listed : (info : Info) (patterns : List Pattern) → In (d .chunks) (INFO info) → In (d .chunks) (PATT patterns) → Listed (encoded d) l PatternThing patternBytes (PatternFits (info .tracks)) patterns
+  pub patterns-listed : (info : Info) (patterns : List Pattern) → In (d .chunks) (INFO info) → In (d .chunks) (PATT patterns)
+      → Listed (encoded d) l PatternThing patternBytes (PatternFits (info .tracks)) patterns
   patterns-listed info patterns j i =
       let one : PATT (w .patterns) ≡ PATT patterns = in-once (w .once) (w .patternsThere) i Covered.patt refl in
       let same : w .patterns ≡ patterns = cc in
-      subst₂ (λ (info : Info) (patterns : List Pattern). Listed (encoded d) l PatternThing patternBytes (PatternFits (info .tracks)) patterns) (info-same info j) same
+      subst₂ (λ (info : Info) (patterns : List Pattern). Listed (encoded d) l PatternThing patternBytes (PatternFits (info .tracks)) patterns)
+      (info-same info j) same
       (chunk-listed PatternThing patternBytes pattern-sized (pattLetters ++ bytes32 (length (joined (map patternBytes (w .patterns))))) (w .patterns)
       (layout .patt .stands (chunkBytes (PATT (w .patterns))) (in-among (d .chunks) (PATT (w .patterns)) (w .patternsThere) refl)) refl
       (info-numbers d w layout (w .info) (w .infoThere) .3 ∙ sym (w .lists .patternCount)) (w .lists .patternsFit))
@@ -101,17 +109,24 @@ module _ (d : Description) (w : WellFormed d) {l : Layout} (layout : LayoutOf (e
   panning-missing lacks = missing (layout .penv) (λ chunk a. let (held, i, same) = among-held d w Covered.penv chunk a in lacks held i)
 
   -- The envelopes of a kind, none where their chunk is missing.
-  absent-listed : (thing : Thing) {A : Type 0} {bytes : A → List ℕ} {Fits : A → Type 0} (xs : List A) → countOf (encoded d) l thing ≡ 0 → xs ≡ [] → Listed (encoded d) l thing bytes Fits xs
+  absent-listed : (thing : Thing) {A : Type 0} {bytes : A → List ℕ} {Fits : A → Type 0} (xs : List A)
+      → countOf (encoded d) l thing ≡ 0 → xs ≡ []
+      → Listed (encoded d) l thing bytes Fits xs
   absent-listed thing xs missing e = rw e (record { fits = none; count = missing; block = λ i other h. absurd (omega arith) })
 
-  pub envelopes-listed : (kind : EnvelopeKind) (es : List Envelope) → Envelopes (d .chunks) kind es → Listed (encoded d) l (thingOf kind) envelopeBytes (EnvelopeFits (length (w .instruments)) (ValuesFit kind (d .version))) es
+  pub envelopes-listed : (kind : EnvelopeKind) (es : List Envelope) → Envelopes (d .chunks) kind es
+      → Listed (encoded d) l (thingOf kind) envelopeBytes (EnvelopeFits (length (w .instruments)) (ValuesFit kind (d .version))) es
   envelopes-listed Volume es (inl i) =
       let stands = layout .venv .stands (chunkBytes (VENV es)) (in-among (d .chunks) (VENV es) i refl) in
       chunk-listed VolumeEnvelope envelopeBytes envelope-sized (venvLetters ++ (bytes32 (length (envelopesBytes es)) ++ bytes16 (length es))) es
-      stands refl (count-same stands (omega arith) ∙ bytes16-number (length es) (venvLetters ++ bytes32 (length (envelopesBytes es))) (joined (map envelopeBytes es))) (w .volumeEnvelopes es i .each)
+      stands refl
+      (count-same stands (omega arith) ∙ bytes16-number (length es) (venvLetters ++ bytes32 (length (envelopesBytes es))) (joined (map envelopeBytes es)))
+      (w .volumeEnvelopes es i .each)
   envelopes-listed Volume es (inr (e, lacks)) = absent-listed VolumeEnvelope es (rw (volume-missing lacks)) e
   envelopes-listed Panning es (inl i) =
       let stands = layout .penv .stands (chunkBytes (PENV es)) (in-among (d .chunks) (PENV es) i refl) in
       chunk-listed PanningEnvelope envelopeBytes envelope-sized (penvLetters ++ (bytes32 (length (envelopesBytes es)) ++ bytes16 (length es))) es
-      stands refl (count-same stands (omega arith) ∙ bytes16-number (length es) (penvLetters ++ bytes32 (length (envelopesBytes es))) (joined (map envelopeBytes es))) (w .panningEnvelopes es i .each)
+      stands refl
+      (count-same stands (omega arith) ∙ bytes16-number (length es) (penvLetters ++ bytes32 (length (envelopesBytes es))) (joined (map envelopeBytes es)))
+      (w .panningEnvelopes es i .each)
   envelopes-listed Panning es (inr (e, lacks)) = absent-listed PanningEnvelope es (rw (panning-missing lacks)) e

@@ -153,7 +153,8 @@ module _ (e : Envelope) (many : length (e .points) ≡ 32) where
 
   pub point-there : (i : ℕ) → i < 32 → PartAt (envelopeBytes e) (8 + i * 4) (pointBytes (getD (e .points) i noPoint))
   point-there i h =
-      piece-at pointBytes 4 (λ x. refl) (e .points) i noPoint (omega (arith, many)) (part-past (take 8 (envelopeBytes e)) (joined (map pointBytes (e .points))) 8 refl)
+      piece-at pointBytes 4 (λ x. refl) (e .points) i noPoint (omega (arith, many))
+      (part-past (take 8 (envelopeBytes e)) (joined (map pointBytes (e .points))) 8 refl)
 
   pub envelope-position : (i : ℕ) → i < 32 → number16 (envelopeBytes e) (8 + 4 * i) ≡ getD (e .points) i noPoint .position
   unfolding byteAt number16

@@ -57,12 +57,16 @@ module _ (d : Description) (w : WellFormed d) where
   chunk-anew (INST list) i c = refl
   chunk-anew (PATT list) i c =
       let same : w .patterns ≡ list = cc (in-once (w .once) (w .patternsThere) i Covered.patt refl) in
-      ap (λ (ps : List Pattern). pattLetters ++ (bytes32 (length (joined (map patternBytes (map (repackedPattern tracks) ps)))) ++ joined (map patternBytes (map (repackedPattern tracks) ps)))) same
+      ap (λ (ps : List Pattern).
+      pattLetters
+      ++ (bytes32 (length (joined (map patternBytes (map (repackedPattern tracks) ps)))) ++ joined (map patternBytes (map (repackedPattern tracks) ps))))
+      same
   chunk-anew (SMPL list) i c = refl
   chunk-anew (VENV list) i c = refl
   chunk-anew (PENV list) i c = refl
   chunk-anew (Other letters bytes) i c =
-      ap (λ (b : Bool). cond b (withData content (chunkBytes (Other letters bytes))) (chunkBytes (Other letters bytes))) (not-covered letters bytes (w .others letters bytes i) c Covered.patt)
+      ap (λ (b : Bool). cond b (withData content (chunkBytes (Other letters bytes))) (chunkBytes (Other letters bytes)))
+      (not-covered letters bytes (w .others letters bytes i) c Covered.patt)
 
   -- X3: PATT's data anew are the patterns repacked.
   module _ (l : Layout) (layout : LayoutOf (encoded d) (headerBytes d) (map chunkBytes (d .chunks)) l) where
@@ -72,15 +76,24 @@ module _ (d : Description) (w : WellFormed d) where
         (stands-part (layout .patt .stands (chunkBytes (PATT (w .patterns))) (in-among (d .chunks) (PATT (w .patterns)) (w .patternsThere) refl)))
 
     blocks-sized : Every (Sized PatternKind) (map patternBytes (w .patterns))
-    blocks-sized = every-map patternBytes (w .patterns) .1 (every-of (λ p f. pattern-sized tracks (patternBytes p) (pattern-rules tracks p f)) (w .lists .patternsFit))
+    blocks-sized =
+        every-map patternBytes (w .patterns) .1
+        (every-of (λ p f. pattern-sized tracks (patternBytes p) (pattern-rules tracks p f)) (w .lists .patternsFit))
 
     content-is : repackedPatterns (encoded d) l ≡ content
     content-is =
         let numbers = info-numbers d w layout (w .info) (w .infoThere) in
         let many : length (map patternBytes (w .patterns)) ≡ l .patterns = length-map (w .patterns) patternBytes ∙ w .lists .patternCount ∙ sym (numbers .3) in
         let at : ℕ = l .places .patt .at + 8 in
-        let blocks : map (repackedBlock (encoded d) tracks) (placesFrom (sizeOf PatternKind (encoded d)) (length (map patternBytes (w .patterns))) at) ≡ map (blockAnew tracks) (map patternBytes (w .patterns)) = blocks-anew tracks at (map patternBytes (w .patterns)) patterns-there blocks-sized in
-        let same : map (blockAnew tracks) (map patternBytes (w .patterns)) ≡ map patternBytes (map (repackedPattern tracks) (w .patterns)) = map-map (blockAnew tracks) patternBytes (w .patterns) ∙ map-same (λ p. blockAnew tracks (patternBytes p)) (λ p. patternBytes (repackedPattern tracks p)) (every-of (pattern-anew tracks) (w .lists .patternsFit)) ∙ sym (map-map patternBytes (repackedPattern tracks) (w .patterns)) in
+        let blocks : map (repackedBlock (encoded d) tracks) (placesFrom (sizeOf PatternKind (encoded d)) (length (map patternBytes (w .patterns))) at)
+        ≡ map (blockAnew tracks) (map patternBytes (w .patterns)) =
+        blocks-anew tracks at (map patternBytes (w .patterns)) patterns-there blocks-sized in
+        let same : map (blockAnew tracks) (map patternBytes (w .patterns))
+        ≡ map patternBytes (map (repackedPattern tracks) (w .patterns)) =
+        map-map (blockAnew tracks) patternBytes (w .patterns)
+        ∙ map-same (λ p. blockAnew tracks (patternBytes p)) (λ p. patternBytes (repackedPattern tracks p))
+        (every-of (pattern-anew tracks) (w .lists .patternsFit))
+        ∙ sym (map-map patternBytes (repackedPattern tracks) (w .patterns)) in
         ap (λ (n : ℕ). joined (map (repackedBlock (encoded d) n) (placesFrom (sizeOf PatternKind (encoded d)) (l .patterns) at))) (numbers .4)
         ∙ ap (λ (n : ℕ). joined (map (repackedBlock (encoded d) tracks) (placesFrom (sizeOf PatternKind (encoded d)) n at))) (sym many)
         ∙ ap joined (blocks ∙ same)
@@ -117,27 +130,31 @@ module _ (d : Description) (w : WellFormed d) where
   many = length-map (w .patterns) (repackedPattern (tracks d w))
 
   pub repacked-well-formed : WellFormed (repackedDescription (w .info .tracks) d)
-  repacked-well-formed = changed-well-formed w (patterns-change (tracks d w)) (record { name = refl; volume = refl; panning = refl; other = refl }) shorter (record {
-    info = w .info;
-    songs = w .songs;
-    instruments = w .instruments;
-    patterns = map (repackedPattern (tracks d w)) (w .patterns);
-    samples = w .samples;
-    infoIs = refl;
-    songsAre = refl;
-    instrumentsAre = refl;
-    patternsAre = refl;
-    samplesAre = refl;
-    lists = record {
-      infoFits = w .lists .infoFits;
-      songCount = w .lists .songCount;
-      instrumentCount = w .lists .instrumentCount;
-      patternCount = many ∙ w .lists .patternCount;
-      sampleCount = w .lists .sampleCount;
-      songsFit = rw many (w .lists .songsFit);
-      instrumentsFit = w .lists .instrumentsFit;
-      patternsFit = every-map (repackedPattern (tracks d w)) (w .patterns) .1 (every-of (λ p f. pattern-fits (tracks d w) p f (w .lists .infoFits .tracks .1)) (w .lists .patternsFit));
-      samplesFit = w .lists .samplesFit;
-    };
-    asMany = refl;
-  })
+  repacked-well-formed =
+      changed-well-formed w (patterns-change (tracks d w))
+      (record { name = refl; volume = refl; panning = refl; other = refl }) shorter
+      (record {
+        info = w .info;
+        songs = w .songs;
+        instruments = w .instruments;
+        patterns = map (repackedPattern (tracks d w)) (w .patterns);
+        samples = w .samples;
+        infoIs = refl;
+        songsAre = refl;
+        instrumentsAre = refl;
+        patternsAre = refl;
+        samplesAre = refl;
+        lists = record {
+          infoFits = w .lists .infoFits;
+          songCount = w .lists .songCount;
+          instrumentCount = w .lists .instrumentCount;
+          patternCount = many ∙ w .lists .patternCount;
+          sampleCount = w .lists .sampleCount;
+          songsFit = rw many (w .lists .songsFit);
+          instrumentsFit = w .lists .instrumentsFit;
+          patternsFit = every-map (repackedPattern (tracks d w)) (w .patterns) .1
+              (every-of (λ p f. pattern-fits (tracks d w) p f (w .lists .infoFits .tracks .1)) (w .lists .patternsFit));
+          samplesFit = w .lists .samplesFit;
+        };
+        asMany = refl;
+      })

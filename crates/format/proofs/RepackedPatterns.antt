@@ -38,7 +38,9 @@ rows-many tracks rows = length-map (rowsFrom tracks rows) packedEntries ∙ leng
 -- The packer's entries are sound.
 rows-sound : (tracks : ℕ) (rows : List (List Entry)) → allSound tracks (map packedEntries (rowsFrom tracks rows)) ≡ true
 rows-sound tracks [] = refl
-rows-sound tracks (es ∷ rows) = true-both (entries-sound tracks (packs 1 (rowFrom tracks es)) (row-from-shaped tracks es) (omega arith) (omega arith)) (rows-sound tracks rows)
+rows-sound tracks (es ∷ rows) =
+    true-both (entries-sound tracks (packs 1 (rowFrom tracks es)) (row-from-shaped tracks es) (omega arith) (omega arith))
+    (rows-sound tracks rows)
 
 module _ (tracks : ℕ) (p : Pattern) (fits : PatternFits tracks p) where
   abbrev anew : List (List Entry)
@@ -51,7 +53,8 @@ module _ (tracks : ℕ) (p : Pattern) (fits : PatternFits tracks p) where
   pub pattern-anew : blockAnew tracks (patternBytes p) ≡ patternBytes (repackedPattern tracks p)
   pattern-anew =
       let stream : packedBytes (patternBytes p) 0 ≡ streamOf (p .rows) = ap (partOf (patternBytes p) 6) (pattern-packed p) ∙ pattern-stream p in
-      let read : entriesRead (readStream (number16 (patternBytes p) 0) tracks (packedBytes (patternBytes p) 0)) ≡ p .rows = rw (pattern-rows p, stream, reads) refl in
+      let read : entriesRead (readStream (number16 (patternBytes p) 0) tracks (packedBytes (patternBytes p) 0)) ≡ p .rows =
+      rw (pattern-rows p, stream, reads) refl in
       ap (λ (entries : List (List Entry)). bytes16 (length (p .rows)) ++ packed (packedStream (rowsFrom tracks entries))) read
       ∙ ap (λ (n : ℕ). bytes16 n ++ packed (streamOf anew)) (sym (rows-many tracks (p .rows)))
 
@@ -59,7 +62,12 @@ module _ (tracks : ℕ) (p : Pattern) (fits : PatternFits tracks p) where
   shorter : length (streamOf anew) ≤ length (streamOf (p .rows))
   shorter =
       let accepted : AcceptedAs (length (p .rows)) tracks (streamOf (p .rows)) _ = record { entries = p .rows; read = reads; gives = refl } in
-      omega (arith, packed-length (rowsFrom tracks (p .rows)), none-shorter (length (p .rows)) tracks (streamOf (p .rows)) _ accepted, ap packedLength (accepted-rows accepted))
+      omega (
+        arith,
+        packed-length (rowsFrom tracks (p .rows)),
+        none-shorter (length (p .rows)) tracks (streamOf (p .rows)) _ accepted,
+        ap packedLength (accepted-rows accepted),
+      )
 
   entries-are-bytes : tracks ≤ 254 → Every EntriesBytes (p .rows)
   entries-are-bytes few =
@@ -72,6 +80,7 @@ module _ (tracks : ℕ) (p : Pattern) (fits : PatternFits tracks p) where
     many = rw (rows-many tracks (p .rows)) (fits .many);
     packed = omega (arith, shorter, fits .packed);
     sound = rows-sound tracks (p .rows);
-    fields = every-of (λ es h. every-of (λ e b. bytes-rest (e .mask) (e .fields) (bytes-rest (e .track) (e .mask ∷ e .fields) b)) h) (repacked-bytes tracks few (p .rows) (entries-are-bytes few));
+    fields = every-of (λ es h. every-of (λ e b. bytes-rest (e .mask) (e .fields) (bytes-rest (e .track) (e .mask ∷ e .fields) b)) h)
+        (repacked-bytes tracks few (p .rows) (entries-are-bytes few));
     filler = (length-replicate (length (streamOf anew) % 2) 0, bytes-replicate (length (streamOf anew) % 2));
   }

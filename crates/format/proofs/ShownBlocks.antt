@@ -14,9 +14,12 @@ pub bytes-at : {m part : List ℕ} {at : ℕ} → PartAt m at part → (n : ℕ)
 bytes-at {m} {part} {at} p n e = bytes-part m n at (omega (arith, part-inside p)) ∙ ap (partOf m at) (sym e) ∙ part-is p
 
 -- What a function gives for each number of a list, where that is what another gives for the one of that number.
-pub each-listed : {A B : Type 0} (f : ℕ → B) (g : A → B) (other : A) (xs : List A) (k : ℕ) → ((i : ℕ) → i < length xs → f (k + i) ≡ g (getD xs i other)) → eachFrom f k (length xs) ≡ map g xs
+pub each-listed : {A B : Type 0} (f : ℕ → B) (g : A → B) (other : A) (xs : List A) (k : ℕ)
+    → ((i : ℕ) → i < length xs → f (k + i) ≡ g (getD xs i other))
+    → eachFrom f k (length xs) ≡ map g xs
 each-listed f g other [] k h = refl
 each-listed f g other (x ∷ xs) k h =
     let first : f k ≡ g x = simp add-zero at (h 0 (omega arith)) in
-    let rest : eachFrom f (k + 1) (length xs) ≡ map g xs = each-listed f g other xs (k + 1) (λ i less. simp add-assoc (ap f (omega arith) ∙ h (suc i) (omega arith))) in
+    let rest : eachFrom f (k + 1) (length xs) ≡ map g xs =
+    each-listed f g other xs (k + 1) (λ i less. simp add-assoc (ap f (omega arith) ∙ h (suc i) (omega arith))) in
     cc

@@ -21,7 +21,9 @@ use Rattle.format.specs.Description.{Envelope}
 use Rattle.format.specs.Encoding.{envelopeBytes}
 use Rattle.format.specs.WellFormed.{noPoint, EnvelopeFits}
 use Rattle.format.specs.Shown.{envelopeRecord}
-use Rattle.format.proofs.ReadingBlocks.{envelope-size, envelope-instrument, envelope-flags, envelope-sections, envelope-first-sustain, envelope-loop-first, envelope-loop-last, envelope-second-sustain, envelope-position, envelope-value}
+use Rattle.format.proofs.ReadingBlocks.{envelope-size, envelope-instrument, envelope-flags, envelope-sections}
+use Rattle.format.proofs.ReadingBlocks.{envelope-first-sustain, envelope-loop-first, envelope-loop-last}
+use Rattle.format.proofs.ReadingBlocks.{envelope-second-sustain, envelope-position, envelope-value}
 
 module _ {instruments : ℕ} {ValueFits : ℕ → Type 0} (e : Envelope) (f : EnvelopeFits instruments ValueFits e) where
   size : length (envelopeBytes e) ≡ 136
@@ -41,13 +43,20 @@ module _ {instruments : ℕ} {ValueFits : ℕ → Type 0} (e : Envelope) (f : En
     value : (i : ℕ) → i < 32 → envelopeValue m at i ≡ getD (e .points) i noPoint .value
     value i h = simp add-assoc (number16-at p (10 + 4 * i) (omega (arith, size)) ∙ envelope-value e (f .many) i h)
 
-    positions : eachFrom (positionShown m at (e .sections)) 0 32 ≡ eachFrom (λ point. cond (leb point (e .sections)) (getD (e .points) point noPoint .position) 0) 0 32
+    positions : eachFrom (positionShown m at (e .sections)) 0 32
+        ≡ eachFrom (λ point. cond (leb point (e .sections)) (getD (e .points) point noPoint .position) 0) 0 32
     positions =
-        each-same (positionShown m at (e .sections)) (λ point. cond (leb point (e .sections)) (getD (e .points) point noPoint .position) 0) 32 0 0 (λ i h. same-if (leb (0 + i) (e .sections)) 0 (λ used. position (0 + i) (omega arith)))
+        each-same (positionShown m at (e .sections))
+        (λ point. cond (leb point (e .sections)) (getD (e .points) point noPoint .position) 0) 32 0 0
+        (λ i h. same-if (leb (0 + i) (e .sections)) 0 (λ used. position (0 + i) (omega arith)))
 
-    values : (kind : EnvelopeKind) (version : ℕ) → eachFrom (valueShown m kind version at (e .sections)) 0 32 ≡ eachFrom (λ point. cond (leb point (e .sections)) (valueOf kind version (getD (e .points) point noPoint .value)) (pos 0)) 0 32
+    values : (kind : EnvelopeKind) (version : ℕ)
+        → eachFrom (valueShown m kind version at (e .sections)) 0 32
+        ≡ eachFrom (λ point. cond (leb point (e .sections)) (valueOf kind version (getD (e .points) point noPoint .value)) (pos 0)) 0 32
     values kind version =
-        each-same (valueShown m kind version at (e .sections)) (λ point. cond (leb point (e .sections)) (valueOf kind version (getD (e .points) point noPoint .value)) (pos 0)) 32 0 0 (λ i h. same-if (leb (0 + i) (e .sections)) (pos 0) (λ used. ap (valueOf kind version) (value (0 + i) (omega arith))))
+        each-same (valueShown m kind version at (e .sections))
+        (λ point. cond (leb point (e .sections)) (valueOf kind version (getD (e .points) point noPoint .value)) (pos 0)) 32 0 0
+        (λ i h. same-if (leb (0 + i) (e .sections)) (pos 0) (λ used. ap (valueOf kind version) (value (0 + i) (omega arith))))
 
     pub envelope-shown : (kind : EnvelopeKind) (version : ℕ) → shownEnvelope m kind version at ≡ envelopeRecord kind version e
     envelope-shown kind version =

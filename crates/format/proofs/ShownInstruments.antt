@@ -14,7 +14,9 @@ use Rattle.format.specs.Description.{Instrument, Sample}
 use Rattle.format.specs.Encoding.{instrumentBytes}
 use Rattle.format.specs.WellFormed.{InstrumentFits}
 use Rattle.format.specs.Shown.{instrumentRecord}
-use Rattle.format.proofs.ReadingBlocks.{instrument-size, instrument-sample, instrument-volume, instrument-rate, instrument-loop-start, instrument-loop-length, instrument-panning, instrument-flags}
+use Rattle.format.proofs.ReadingBlocks.{instrument-size, instrument-sample, instrument-volume, instrument-rate}
+use Rattle.format.proofs.ReadingBlocks.{instrument-loop-start, instrument-loop-length, instrument-panning}
+use Rattle.format.proofs.ReadingBlocks.{instrument-flags}
 use Rattle.format.proofs.ShownBlocks.{bytes-at}
 
 module _ {samples : List Sample} (i : Instrument) (f : InstrumentFits samples i) where

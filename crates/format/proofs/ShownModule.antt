@@ -1,5 +1,5 @@
 -- The encoding of a well-formed description shows the description: what every query answers of it is what the description says.
-use Prim.Native.Nat.{ℕ, _+_, _-_}
+use Prim.Native.Nat.{ℕ, _+_}
 use mathlib.Core.Path.{_≡_, refl, sym, ap, subst, _∙_}
 use mathlib.Core.Logic.{inl, inr}
 use mathlib.Core.List.{List, _++_, map}
@@ -32,10 +32,15 @@ use Rattle.instruments.specs.Shown.{instrumentIf}
 use Rattle.format.specs.Description.{Info, Pattern, Sample, Envelope, NAME, INFO, PATT, SMPL, Description}
 use Rattle.format.specs.Encoding.{envelopeBytes, chunkBytes, headerBytes, encoded}
 use Rattle.format.specs.WellFormed.{In, EnvelopeFits, WellFormed, noSample as emptySample}
-use Rattle.format.specs.Shown.{notThere, listed, versionRecord, Named, nameRecord, infoRecord, emptySong, songRecord, entryRecord, playlistLength, playlistWritten, emptyInstrument, instrumentRecord, Envelopes, countRecord, emptyEnvelope, envelopeRecord, emptyPattern, ofPattern, rowsRecord, cellRecord, cellsLength, cellsWritten, sampleRecord, storedFrames, frameRecord, framesLength, framesWritten, ShowsFrames, Shows}
+use Rattle.format.specs.Shown.{notThere, listed, versionRecord, Named, nameRecord, infoRecord, emptySong, songRecord}
+use Rattle.format.specs.Shown.{entryRecord, playlistLength, playlistWritten, emptyInstrument, instrumentRecord}
+use Rattle.format.specs.Shown.{Envelopes, countRecord, emptyEnvelope, envelopeRecord, emptyPattern, ofPattern}
+use Rattle.format.specs.Shown.{rowsRecord, cellRecord, cellsLength, cellsWritten, sampleRecord, storedFrames}
+use Rattle.format.specs.Shown.{frameRecord, framesLength, framesWritten, ShowsFrames, Shows}
 use Rattle.format.proofs.EncodedModule.{in-among}
 use Rattle.format.proofs.Placed.{Listed, by-number, encoded-opens, info-numbers}
-use Rattle.format.proofs.PlacedModule.{ValuesFit, songs-listed, instruments-listed, info-same, patterns-listed, samples-listed, name-missing, envelopes-listed}
+use Rattle.format.proofs.PlacedModule.{ValuesFit, songs-listed, instruments-listed, info-same, patterns-listed}
+use Rattle.format.proofs.PlacedModule.{samples-listed, name-missing, envelopes-listed}
 use Rattle.format.proofs.ShownBlocks.{bytes-at}
 use Rattle.format.proofs.ShownSongs.{song-shown, entry-shown, playlist-shown, playlist-written}
 use Rattle.format.proofs.ShownInstruments.{instrument-shown}
@@ -43,7 +48,8 @@ use Rattle.format.proofs.ShownEnvelopes.{envelope-shown}
 use Rattle.format.proofs.ShownPatterns.{rows-shown, cell-shown, cells-shown, cells-written}
 use Rattle.format.proofs.ShownSamples.{sample-shown, frames-length, frames-shown, frame-shown, all-frames-shown, all-frames-written}
 
-module _ (d : Description) (w : WellFormed d) {l : Layout} (opens : opened (encoded d) ≡ Opened l) (layout : LayoutOf (encoded d) (headerBytes d) (map chunkBytes (d .chunks)) l) where
+module _ (d : Description) (w : WellFormed d) {l : Layout} (opens : opened (encoded d) ≡ Opened l)
+    (layout : LayoutOf (encoded d) (headerBytes d) (map chunkBytes (d .chunks)) l) where
   -- Q4 to Q6.
   version-same : l .version ≡ d .version
   unfolding byteAt
@@ -53,8 +59,11 @@ module _ (d : Description) (w : WellFormed d) {l : Layout} (opens : opened (enco
   unfolding byteAt
   version-shown = ap versionIf opens ∙ rw (layout .version, layout .revision)
 
-  name-by : (there : Bool) → l .places .name .present ≡ there → nameAnswer (encoded d) ≡ nameRecord (cond there (bytesFrom (encoded d) (l .places .name .at + 8) 44) (replicate 44 0))
-  name-by there e = ap (nameIf (encoded d)) opens ∙ ap (λ (b : Bool). nameRecord (cond b (bytesFrom (encoded d) (l .places .name .at + 8) 44) (replicate 44 0))) e
+  name-by : (there : Bool) → l .places .name .present ≡ there
+      → nameAnswer (encoded d) ≡ nameRecord (cond there (bytesFrom (encoded d) (l .places .name .at + 8) 44) (replicate 44 0))
+  name-by there e =
+      ap (nameIf (encoded d)) opens
+      ∙ ap (λ (b : Bool). nameRecord (cond b (bytesFrom (encoded d) (l .places .name .at + 8) 44) (replicate 44 0))) e
 
   name-shown : (name : List ℕ) → Named (d .chunks) name → nameAnswer (encoded d) ≡ nameRecord name
   name-shown name (inl i) =
@@ -73,13 +82,19 @@ module _ (d : Description) (w : WellFormed d) {l : Layout} (opens : opened (enco
   count-shown Volume es e = ap (countIf (encoded d) Volume) opens ∙ rw (envelopes-listed d w layout Volume es e .count)
   count-shown Panning es e = ap (countIf (encoded d) Panning) opens ∙ rw (envelopes-listed d w layout Panning es e .count)
 
-  envelope-at : (kind : EnvelopeKind) (es : List Envelope) → Envelopes (d .chunks) kind es → (number : ℕ) → envelopeAnswer (encoded d) kind number ≡ listed (envelopeRecord kind (d .version)) (noEnvelope notThere) emptyEnvelope 0 es number
+  envelope-at : (kind : EnvelopeKind) (es : List Envelope) → Envelopes (d .chunks) kind es → (number : ℕ)
+      → envelopeAnswer (encoded d) kind number ≡ listed (envelopeRecord kind (d .version)) (noEnvelope notThere) emptyEnvelope 0 es number
   envelope-at kind es e = go kind (envelopes-listed d w layout kind es e)
     where
-      shown : (kind : EnvelopeKind) (x : Envelope) → EnvelopeFits (length (w .instruments)) (ValuesFit kind (d .version)) x → (at : ℕ) → PartAt (encoded d) at (envelopeBytes x) → shownEnvelope (encoded d) kind (l .version) at ≡ envelopeRecord kind (d .version) x
+      shown : (kind : EnvelopeKind) (x : Envelope) → EnvelopeFits (length (w .instruments)) (ValuesFit kind (d .version)) x
+          → (at : ℕ) → PartAt (encoded d) at (envelopeBytes x)
+          → shownEnvelope (encoded d) kind (l .version) at ≡ envelopeRecord kind (d .version) x
       shown kind x f at p = ap (λ (version : ℕ). shownEnvelope (encoded d) kind version at) version-same ∙ envelope-shown x f p kind (d .version)
 
-      go : (kind : EnvelopeKind) → Listed (encoded d) l (thingOf kind) envelopeBytes (EnvelopeFits (length (w .instruments)) (ValuesFit kind (d .version))) es → (number : ℕ) → envelopeAnswer (encoded d) kind number ≡ listed (envelopeRecord kind (d .version)) (noEnvelope notThere) emptyEnvelope 0 es number
+      go : (kind : EnvelopeKind)
+          → Listed (encoded d) l (thingOf kind) envelopeBytes (EnvelopeFits (length (w .instruments)) (ValuesFit kind (d .version))) es
+          → (number : ℕ)
+          → envelopeAnswer (encoded d) kind number ≡ listed (envelopeRecord kind (d .version)) (noEnvelope notThere) emptyEnvelope 0 es number
       go Volume s = by-number opens s (envelopeIf (encoded d) Volume) (envelopeRecord Volume (d .version)) emptyEnvelope (shown Volume)
       go Panning s = by-number opens s (envelopeIf (encoded d) Panning) (envelopeRecord Panning (d .version)) emptyEnvelope (shown Panning)
 
@@ -94,17 +109,23 @@ module _ (d : Description) (w : WellFormed d) {l : Layout} (opens : opened (enco
     cell-at : (row track : ℕ) → cellAnswer (encoded d) number row track ≡ ofPattern (cellRecord (info .tracks) row track) (Refused notThere) patterns number
     cell-at row track =
         by-number opens (patterns-listed d w layout info patterns j i) (cellIf (encoded d) row track) (cellRecord (info .tracks) row track) emptyPattern
-        (λ x f at p. ap (λ (tracks : ℕ). cellOf (packedBytes (encoded d) at) (number16 (encoded d) at) tracks row track) tracks-same ∙ cell-shown x f p tracks-fit row track) number
+        (λ x f at p.
+        ap (λ (tracks : ℕ). cellOf (packedBytes (encoded d) at) (number16 (encoded d) at) tracks row track) tracks-same
+        ∙ cell-shown x f p tracks-fit row track) number
 
     cells-at : (room : ℕ) → unpackAnswer (encoded d) number room ≡ ofPattern (cellsLength (info .tracks) room) (refusedLength notThere) patterns number
     cells-at room =
         by-number opens (patterns-listed d w layout info patterns j i) (unpackIf (encoded d) room) (cellsLength (info .tracks) room) emptyPattern
-        (λ x f at p. ap (λ (tracks : ℕ). lengthOf (streamAnswer (packedBytes (encoded d) at) (number16 (encoded d) at) tracks room)) tracks-same ∙ cells-shown x f p tracks-fit room) number
+        (λ x f at p.
+        ap (λ (tracks : ℕ). lengthOf (streamAnswer (packedBytes (encoded d) at) (number16 (encoded d) at) tracks room)) tracks-same
+        ∙ cells-shown x f p tracks-fit room) number
 
     cells-out : (out : List ℕ) → unpackOutput (encoded d) number out ≡ ofPattern (cellsWritten (info .tracks) out) out patterns number
     cells-out out =
         by-number opens (patterns-listed d w layout info patterns j i) (unpackOutputIf (encoded d) out) (cellsWritten (info .tracks) out) emptyPattern
-        (λ x f at p. ap (λ (tracks : ℕ). streamOutput (packedBytes (encoded d) at) (number16 (encoded d) at) tracks out) tracks-same ∙ cells-written x f p tracks-fit out) number
+        (λ x f at p.
+        ap (λ (tracks : ℕ). streamOutput (packedBytes (encoded d) at) (number16 (encoded d) at) tracks out) tracks-same
+        ∙ cells-written x f p tracks-fit out) number
 
   -- Q12.
   frames-at : (samples : List Sample) → In (d .chunks) (SMPL samples) → (number : ℕ) → ShowsFrames (encoded d) samples number
@@ -113,7 +134,8 @@ module _ (d : Description) (w : WellFormed d) {l : Layout} (opens : opened (enco
       record {
         outcome = by-number opens s (λ f. framesIf (encoded d) f .outcome) (λ x. noRefusal) emptySample (λ x f at p. refl) number;
         length = by-number opens s (λ f. framesIf (encoded d) f .length) (λ x. length (storedFrames x)) emptySample (λ x f at p. frames-length x p) number;
-        bytes = by-number opens s (λ f. partOf (encoded d) (framesIf (encoded d) f .offset) (framesIf (encoded d) f .length)) storedFrames emptySample (λ x f at p. frames-shown x p) number;
+        bytes = by-number opens s (λ f. partOf (encoded d) (framesIf (encoded d) f .offset) (framesIf (encoded d) f .length))
+            storedFrames emptySample (λ x f at p. frames-shown x p) number;
       }
 
   shows : Shows (encoded d) d
@@ -122,21 +144,39 @@ module _ (d : Description) (w : WellFormed d) {l : Layout} (opens : opened (enco
     name = name-shown;
     info = info-shown;
     song = λ songs i. by-number opens (songs-listed d w layout songs i) (songIf (encoded d)) songRecord emptySong (λ x f at p. song-shown x f p);
-    entry = λ songs i number entry. by-number opens (songs-listed d w layout songs i) (entryIf (encoded d) entry) (entryRecord entry) emptySong (λ x f at p. entry-shown x f p entry) number;
-    playlist = λ songs i number room. by-number opens (songs-listed d w layout songs i) (answerFound (playlistSize (encoded d)) room) (playlistLength room) emptySong (λ x f at p. playlist-shown x f p room) number;
-    playlistOut = λ songs i number out. by-number opens (songs-listed d w layout songs i) (outputFound (playlistSize (encoded d)) (playlistBytes (encoded d)) out) (playlistWritten out) emptySong (λ x f at p. playlist-written x f p out) number;
-    instrument = λ instruments i. by-number opens (instruments-listed d w layout instruments i) (instrumentIf (encoded d)) instrumentRecord emptyInstrument (λ x f at p. instrument-shown x f p);
+    entry = λ songs i number entry.
+        by-number opens (songs-listed d w layout songs i) (entryIf (encoded d) entry) (entryRecord entry) emptySong
+        (λ x f at p. entry-shown x f p entry) number;
+    playlist = λ songs i number room.
+        by-number opens (songs-listed d w layout songs i) (answerFound (playlistSize (encoded d)) room) (playlistLength room)
+        emptySong (λ x f at p. playlist-shown x f p room) number;
+    playlistOut = λ songs i number out.
+        by-number opens (songs-listed d w layout songs i)
+        (outputFound (playlistSize (encoded d)) (playlistBytes (encoded d)) out) (playlistWritten out) emptySong
+        (λ x f at p. playlist-written x f p out) number;
+    instrument = λ instruments i.
+        by-number opens (instruments-listed d w layout instruments i) (instrumentIf (encoded d)) instrumentRecord
+        emptyInstrument (λ x f at p. instrument-shown x f p);
     envelopes = count-shown;
     envelope = envelope-at;
-    rows = λ patterns i. by-number opens (patterns-listed d w layout (w .info) patterns (w .infoThere) i) (rowsIf (encoded d)) rowsRecord emptyPattern (λ x f at p. rw (rows-shown x f p));
+    rows = λ patterns i.
+        by-number opens (patterns-listed d w layout (w .info) patterns (w .infoThere) i) (rowsIf (encoded d)) rowsRecord
+        emptyPattern (λ x f at p. rw (rows-shown x f p));
     cell = cell-at;
     cells = cells-at;
     cellsOut = cells-out;
     sample = λ samples i. by-number opens (samples-listed d w layout samples i) (sampleIf (encoded d)) sampleRecord emptySample (λ x f at p. sample-shown x p);
     frames = frames-at;
-    frame = λ samples i number frame. by-number opens (samples-listed d w layout samples i) (frameIf (encoded d) frame) (frameRecord frame) emptySample (λ x f at p. frame-shown x p frame) number;
-    allFrames = λ samples i number room. by-number opens (samples-listed d w layout samples i) (answerFound (allFramesSize (encoded d)) room) (framesLength room) emptySample (λ x f at p. all-frames-shown x p room) number;
-    allFramesOut = λ samples i number out. by-number opens (samples-listed d w layout samples i) (outputFound (allFramesSize (encoded d)) (allFrames (encoded d)) out) (framesWritten out) emptySample (λ x f at p. all-frames-written x p out) number;
+    frame = λ samples i number frame.
+        by-number opens (samples-listed d w layout samples i) (frameIf (encoded d) frame) (frameRecord frame) emptySample
+        (λ x f at p. frame-shown x p frame) number;
+    allFrames = λ samples i number room.
+        by-number opens (samples-listed d w layout samples i) (answerFound (allFramesSize (encoded d)) room)
+        (framesLength room) emptySample (λ x f at p. all-frames-shown x p room) number;
+    allFramesOut = λ samples i number out.
+        by-number opens (samples-listed d w layout samples i)
+        (outputFound (allFramesSize (encoded d)) (allFrames (encoded d)) out) (framesWritten out) emptySample
+        (λ x f at p. all-frames-written x p out) number;
   }
 
 pub encoding-shows : (d : Description) → WellFormed d → Shows (encoded d) d

@@ -36,8 +36,11 @@ use Rattle.format.specs.Shown.{notThere, cellRecord, cellsLength, cellsW
 use Rattle.format.proofs.ReadingBlocks.{pattern-size, pattern-rows, pattern-packed}
 
 -- What is answered of a stream that is read whole.
-module _ (rows tracks : ℕ) (stream : List ℕ) (entries : List (List Entry)) (fits : sizesFit rows tracks ≡ true) (reads : readStream rows tracks stream ≡ whole entries) where
-  cell-read : (row track : ℕ) → cellOf stream rows tracks row track ≡ cond (cellThere rows tracks row track) (Found (shownCell (getD (getD (rowsFrom tracks entries) row []) (track - 1) emptyCell))) (Refused notThere)
+module _ (rows tracks : ℕ) (stream : List ℕ) (entries : List (List Entry)) (fits : sizesFit rows tracks ≡ true)
+    (reads : readStream rows tracks stream ≡ whole entries) where
+  cell-read : (row track : ℕ)
+      → cellOf stream rows tracks row track
+      ≡ cond (cellThere rows tracks row track) (Found (shownCell (getD (getD (rowsFrom tracks entries) row []) (track - 1) emptyCell))) (Refused notThere)
   cell-read row track = simp (fits, reads) (go (cellThere rows tracks row track) _ _)
     where
       go : (there : Bool) (shown refused : CellAnswer) → cond (not there) refused shown ≡ cond there shown refused
@@ -47,17 +50,22 @@ module _ (rows tracks : ℕ) (stream : List ℕ) (entries : List (List Entry)) (
   length-read : (room : ℕ) → lengthOf (streamAnswer stream rows tracks room) ≡ lengthIf (cellBytes rows tracks) room
   length-read room = simp (fits, reads) (go (ltb room (cellBytes rows tracks)))
     where
-      go : (lacks : Bool) → lengthOf (cond lacks (UnpackingRefused (refusal Room (cellBytes rows tracks))) (Unpacked (cellBytes rows tracks))) ≡ cond lacks (refusedLength (refusal Room (cellBytes rows tracks))) (writtenLength (cellBytes rows tracks))
+      go : (lacks : Bool)
+          → lengthOf (cond lacks (UnpackingRefused (refusal Room (cellBytes rows tracks))) (Unpacked (cellBytes rows tracks)))
+          ≡ cond lacks (refusedLength (refusal Room (cellBytes rows tracks))) (writtenLength (cellBytes rows tracks))
       go true = refl
       go false = refl
 
-  output-read : length (bytesOf (rowsFrom tracks entries)) ≡ cellBytes rows tracks → (out : List ℕ) → streamOutput stream rows tracks out ≡ outputIf (lengthIf (cellBytes rows tracks) (length out)) (bytesOf (rowsFrom tracks entries)) out
+  output-read : length (bytesOf (rowsFrom tracks entries)) ≡ cellBytes rows tracks → (out : List ℕ)
+      → streamOutput stream rows tracks out ≡ outputIf (lengthIf (cellBytes rows tracks) (length out)) (bytesOf (rowsFrom tracks entries)) out
   output-read size out = simp (fits, reads) (go (ltb (length out) (cellBytes rows tracks)))
     where
       cells : List ℕ
       cells = bytesOf (rowsFrom tracks entries)
 
-      go : (lacks : Bool) → outputUnpacked (cond lacks (UnpackingRefused (refusal Room (cellBytes rows tracks))) (Unpacked (cellBytes rows tracks))) cells out ≡ outputIf (cond lacks (refusedLength (refusal Room (cellBytes rows tracks))) (writtenLength (cellBytes rows tracks))) cells out
+      go : (lacks : Bool)
+          → outputUnpacked (cond lacks (UnpackingRefused (refusal Room (cellBytes rows tracks))) (Unpacked (cellBytes rows tracks))) cells out
+          ≡ outputIf (cond lacks (refusedLength (refusal Room (cellBytes rows tracks))) (writtenLength (cellBytes rows tracks))) cells out
       go true = refl
       go false = ap (λ (n : ℕ). cells ++ drop n out) (sym size)
 
@@ -74,7 +82,10 @@ module _ {tracks : ℕ} (p : Pattern) (f : PatternFits tracks p) where
     rows-shown = number16-start part (omega (arith, long)) ∙ pattern-rows p
 
     packed : packedBytes m at ≡ streamOf (p .rows)
-    packed = stream-same part (omega (arith, long)) (streamOf (p .rows)) (record { before = bytes16 (length (p .rows)) ++ bytes32 (length (streamOf (p .rows))); after = p .filler; bytes = refl; starts = refl }) (pattern-packed p)
+    packed =
+        stream-same part (omega (arith, long)) (streamOf (p .rows))
+        (record { before = bytes16 (length (p .rows)) ++ bytes32 (length (streamOf (p .rows))); after = p .filler; bytes = refl; starts = refl })
+        (pattern-packed p)
 
     reads : readStream (length (p .rows)) tracks (packedBytes m at) ≡ whole (p .rows)
     reads = rw packed (reads-exactly (length (p .rows)) tracks (streamOf (p .rows)) (p .rows) .1 (record { count = refl; sound = f .sound; bytes = refl }))
@@ -90,4 +101,6 @@ module _ {tracks : ℕ} (p : Pattern) (f : PatternFits tracks p) where
       cells-shown room = rw rows-shown (length-read (length (p .rows)) tracks (packedBytes m at) (p .rows) fits reads room)
 
       pub cells-written : (out : List ℕ) → streamOutput (packedBytes m at) (number16 m at) tracks out ≡ cellsWritten tracks out p
-      cells-written out = rw rows-shown (output-read (length (p .rows)) tracks (packedBytes m at) (p .rows) fits reads (length-bytes (rows-from-shaped tracks (p .rows))) out)
+      cells-written out =
+          rw rows-shown
+          (output-read (length (p .rows)) tracks (packedBytes m at) (p .rows) fits reads (length-bytes (rows-from-shaped tracks (p .rows))) out)

@@ -77,8 +77,10 @@ module _ (s : Sample) where
     -- All of them.
     all : allFrames m at ≡ joined (map (λ f. bytes16 (unsigned16 (frame16 (s .width) f))) (s .frames))
     all =
-        rw count (ap joined (each-listed (λ frame. bytes16 (unsigned16 (frameOf m at frame))) (λ f. bytes16 (unsigned16 (frame16 (s .width) f))) 0 (s .frames) 0
-        (λ i h. ap (λ (z : ℤ). bytes16 (unsigned16 z)) (frame-of (0 + i) (omega arith) ∙ ap (λ (k : ℕ). frame16 (s .width) (getD (s .frames) k 0)) (omega arith)))))
+        rw count (ap joined (each-listed (λ frame. bytes16 (unsigned16 (frameOf m at frame)))
+        (λ f. bytes16 (unsigned16 (frame16 (s .width) f))) 0 (s .frames) 0
+        (λ i h. ap (λ (z : ℤ). bytes16 (unsigned16 z))
+        (frame-of (0 + i) (omega arith) ∙ ap (λ (k : ℕ). frame16 (s .width) (getD (s .frames) k 0)) (omega arith)))))
 
     pub all-frames-shown : (room : ℕ) → lengthIf (allFramesSize m at) room ≡ framesLength room s
     all-frames-shown room = rw count

@@ -26,7 +26,10 @@ chunks-same [] [] p q e = refl
 chunks-same [] (y ∷ ys) p (also q qs) e = absurd (omega (arith, q .size, ap length e, length-append y (joined ys)))
 chunks-same (x ∷ xs) [] (also p ps) q e = absurd (omega (arith, p .size, ap length e, length-append x (joined xs)))
 chunks-same (x ∷ xs) (y ∷ ys) (also p ps) (also q qs) e =
-    let number : number32 x 4 ≡ number32 y 4 = sym (number32-front x (joined xs) 4 (omega (arith, p .size))) ∙ ap (λ (l : List ℕ). number32 l 4) e ∙ number32-front y (joined ys) 4 (omega (arith, q .size)) in
+    let number : number32 x 4 ≡ number32 y 4 =
+    sym (number32-front x (joined xs) 4 (omega (arith, p .size)))
+    ∙ ap (λ (l : List ℕ). number32 l 4) e
+    ∙ number32-front y (joined ys) 4 (omega (arith, q .size)) in
     let first = front-same x y {s = joined xs} {t = joined ys} (omega (arith, p .size, q .size)) e in
     let rest = chunks-same xs ys ps qs (first .1) in
     λ i. first .0 i ∷ rest i
@@ -67,14 +70,17 @@ module _ (d e : Description) (w : WellFormed d) (v : WellFormed e) (same : encod
 
   info-is : w .info ≡ v .info
   info-is =
-      let (c, there, bytes) = in-other chunkBytes (w .infoThere .before) (w .infoThere .after) (e .chunks) (INFO (w .info)) (ap (map chunkBytes) (sym (w .infoThere .splits)) ∙ chunks-are) in
+      let (c, there, bytes) = in-other chunkBytes (w .infoThere .before) (w .infoThere .after) (e .chunks) (INFO (w .info))
+      (ap (map chunkBytes) (sym (w .infoThere .splits)) ∙ chunks-are) in
       let kind = kind-same (in-every (plain d w) (w .infoThere)) (in-every (plain e v) there) bytes in
       let (info, is) = held-as c counted (sym kind) in
       let once : c ≡ INFO (v .info) = in-once (v .once) there (v .infoThere) (rw is Covered.info) (rw is refl) in
       info-same (w .info) (v .info) (parts-same infoLetters infoLetters (infoBytes (w .info)) (infoBytes (v .info)) refl (bytes ∙ ap chunkBytes once) .1)
 
   pub chunks-one : d .chunks ≡ e .chunks
-  chunks-one = each-same chunkBytes (chunk-same (v .info .tracks)) (d .chunks) (e .chunks) (subst (λ (i : Info). Every (Plain (i .tracks)) (d .chunks)) info-is (plain d w)) (plain e v) chunks-are
+  chunks-one =
+      each-same chunkBytes (chunk-same (v .info .tracks)) (d .chunks) (e .chunks)
+      (subst (λ (i : Info). Every (Plain (i .tracks)) (d .chunks)) info-is (plain d w)) (plain e v) chunks-are
 
 -- One description only.
 pub described-once : (d e : Description) → WellFormed d → WellFormed e → encoded d ≡ encoded e → d ≡ e
@@ -82,6 +88,9 @@ described-once d e w v same =
     let byte : (k : ℕ) → getD (headerBytes d) k 0 ≡ getD (headerBytes e) k 0 = λ k. ap (λ (l : List ℕ). getD l k 0) (halves d e w v same .0) in
     let version : d .version ≡ e .version = byte 4 in
     let revision : d .revision ≡ e .revision = byte 5 in
-    let reserved : d .reserved ≡ e .reserved = next16 (d .reserved) (e .reserved) {s = []} {t = []} (front-same (68 ∷ 66 ∷ 77 ∷ 48 ∷ d .version ∷ d .revision ∷ []) (68 ∷ 66 ∷ 77 ∷ 48 ∷ e .version ∷ e .revision ∷ []) refl (halves d e w v same .0) .1) .0 in
+    let reserved : d .reserved ≡ e .reserved =
+    next16 (d .reserved) (e .reserved) {s = []} {t = []}
+    (front-same (68 ∷ 66 ∷ 77 ∷ 48 ∷ d .version ∷ d .revision ∷ []) (68 ∷ 66 ∷ 77 ∷ 48 ∷ e .version ∷ e .revision ∷ []) refl
+    (halves d e w v same .0) .1) .0 in
     let chunks : d .chunks ≡ e .chunks = chunks-one d e w v same in
     λ i. record { version = version i; revision = revision i; reserved = reserved i; chunks = chunks i }

@@ -6,7 +6,9 @@ use Rattle.vocabulary.specs.Lists.{joined}
 use Rattle.vocabulary.specs.Letters.{nameLetters, infoLetters, songLetters, instLetters, pattLetters, smplLetters, venvLetters, penvLetters}
 use Rattle.numbers.specs.Numbers.{bytes16, bytes32}
 use Rattle.packed_rows.specs.Entries.{streamOf}
-use Rattle.format.specs.Description.{Info, Song, Instrument, Pattern, Width, eight, sixteen, thirtyTwo, Sample, Point, Envelope, Chunk, NAME, INFO, SONG, INST, PATT, SMPL, VENV, PENV, Other, Description}
+use Rattle.format.specs.Description.{Info, Song, Instrument, Pattern, Width, eight, sixteen, thirtyTwo, Sample, Point}
+use Rattle.format.specs.Description.{Envelope, Chunk, NAME, INFO, SONG, INST, PATT, SMPL, VENV, PENV, Other}
+use Rattle.format.specs.Description.{Description}
 
 -- M9: five numbers of 2 bytes.
 abbrev pub infoBytes : Info → List ℕ

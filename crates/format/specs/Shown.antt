@@ -40,7 +40,8 @@ use Rattle.summary.specs.declared.NameAnswer.{NameAnswer}
 use Rattle.summary.specs.declared.InfoAnswer.{InfoAnswer}
 use Rattle.instruments.specs.Shown.{noInstrument, instrumentAnswer}
 use Rattle.instruments.specs.declared.InstrumentAnswer.{InstrumentAnswer}
-use Rattle.format.specs.Description.{Info, Song, Instrument, Pattern, Width, eight, sixteen, thirtyTwo, Sample, Envelope, Chunk, NAME, INFO, SONG, INST, PATT, SMPL, VENV, PENV, Description}
+use Rattle.format.specs.Description.{Info, Song, Instrument, Pattern, Width, eight, sixteen, thirtyTwo, Sample}
+use Rattle.format.specs.Description.{Envelope, Chunk, NAME, INFO, SONG, INST, PATT, SMPL, VENV, PENV, Description}
 use Rattle.format.specs.Encoding.{flagsOf, frameBytes}
 use Rattle.format.specs.WellFormed.{noSample as emptySample, noPoint, In}
 
@@ -172,7 +173,10 @@ frame16 sixteen f = signed16 f
 frame16 thirtyTwo f = dividedDown (signedBy 2147483648 f)
 
 abbrev pub frameRecord : ℕ → Sample → FrameAnswer
-frameRecord frame s = cond (ltb frame (length (s .frames))) (record { outcome = noRefusal; frame = frame16 (s .width) (getD (s .frames) frame 0) }) (noFrame notThere)
+frameRecord frame s =
+    cond (ltb frame (length (s .frames)))
+    (record { outcome = noRefusal; frame = frame16 (s .width) (getD (s .frames) frame 0) })
+    (noFrame notThere)
 
 abbrev pub framesLength : ℕ → Sample → LengthAnswer
 framesLength room s = lengthIf (2 * length (s .frames)) room
@@ -192,18 +196,34 @@ pub record Shows (m : List ℕ) (d : Description) : Type 0 where
   pub name : (name : List ℕ) → Named (d .chunks) name → nameAnswer m ≡ nameRecord name
   pub info : (info : Info) → In (d .chunks) (INFO info) → infoAnswer m ≡ infoRecord info
   pub song : (songs : List Song) → In (d .chunks) (SONG songs) → (number : ℕ) → songAnswer m number ≡ ofSong songRecord (noSong notThere) songs number
-  pub entry : (songs : List Song) → In (d .chunks) (SONG songs) → (number entry : ℕ) → entryAnswer m number entry ≡ ofSong (entryRecord entry) (noEntry notThere) songs number
-  pub playlist : (songs : List Song) → In (d .chunks) (SONG songs) → (number room : ℕ) → playlistAnswer m number room ≡ ofSong (playlistLength room) (refusedLength notThere) songs number
-  pub playlistOut : (songs : List Song) → In (d .chunks) (SONG songs) → (number : ℕ) (out : List ℕ) → playlistOutput m number out ≡ ofSong (playlistWritten out) out songs number
-  pub instrument : (instruments : List Instrument) → In (d .chunks) (INST instruments) → (number : ℕ) → instrumentAnswer m number ≡ listed instrumentRecord (noInstrument notThere) emptyInstrument 1 instruments number
+  pub entry : (songs : List Song) → In (d .chunks) (SONG songs) → (number entry : ℕ)
+      → entryAnswer m number entry ≡ ofSong (entryRecord entry) (noEntry notThere) songs number
+  pub playlist : (songs : List Song) → In (d .chunks) (SONG songs) → (number room : ℕ)
+      → playlistAnswer m number room ≡ ofSong (playlistLength room) (refusedLength notThere) songs number
+  pub playlistOut : (songs : List Song) → In (d .chunks) (SONG songs) → (number : ℕ) (out : List ℕ)
+      → playlistOutput m number out ≡ ofSong (playlistWritten out) out songs number
+  pub instrument : (instruments : List Instrument) → In (d .chunks) (INST instruments) → (number : ℕ)
+      → instrumentAnswer m number ≡ listed instrumentRecord (noInstrument notThere) emptyInstrument 1 instruments number
   pub envelopes : (kind : EnvelopeKind) (es : List Envelope) → Envelopes (d .chunks) kind es → countAnswer m kind ≡ countRecord es
-  pub envelope : (kind : EnvelopeKind) (es : List Envelope) → Envelopes (d .chunks) kind es → (number : ℕ) → envelopeAnswer m kind number ≡ listed (envelopeRecord kind (d .version)) (noEnvelope notThere) emptyEnvelope 0 es number
-  pub rows : (patterns : List Pattern) → In (d .chunks) (PATT patterns) → (number : ℕ) → rowsAnswer m number ≡ ofPattern rowsRecord (noRows notThere) patterns number
-  pub cell : (info : Info) (patterns : List Pattern) → In (d .chunks) (INFO info) → In (d .chunks) (PATT patterns) → (number row track : ℕ) → cellAnswer m number row track ≡ ofPattern (cellRecord (info .tracks) row track) (Refused notThere) patterns number
-  pub cells : (info : Info) (patterns : List Pattern) → In (d .chunks) (INFO info) → In (d .chunks) (PATT patterns) → (number room : ℕ) → unpackAnswer m number room ≡ ofPattern (cellsLength (info .tracks) room) (refusedLength notThere) patterns number
-  pub cellsOut : (info : Info) (patterns : List Pattern) → In (d .chunks) (INFO info) → In (d .chunks) (PATT patterns) → (number : ℕ) (out : List ℕ) → unpackOutput m number out ≡ ofPattern (cellsWritten (info .tracks) out) out patterns number
-  pub sample : (samples : List Sample) → In (d .chunks) (SMPL samples) → (number : ℕ) → sampleAnswer m number ≡ ofSample sampleRecord (noSample notThere) samples number
+  pub envelope : (kind : EnvelopeKind) (es : List Envelope) → Envelopes (d .chunks) kind es → (number : ℕ)
+      → envelopeAnswer m kind number ≡ listed (envelopeRecord kind (d .version)) (noEnvelope notThere) emptyEnvelope 0 es number
+  pub rows : (patterns : List Pattern) → In (d .chunks) (PATT patterns) → (number : ℕ)
+      → rowsAnswer m number ≡ ofPattern rowsRecord (noRows notThere) patterns number
+  pub cell : (info : Info) (patterns : List Pattern) → In (d .chunks) (INFO info) → In (d .chunks) (PATT patterns)
+      → (number row track : ℕ)
+      → cellAnswer m number row track ≡ ofPattern (cellRecord (info .tracks) row track) (Refused notThere) patterns number
+  pub cells : (info : Info) (patterns : List Pattern) → In (d .chunks) (INFO info) → In (d .chunks) (PATT patterns)
+      → (number room : ℕ)
+      → unpackAnswer m number room ≡ ofPattern (cellsLength (info .tracks) room) (refusedLength notThere) patterns number
+  pub cellsOut : (info : Info) (patterns : List Pattern) → In (d .chunks) (INFO info) → In (d .chunks) (PATT patterns)
+      → (number : ℕ) (out : List ℕ)
+      → unpackOutput m number out ≡ ofPattern (cellsWritten (info .tracks) out) out patterns number
+  pub sample : (samples : List Sample) → In (d .chunks) (SMPL samples) → (number : ℕ)
+      → sampleAnswer m number ≡ ofSample sampleRecord (noSample notThere) samples number
   pub frames : (samples : List Sample) → In (d .chunks) (SMPL samples) → (number : ℕ) → ShowsFrames m samples number
-  pub frame : (samples : List Sample) → In (d .chunks) (SMPL samples) → (number frame : ℕ) → frameAnswer m number frame ≡ ofSample (frameRecord frame) (noFrame notThere) samples number
-  pub allFrames : (samples : List Sample) → In (d .chunks) (SMPL samples) → (number room : ℕ) → allFramesAnswer m number room ≡ ofSample (framesLength room) (refusedLength notThere) samples number
-  pub allFramesOut : (samples : List Sample) → In (d .chunks) (SMPL samples) → (number : ℕ) (out : List ℕ) → allFramesOutput m number out ≡ ofSample (framesWritten out) out samples number
+  pub frame : (samples : List Sample) → In (d .chunks) (SMPL samples) → (number frame : ℕ)
+      → frameAnswer m number frame ≡ ofSample (frameRecord frame) (noFrame notThere) samples number
+  pub allFrames : (samples : List Sample) → In (d .chunks) (SMPL samples) → (number room : ℕ)
+      → allFramesAnswer m number room ≡ ofSample (framesLength room) (refusedLength notThere) samples number
+  pub allFramesOut : (samples : List Sample) → In (d .chunks) (SMPL samples) → (number : ℕ) (out : List ℕ)
+      → allFramesOutput m number out ≡ ofSample (framesWritten out) out samples number

@@ -10,7 +10,9 @@ use Rattle.numbers.specs.Numbers.{Bytes}
 use Rattle.packed_rows.specs.Entries.{Entry, streamOf}
 use Rattle.packed_rows.specs.Theorems.{allSound}
 use Rattle.acceptance.specs.Rules.{Covered, NeedsInfo, PanningFits, VolumeFits, PanningValueFits}
-use Rattle.format.specs.Description.{Info, Song, Instrument, Pattern, Width, eight, sixteen, thirtyTwo, Sample, Point, Envelope, Chunk, NAME, INFO, SONG, INST, PATT, SMPL, VENV, PENV, Other, Description}
+use Rattle.format.specs.Description.{Info, Song, Instrument, Pattern, Width, eight, sixteen, thirtyTwo, Sample, Point}
+use Rattle.format.specs.Description.{Envelope, Chunk, NAME, INFO, SONG, INST, PATT, SMPL, VENV, PENV, Other}
+use Rattle.format.specs.Description.{Description}
 use Rattle.format.specs.Encoding.{identifier, contents, encoded}
 
 -- So many bytes.
@@ -124,7 +126,11 @@ pub record In (chunks : List Chunk) (c : Chunk) : Type 0 where
 
 -- M6: a covered chunk stands at most once.
 abbrev pub Once : List Chunk → Type 0
-Once chunks = (before between after : List Chunk) (one two : Chunk) → chunks ≡ before ++ (one ∷ (between ++ (two ∷ after))) → Covered (identifier one) → identifier one ≡ identifier two → ⊥
+Once chunks =
+    (before between after : List Chunk) (one two : Chunk)
+    → chunks ≡ before ++ (one ∷ (between ++ (two ∷ after)))
+    → Covered (identifier one) → identifier one ≡ identifier two
+    → ⊥
 
 -- M7: INFO stands before SONG, INST, PATT and SMPL.
 abbrev pub InfoFirst : List Chunk → Type 0
