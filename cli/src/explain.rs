@@ -509,7 +509,7 @@ fn many(count: u64, noun: &str) -> String {
     }
 }
 
-/// `1 byte is`, `2 bytes many_are`.
+/// `1 byte is`, `2 bytes are`.
 fn many_are(count: u64, noun: &str) -> String {
     match count {
         1 => format!("1 {noun} is"),
