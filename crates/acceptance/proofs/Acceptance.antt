@@ -14,15 +14,15 @@ use Rattle.layout.specs.Outlines.{outlineIf, outline}
 use Rattle.layout.specs.declared.Layout.{Layout}
 use Rattle.layout.specs.declared.Outline.{Outline}
 use Rattle.layout.specs.declared.Outline.the-variants.{Found, Refused}
-use Rattle.module.specs.Verdicts.{contentRules, contentIf, opened, verdictOf, moduleVerdict}
+use Rattle.module.specs.Verdicts.{contentRules, contentIf, opened, verdictOfOutline, moduleVerdict}
 use Rattle.acceptance.specs.Rules.{Rules}
-use Rattle.acceptance.proofs.Standing.{LayoutOf}
+use Rattle.acceptance.proofs.Spans.{LayoutOf}
 use Rattle.acceptance.proofs.Recorded.{There}
 use Rattle.acceptance.proofs.ChunkHalf.{Outlined, outline-chunks, chunks-outline}
 use Rattle.acceptance.proofs.ContentHalf.{content-exactly}
 
 -- The verdict behind a layout that was found.
-pub verdict-found : (l : Layout) (v : Verdict) → verdictOf (outlineIf v (Found l)) ≡ v
+pub verdict-found : (l : Layout) (v : Verdict) → verdictOfOutline (outlineIf v (Found l)) ≡ v
 verdict-found l Accepted = refl
 verdict-found l (VerdictRefused r) = refl
 
@@ -52,7 +52,7 @@ module _ (m : List ℕ) (bytes : Bytes m) where
   accepted-follows : moduleVerdict m ≡ Accepted → Rules m
   accepted-follows = go (outline m) refl
     where
-      go : (o : Outline) → outline m ≡ o → verdictOf (contentIf m o) ≡ Accepted → Rules m
+      go : (o : Outline) → outline m ≡ o → verdictOfOutline (contentIf m o) ≡ Accepted → Rules m
       go (Found l) h e = rules-follow l (outline-chunks m l bytes h) (rw (verdict-found l (firstBroken (contentRules m l))) at e)
       go (Refused r) h e = let z : _≡_ {A = ℕ} 0 1 = cc in absurd (omega arith)
 
@@ -72,7 +72,7 @@ module _ (m : List ℕ) (bytes : Bytes m) where
       (found .0, rw (found .1, accepted) refl, found .2)
 
   rules-accepted : Rules m → moduleVerdict m ≡ Accepted
-  rules-accepted r = ap verdictOf (rules-open r .1)
+  rules-accepted r = ap verdictOfOutline (rules-open r .1)
 
   pub accepted-exactly : (moduleVerdict m ≡ Accepted) ↔ Rules m
   accepted-exactly = (accepted-follows, rules-accepted)

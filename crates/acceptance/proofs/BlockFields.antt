@@ -15,15 +15,15 @@ use borrow.Author.Tests.{eqb-true, eqb-false}
 use Rattle.vocabulary.specs.Lists.{none}
 use Rattle.vocabulary.proofs.EveryOne.{every-one, every-split}
 use Rattle.numbers.specs.Numbers.{byteAt, number16, number32}
-use Rattle.layout.specs.declared.Place.{Place}
+use Rattle.layout.specs.declared.ChunkSpan.{ChunkSpan}
 use Rattle.blocks.specs.StoredFields.{songLength, songEntry, envelopeFlags, envelopeSections}
 use Rattle.blocks.specs.Sizes.{widthOf, sizeOf}
 use Rattle.blocks.specs.Filling.{flagsRules}
-use Rattle.blocks.specs.declared.Kind.the-variants.{Song, Instrument, Sample, Envelope}
+use Rattle.blocks.specs.declared.BlockKind.the-variants.{Song, Instrument, Sample, Envelope}
 use Rattle.fields.specs.Fields.{panningFits, bit0, bit1, entryRules, songRules, instrumentRules, envelopeHeadRules}
 use Rattle.fields.specs.Fields.{envelopePointRules, valueFits, valueRules, valuesRules, envelopeRules}
-use Rattle.module.specs.Loops.{noLoop, forward, pingPong, isLoop, loopKind, looped, framesOf, instrumentLoopRules}
-use Rattle.acceptance.specs.Rules.{SongRules, PanningFits, Looped, InstrumentRules, SampleRules, EnvelopeRules}
+use Rattle.module.specs.Loops.{noLoop, forward, pingPong, isLoop, loopKind, isLooped, framesOfSample, instrumentLoopRules}
+use Rattle.acceptance.specs.Rules.{SongRules, PanningFits, LoopedBlock, InstrumentRules, SampleRules, EnvelopeRules}
 use Rattle.acceptance.proofs.Locating.{PartAt, byteAt-at, number16-at, number32-at, number16-start, number32-start}
 use Rattle.acceptance.proofs.Holding.{false-never, and-says, AllHold, each-hold, every-step, plain}
 use Rattle.acceptance.proofs.Cutting.{Sized}
@@ -96,12 +96,12 @@ module _ {m block : List ℕ} {at : ℕ} (p : PartAt m at block) (s : Sized Inst
         number16-at p 48 (omega (arith, instrument-size)),
       ) Iff·rfl
 
-  pub looped-says : (looped m at ≡ true) ↔ Looped block
+  pub looped-says : (isLooped m at ≡ true) ↔ LoopedBlock block
   looped-says = simp (loop-says, number32-at p 42 (omega (arith, instrument-size)), number16-at p 48 (omega (arith, instrument-size))) Iff·rfl
 
-  loop-fits-says : (chunk : Place)
+  loop-fits-says : (chunk : ChunkSpan)
       → AllHold (instrumentLoopRules m chunk at)
-      ↔ (Looped block → (1 ≤ number16 block 30) × (number32 block 38 + number32 block 42 ≤ framesOf m chunk (number16 block 30)))
+      ↔ (LoopedBlock block → (1 ≤ number16 block 30) × (number32 block 38 + number32 block 42 ≤ framesOfSample m chunk (number16 block 30)))
   loop-fits-says chunk =
       simp (
         plain,
@@ -113,8 +113,8 @@ module _ {m block : List ℕ} {at : ℕ} (p : PartAt m at block) (s : Sized Inst
       ) Iff·rfl
 
   -- The samples are as many as are counted, and their frames are those of the blocks.
-  pub instrument-holds : (chunk : Place) (samples : List (List ℕ))
-      → ((sample : ℕ) → 1 ≤ sample → sample ≤ length samples → framesOf m chunk sample ≡ number32 (getD samples (sample - 1) []) 4)
+  pub instrument-holds : (chunk : ChunkSpan) (samples : List (List ℕ))
+      → ((sample : ℕ) → 1 ≤ sample → sample ≤ length samples → framesOfSample m chunk sample ≡ number32 (getD samples (sample - 1) []) 4)
       → (AllHold (instrumentRules m (length samples) at) × AllHold (instrumentLoopRules m chunk at)) ↔ InstrumentRules samples block
   instrument-holds chunk samples frames = (
     λ e.
@@ -168,7 +168,8 @@ pub sample-sized : (block : List ℕ) → SampleRules block → Sized Sample blo
 unfolding sizeOf
 sample-sized block r = rw (width-is (number32 block 0) (r .flags)) (r .size)
 
-pub sample-holds : {m block : List ℕ} {at : ℕ} → PartAt m at block → Sized Sample block → (chunk : Place) → AllHold (flagsRules m chunk at) ↔ SampleRules block
+pub sample-holds : {m block : List ℕ} {at : ℕ} → PartAt m at block → Sized Sample block → (chunk : ChunkSpan)
+    → AllHold (flagsRules m chunk at) ↔ SampleRules block
 unfolding sizeOf
 sample-holds {m} {block} {at} p s chunk = (
   λ e.

@@ -12,7 +12,7 @@ use borrow.Author.Tests.{le-leb, eq-eqb}
 use Rattle.vocabulary.proofs.EveryOne.{every-one}
 use Rattle.refusal.specs.Numbers.{refusal}
 use Rattle.refusal.specs.Rules.{accepted}
-use Rattle.refusal.specs.declared.Cause.the-variants.{Sizes}
+use Rattle.refusal.specs.declared.Reason.the-variants.{Sizes}
 use Rattle.refusal.specs.declared.Refusal.{Refusal}
 use Rattle.refusal.specs.declared.Verdict.{Verdict}
 use Rattle.refusal.specs.declared.Verdict.the-variants.{Accepted, Refused}
@@ -20,12 +20,12 @@ use Rattle.cells.specs.Cells.{sizesFit}
 use Rattle.numbers.specs.Numbers.{Bytes, number16, number32, partOf}
 use Rattle.packed_rows.specs.Entries.{Entry}
 use Rattle.packed_rows.specs.Stream.{readStream, whole, cellsRead, AcceptedAs}
-use Rattle.packed_rows.specs.Answers.{checkAnswer, verdictOf}
-use Rattle.packed_rows.specs.Theorems.{StreamOf}
+use Rattle.packed_rows.specs.Answers.{checkAnswer, verdictOfReading}
+use Rattle.packed_rows.specs.Theorems.{SoundStream}
 use Rattle.packed_rows.proofs.Theorems.{reads-exactly, accepts-exactly}
 use Rattle.blocks.specs.StoredFields.{packedBytes}
 use Rattle.blocks.specs.Sizes.{sizeOf}
-use Rattle.blocks.specs.declared.Kind.the-variants.{Pattern}
+use Rattle.blocks.specs.declared.BlockKind.the-variants.{Pattern}
 use Rattle.module.specs.Streams.{patternStreamRules}
 use Rattle.acceptance.specs.Rules.{PatternRules}
 use Rattle.acceptance.proofs.Locating.{PartAt, number32-at, number16-start, number16-front, number32-front}
@@ -44,13 +44,13 @@ accepted-says (Refused r) = (λ e. false-never e, λ e. let z : _≡_ {A = ℕ} 
 
 module _ (stream : List ℕ) (rows tracks : ℕ) where
   pub accepted-sizes : checkAnswer stream rows tracks ≡ Accepted → sizesFit rows tracks ≡ true
-  accepted-sizes = go (sizesFit rows tracks) (refusal Sizes 0) (verdictOf (readStream rows tracks stream))
+  accepted-sizes = go (sizesFit rows tracks) (refusal Sizes 0) (verdictOfReading (readStream rows tracks stream))
     where
       go : (fits : Bool) (r : Refusal) (v : Verdict) → cond (not fits) (Refused r) v ≡ Accepted → fits ≡ true
       go true r v e = refl
       go false r v e = let z : _≡_ {A = ℕ} 0 1 = cc in absurd (omega arith)
 
-  stream-read : checkAnswer stream rows tracks ≡ Accepted → (entries : List (List Entry)) × StreamOf rows tracks stream entries
+  stream-read : checkAnswer stream rows tracks ≡ Accepted → (entries : List (List Entry)) × SoundStream rows tracks stream entries
   stream-read e = accepts-exactly rows tracks stream (accepted-sizes e) .0 e
 
   -- The cells that an accepted stream holds.
@@ -60,7 +60,7 @@ module _ (stream : List ℕ) (rows tracks : ℕ) where
       let read : readStream rows tracks stream ≡ whole entries = reads-exactly rows tracks stream entries .1 (stream-read e .1) in
       record { entries = entries; read = read; gives = rw read }
 
-  stream-accepted : rows ≤ 65535 → TracksFit tracks → (entries : List (List Entry)) → StreamOf rows tracks stream entries
+  stream-accepted : rows ≤ 65535 → TracksFit tracks → (entries : List (List Entry)) → SoundStream rows tracks stream entries
       → checkAnswer stream rows tracks ≡ Accepted
   stream-accepted h t entries s =
       accepts-exactly rows tracks stream
@@ -106,7 +106,7 @@ pattern-holds {m} {block} {at} p s tracks e = record {
     long : length stream ≡ size
     long = part-length block 6 size (omega arith)
 
-    read : (entries : List (List Entry)) × StreamOf (number16 block 0) tracks stream entries
+    read : (entries : List (List Entry)) × SoundStream (number16 block 0) tracks stream entries
     read =
         stream-read stream (number16 block 0) tracks
         (stream-says p (omega arith) stream (part-there block 6 size (omega arith)) (sym long) tracks .0 e)
@@ -114,7 +114,7 @@ pattern-holds {m} {block} {at} p s tracks e = record {
 -- A stream that is sound is accepted: that of the packed bytes.
 module _ {m block : List ℕ} {at : ℕ} (p : PartAt m at block) (s : Sized Pattern block) (below : Bytes m) (tracks : ℕ) (t : TracksFit tracks) where
   abbrev pub Sound : List (List Entry) → Type 0
-  Sound entries = StreamOf (number16 block 0) tracks (partOf block 6 (number32 block 2)) entries
+  Sound entries = SoundStream (number16 block 0) tracks (partOf block 6 (number32 block 2)) entries
 
   pub sound-accepted : (entries : List (List Entry)) → Sound entries → AllHold (patternStreamRules m tracks at)
   unfolding sizeOf
@@ -139,7 +139,7 @@ module _ (tracks : ℕ) (block : List ℕ) (r : PatternRules tracks block) where
   pattern-stream : PartAt block 6 (r .stream)
   pattern-stream = record { before = r .front; after = r .filler; bytes = r .bytes; starts = r .frontSize }
 
-  pub pattern-sound : StreamOf (number16 block 0) tracks (partOf block 6 (number32 block 2)) (r .entries)
+  pub pattern-sound : SoundStream (number16 block 0) tracks (partOf block 6 (number32 block 2)) (r .entries)
   pattern-sound = rw (pattern-rows, pattern-packed, part-is pattern-stream) (r .sound)
 
   pub pattern-sized : Sized Pattern block

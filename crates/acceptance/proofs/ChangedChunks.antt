@@ -17,16 +17,16 @@ use Rattle.vocabulary.proofs.MappedLists.{map-append, map-itself, map-split, ev
 use Rattle.vocabulary.proofs.Splits.{Within, within-every, within-mapped, mapped-within, no-two-mapped}
 use Rattle.vocabulary.proofs.JoinedLists.{joined-append}
 use Rattle.numbers.specs.Numbers.{Bytes, number32, partOf}
-use Rattle.numbers.proofs.AllBytes.{bytes-append, bytes-front, bytes-behind, bytes-joined}
-use Rattle.layout.specs.Chunks.{NAME, INFO, Chunk, chunks, whole as allWhole}
-use Rattle.layout.specs.declared.Place.{Place}
+use Rattle.numbers.proofs.AllBytes.{bytes-append, bytes-front, bytes-after, bytes-joined}
+use Rattle.layout.specs.Chunks.{nameIdentifier, infoIdentifier, ChunkHeader, chunks, complete as allWhole}
+use Rattle.layout.specs.declared.ChunkSpan.{ChunkSpan}
 use Rattle.blocks.specs.Filling.{dataEnd}
-use Rattle.acceptance.specs.Rules.{ChunkBytes, Among, AtMostOnce, Covered, BehindInfo, InfoRules, ChunkRules}
-use Rattle.acceptance.proofs.Standing.{Found}
+use Rattle.acceptance.specs.Rules.{IsChunk, Among, AtMostOnce, Covered, AfterInfo, InfoRules, ChunkRules}
+use Rattle.acceptance.proofs.Spans.{Found}
 use Rattle.acceptance.proofs.Locating.{PartAt}
 use Rattle.acceptance.proofs.Cutting.{part-first, part-rest}
 use Rattle.acceptance.proofs.Identifiers.{identifierOf, chunk-named}
-use Rattle.acceptance.proofs.Recorded.{recorded, recordsFrom, among-behind, among-front, every-among, among-within, within-among, There}
+use Rattle.acceptance.proofs.Recorded.{recorded, recordsFrom, among-after, among-front, every-among, among-within, within-among, There}
 use Rattle.acceptance.proofs.Chunking.{read-whole}
 use Rattle.acceptance.proofs.Turns.{fits-turn}
 use Rattle.acceptance.proofs.ChunkHalf.{bytes-split, chunks-part, not-before}
@@ -34,12 +34,12 @@ use Rattle.acceptance.proofs.ChunkHalf.{bytes-split, chunks-part, not-b
 -- A change of chunks: it keeps the letters of a whole chunk, makes a whole chunk of it (M5), and changes only chunks with certain
 -- identifiers.
 pub record Change (changes : ℕ → Bool) (f : List ℕ → List ℕ) : Type 0 where
-  pub letters : (chunk : List ℕ) → ChunkBytes chunk → take 4 (f chunk) ≡ take 4 chunk
-  pub whole : (chunk : List ℕ) → ChunkBytes chunk → ChunkBytes (f chunk)
-  pub stays : (chunk : List ℕ) → ChunkBytes chunk → changes (number32 chunk 0) ≡ false → f chunk ≡ chunk
+  pub letters : (chunk : List ℕ) → IsChunk chunk → take 4 (f chunk) ≡ take 4 chunk
+  pub whole : (chunk : List ℕ) → IsChunk chunk → IsChunk (f chunk)
+  pub stays : (chunk : List ℕ) → IsChunk chunk → changes (number32 chunk 0) ≡ false → f chunk ≡ chunk
 
-module _ {changes : ℕ → Bool} {f : List ℕ → List ℕ} (change : Change changes f) {all : List (List ℕ)} (whole : Every ChunkBytes all) where
-  pub whole-changed : Every ChunkBytes (map f all)
+module _ {changes : ℕ → Bool} {f : List ℕ → List ℕ} (change : Change changes f) {all : List (List ℕ)} (whole : Every IsChunk all) where
+  pub whole-changed : Every IsChunk (map f all)
   whole-changed = every-map f all .1 (every-of (change .whole) whole)
 
   -- One of the changed chunks has the letters of the chunk that it was.
@@ -73,9 +73,9 @@ module _ {changes : ℕ → Bool} {f : List ℕ → List ℕ} (change : Change c
   once-changed {letters} once = no-two-mapped f (λ (chunk : List ℕ). take 4 chunk ≡ letters) letters-were once
 
 -- M7.
-module _ {changes : ℕ → Bool} {f : List ℕ → List ℕ} (change : Change changes f) {all : List (List ℕ)} (whole : Every ChunkBytes all) where
-  behind-changed : {letters : List ℕ} → BehindInfo all letters → BehindInfo (map f all) letters
-  behind-changed behind before after chunk e named =
+module _ {changes : ℕ → Bool} {f : List ℕ → List ℕ} (change : Change changes f) {all : List (List ℕ)} (whole : Every IsChunk all) where
+  after-changed : {letters : List ℕ} → AfterInfo all letters → AfterInfo (map f all) letters
+  after-changed behind before after chunk e named =
       let s = map-split f all before after chunk e in
       let one : Within all (s .one) = record { before = s .front; after = s .back; splits = s .splits } in
       let first = every-append (s .front) (s .one ∷ s .back) .0 (rw (s .splits) at whole) .0 in
@@ -85,13 +85,13 @@ module _ {changes : ℕ → Bool} {f : List ℕ → List ℕ} (change : Change c
 
 module _ {m header : List ℕ} {all : List (List ℕ)} (rules : ChunkRules m header all) {changes : ℕ → Bool} {f : List ℕ → List ℕ}
     (change : Change changes f) where
-  -- M9 of INFO where it does not change.
-  pub info-left : changes INFO ≡ false → (info : List ℕ) → Among all infoLetters info → InfoRules (f info)
+  -- M9 of infoIdentifier where it does not change.
+  pub info-left : changes infoIdentifier ≡ false → (info : List ℕ) → Among all infoLetters info → InfoRules (f info)
   info-left left info a = subst InfoRules (sym (stays-as change (rules .whole) Covered.info left a)) (rules .info info a)
 
-  -- M2 to M9 of the changed module, where it is short enough, NAME does not change and INFO changed is as M9 says.
+  -- M2 to M9 of the changed module, where it is short enough, nameIdentifier does not change and infoIdentifier changed is as M9 says.
   module _ {n : List ℕ} (bytes : n ≡ header ++ joined (map f all)) (limit : length n ≤ 16777216) where
-    pub rules-changed : changes NAME ≡ false → ((info : List ℕ) → Among all infoLetters info → InfoRules (f info)) → ChunkRules n header (map f all)
+    pub rules-changed : changes nameIdentifier ≡ false → ((info : List ℕ) → Among all infoLetters info → InfoRules (f info)) → ChunkRules n header (map f all)
     rules-changed name info = record {
       bytes = bytes;
       limit = limit;
@@ -101,7 +101,7 @@ module _ {m header : List ℕ} {all : List (List ℕ)} (rules : ChunkRules m hea
       revision = rules .revision;
       whole = whole-changed change (rules .whole);
       once = λ letters covers. once-changed change (rules .whole) (rules .once letters covers);
-      behindInfo = λ letters needs. behind-changed change (rules .whole) (rules .behindInfo letters needs);
+      afterInfo = λ letters needs. after-changed change (rules .whole) (rules .afterInfo letters needs);
       name = λ chunk a. rules .name chunk (left-among change (rules .whole) Covered.name name a);
       info = λ chunk a. let (one, there, same) = changed-among change (rules .whole) a in subst InfoRules (sym same) (info one there);
     }
@@ -110,12 +110,12 @@ module _ {m header : List ℕ} {all : List (List ℕ)} (rules : ChunkRules m hea
 module _ (f : List ℕ → List ℕ) (each : (chunk : List ℕ) → Bytes chunk → Bytes (f chunk)) (header : List ℕ) (all : List (List ℕ)) where
   pub bytes-changed : Bytes (header ++ joined all) → Bytes (header ++ joined (map f all))
   bytes-changed below =
-      let old : Every Bytes all = bytes-joined all .1 (bytes-behind header (joined all) below) in
+      let old : Every Bytes all = bytes-joined all .1 (bytes-after header (joined all) below) in
       bytes-append header (joined (map f all)) (bytes-front header (joined all) below) (bytes-joined (map f all) .0 (every-map f all .1 (every-of each old)))
 
 -- Two changes that differ in the chunk with one identifier at most.
 abbrev pub SameBut : ℕ → (List ℕ → List ℕ) → (List ℕ → List ℕ) → Type 0
-SameBut identifier f g = (chunk : List ℕ) → ChunkBytes chunk → eqb (number32 chunk 0) identifier ≡ false → f chunk ≡ g chunk
+SameBut identifier f g = (chunk : List ℕ) → IsChunk chunk → eqb (number32 chunk 0) identifier ≡ false → f chunk ≡ g chunk
 
 module _ (first last : List (List ℕ)) (part : List ℕ) {list : List (List ℕ)} (e : list ≡ first ++ (part ∷ last)) where
   joined-length : length (joined list) ≡ length (joined first) + (length part + length (joined last))
@@ -124,11 +124,11 @@ module _ (first last : List (List ℕ)) (part : List ℕ) {list : List (List ℕ
       rw (e, joined-append first (part ∷ last)) (omega (arith, length-append (joined first) (part ++ joined last), rest))
 
 module _ {letters : List ℕ} (covers : Covered letters) {f g : List ℕ → List ℕ} (agree : SameBut (identifierOf covers) f g) where
-  others-same : {chunks : List (List ℕ)} → Every ChunkBytes chunks → (There chunks letters → ⊥) → map f chunks ≡ map g chunks
+  others-same : {chunks : List (List ℕ)} → Every IsChunk chunks → (There chunks letters → ⊥) → map f chunks ≡ map g chunks
   others-same none absent = refl
   others-same (also {x = chunk} {xs = chunks} c e) absent =
       let first = agree chunk c (ne-eqb _ _ (λ same. absent (chunk, among-front chunk chunks (chunk-named c covers .0 same)))) in
-      let rest = others-same e (λ there. absent (there .0, among-behind chunk (there .1))) in
+      let rest = others-same e (λ there. absent (there .0, among-after chunk (there .1))) in
       λ i. first i ∷ rest i
 
   module _ {m header : List ℕ} {all : List (List ℕ)} (rules : ChunkRules m header all) {chunk : List ℕ} (a : Among all letters chunk) where
@@ -164,24 +164,24 @@ module _ {letters : List ℕ} (covers : Covered letters) {f : List ℕ → List 
         omega (arith, grown, same, ap length (rules .bytes), length-append header (joined all), length-append header (joined (map f all)))
 
     -- By its place.
-    pub alone-at : (place : Place) → Found m all letters place → header ++ joined (map f all) ≡ take (place .at) m ++ (f chunk ++ drop (dataEnd place) m)
-    alone-at place found =
+    pub alone-at : (span : ChunkSpan) → Found m all letters span → header ++ joined (map f all) ≡ take (span .at) m ++ (f chunk ++ drop (dataEnd span) m)
+    alone-at span found =
         let before : List ℕ = header ++ joined (a .before) in
         let after : List ℕ = joined (a .after) in
-        let long : length before ≡ place .at = omega (arith, length-append header (joined (a .before)), rules .headerSize, found .begins chunk a) in
-        let end : length (before ++ chunk) ≡ dataEnd place = omega (arith, long, length-append before chunk, found .stands chunk a .size) in
+        let long : length before ≡ span .at = omega (arith, length-append header (joined (a .before)), rules .headerSize, found .begins chunk a) in
+        let end : length (before ++ chunk) ≡ dataEnd span = omega (arith, long, length-append before chunk, found .holds chunk a .size) in
         let split : m ≡ before ++ (chunk ++ after) = bytes-split rules a in
-        let front : take (place .at) m ≡ before = ap (take (place .at)) split ∙ take-at before (chunk ++ after) (place .at) long in
+        let front : take (span .at) m ≡ before = ap (take (span .at)) split ∙ take-at before (chunk ++ after) (span .at) long in
         let parts : m ≡ (before ++ chunk) ++ after = split ∙ sym (append-assoc before chunk after) in
-        let rest : drop (dataEnd place) m ≡ after = ap (drop (dataEnd place)) parts ∙ drop-at (before ++ chunk) after (dataEnd place) end in
+        let rest : drop (dataEnd span) m ≡ after = ap (drop (dataEnd span)) parts ∙ drop-at (before ++ chunk) after (dataEnd span) end in
         rw (split-alone, joined-append (a .before) (f chunk ∷ a .after), front, rest) (simp append-assoc)
 
 -- Chunks as the check reads them: what is made of each record, by its place, is the change of the chunk that begins there.
-abbrev pub Reads : List ℕ → (Chunk → List ℕ) → (List ℕ → List ℕ) → Type 0
-Reads m made f = (at : ℕ) (chunk : List ℕ) → PartAt m at chunk → ChunkBytes chunk → made (recorded at chunk) ≡ f chunk
+abbrev pub Reads : List ℕ → (ChunkHeader → List ℕ) → (List ℕ → List ℕ) → Type 0
+Reads m made f = (at : ℕ) (chunk : List ℕ) → PartAt m at chunk → IsChunk chunk → made (recorded at chunk) ≡ f chunk
 
-module _ {m : List ℕ} (made : Chunk → List ℕ) (f : List ℕ → List ℕ) (reads : Reads m made f) where
-  records-changed : (at : ℕ) (all : List (List ℕ)) → PartAt m at (joined all) → Every ChunkBytes all → map made (recordsFrom at all) ≡ map f all
+module _ {m : List ℕ} (made : ChunkHeader → List ℕ) (f : List ℕ → List ℕ) (reads : Reads m made f) where
+  records-changed : (at : ℕ) (all : List (List ℕ)) → PartAt m at (joined all) → Every IsChunk all → map made (recordsFrom at all) ≡ map f all
   records-changed at [] p none = refl
   records-changed at (chunk ∷ all) p (also c e) =
       let first = reads at chunk (part-first chunk (joined all) p) c in
@@ -192,7 +192,7 @@ module _ {m header : List ℕ} {all : List (List ℕ)} (rules : ChunkRules m hea
   pub chunks-read : chunks m ≡ allWhole (recordsFrom 8 all)
   chunks-read = read-whole m header all (rules .headerSize) (rules .bytes) (fits-turn (chunks-part rules))
 
-  module _ (made : Chunk → List ℕ) (f : List ℕ → List ℕ) (reads : Reads m made f) where
+  module _ (made : ChunkHeader → List ℕ) (f : List ℕ → List ℕ) (reads : Reads m made f) where
     pub module-changed : partOf m 0 8 ++ joined (map made (recordsFrom 8 all)) ≡ header ++ joined (map f all)
     module-changed =
         let front : partOf m 0 8 ≡ header = ap (take 8) (rules .bytes) ∙ take-at header (joined all) 8 (rules .headerSize) in

@@ -12,15 +12,15 @@ use borrow.Author.Tests.{eq-eqb}
 use Rattle.vocabulary.specs.Lists.{joined}
 use Rattle.numbers.specs.Numbers.{Bytes, number32, partOf, bytes32}
 use Rattle.numbers.proofs.AllBytes.{bytes-append, bytes-take, bytes32-bytes}
-use Rattle.layout.specs.declared.Place.{Place}
+use Rattle.layout.specs.declared.ChunkSpan.{ChunkSpan}
 use Rattle.blocks.specs.Filling.{dataEnd}
-use Rattle.acceptance.specs.Rules.{ChunkBytes, Among, Covered, ChunkRules, Filled}
-use Rattle.acceptance.proofs.Standing.{Found}
+use Rattle.acceptance.specs.Rules.{IsChunk, Among, Covered, ChunkRules, Filled}
+use Rattle.acceptance.proofs.Spans.{Found}
 use Rattle.acceptance.proofs.Locating.{byteAt-front, byteAt-take, PartAt, part-is, bytes32-number}
 use Rattle.acceptance.proofs.Cutting.{part-front, front-taken}
 use Rattle.acceptance.proofs.Identifiers.{identifierOf, chunk-named, letters-number}
 use Rattle.acceptance.proofs.Recorded.{every-among}
-use Rattle.acceptance.proofs.ChunkHalf.{stands-part}
+use Rattle.acceptance.proofs.ChunkHalf.{span-part}
 use Rattle.acceptance.proofs.ChangedChunks.{Change, SameBut, alone-at}
 
 -- A chunk with other data (M5).
@@ -35,7 +35,7 @@ dataChanged identifier content others chunk = cond (eqb (number32 chunk 0) ident
 pub no-change : Change (λ n. false) (λ chunk. chunk)
 no-change = record { letters = λ chunk c. refl; whole = λ chunk c. c; stays = λ chunk c e. refl }
 
-module _ (content chunk : List ℕ) (c : ChunkBytes chunk) where
+module _ (content chunk : List ℕ) (c : IsChunk chunk) where
   four : length (take 4 chunk) ≡ 4
   four = length-take-le 4 chunk (omega (arith, c .size))
 
@@ -45,14 +45,14 @@ module _ (content chunk : List ℕ) (c : ChunkBytes chunk) where
   pub data-size : length (withData content chunk) ≡ 8 + length content
   data-size = omega (arith, length-append (take 4 chunk) (bytes32 (length content) ++ content), four)
 
-  pub data-whole : ChunkBytes (withData content chunk)
+  pub data-whole : IsChunk (withData content chunk)
   data-whole = record {
     size = omega (arith, data-size, ap (number32 (withData content chunk)) (sym four) ∙ bytes32-number (length content) (take 4 chunk) content);
     letters = λ i h. rw (byteAt-front (take 4 chunk) (bytes32 (length content) ++ content) i (omega (arith, four)), byteAt-take 4 chunk i h) (c .letters i h);
   }
 
 -- Blocks as the data of a chunk fill it (B1).
-pub data-filled : (blocks : List (List ℕ)) (chunk : List ℕ) → ChunkBytes chunk → Filled 8 (withData (joined blocks) chunk) (length blocks) blocks
+pub data-filled : (blocks : List (List ℕ)) (chunk : List ℕ) → IsChunk chunk → Filled 8 (withData (joined blocks) chunk) (length blocks) blocks
 data-filled blocks chunk c =
     let content : List ℕ = joined blocks in
     let front : List ℕ = take 4 chunk ++ bytes32 (length content) in
@@ -80,16 +80,16 @@ module _ (identifier : ℕ) (content : List ℕ) (others : List ℕ → List ℕ
     pub data-change : Change (λ n. eqb n identifier || changes n) changed
     data-change = record {
       letters = λ chunk c. by-identifier (λ new. take 4 new ≡ take 4 chunk) chunk (data-letters content chunk c) (change .letters chunk c);
-      whole = λ chunk c. by-identifier ChunkBytes chunk (data-whole content chunk c) (change .whole chunk c);
+      whole = λ chunk c. by-identifier IsChunk chunk (data-whole content chunk c) (change .whole chunk c);
       stays = λ chunk c e. go chunk c (eqb (number32 chunk 0) identifier) e;
     }
       where
-        go : (chunk : List ℕ) → ChunkBytes chunk → (b : Bool) → b || changes (number32 chunk 0) ≡ false → changedIf b chunk ≡ chunk
+        go : (chunk : List ℕ) → IsChunk chunk → (b : Bool) → b || changes (number32 chunk 0) ≡ false → changedIf b chunk ≡ chunk
         go chunk c true e = let z : _≡_ {A = ℕ} 0 1 = cc in absurd (omega arith)
         go chunk c false e = change .stays chunk c e
 
     -- Once more changes nothing, where the others then do not change either.
-    pub data-twice : (chunk : List ℕ) → ChunkBytes chunk → others (others chunk) ≡ others chunk → changed (changed chunk) ≡ changed chunk
+    pub data-twice : (chunk : List ℕ) → IsChunk chunk → others (others chunk) ≡ others chunk → changed (changed chunk) ≡ changed chunk
     data-twice chunk c again = go (eqb (number32 chunk 0) identifier) refl
       where
         same-number : (new : List ℕ) → take 4 new ≡ take 4 chunk → number32 new 0 ≡ number32 chunk 0
@@ -117,13 +117,13 @@ module _ {letters : List ℕ} (covers : Covered letters) (content : List ℕ) (o
   abbrev given : List ℕ → List ℕ
   given = dataChanged (identifierOf covers) content others
 
-  pub data-there : {chunk : List ℕ} → ChunkBytes chunk → take 4 chunk ≡ letters → given chunk ≡ withData content chunk
+  pub data-there : {chunk : List ℕ} → IsChunk chunk → take 4 chunk ≡ letters → given chunk ≡ withData content chunk
   data-there {chunk} c named =
       let is = eq-eqb (number32 chunk 0) (identifierOf covers) (chunk-named c covers .1 named) in
       ap (λ (b : Bool). cond b (withData content chunk) (others chunk)) is
 
 -- A chunk by its place, with the new data and as it is.
-module _ {m chunk : List ℕ} {at : ℕ} (p : PartAt m at chunk) (c : ChunkBytes chunk) where
+module _ {m chunk : List ℕ} {at : ℕ} (p : PartAt m at chunk) (c : IsChunk chunk) where
   pub data-read : (content : List ℕ) → partOf m at 4 ++ (bytes32 (length content) ++ content) ≡ withData content chunk
   data-read content = ap (λ (front : List ℕ). front ++ (bytes32 (length content) ++ content)) (part-front p 4 (omega (arith, c .size)))
 
@@ -136,13 +136,13 @@ module _ {letters : List ℕ} (covers : Covered letters) (content : List ℕ) wh
   alone = dataChanged (identifierOf covers) content (λ chunk. chunk)
 
   -- The same by appending to the module's bytes before the chunk's length and after the chunk.
-  abbrev spliced : List ℕ → Place → List ℕ
-  spliced m place = take (place .at + 4) m ++ (bytes32 (length content) ++ (content ++ drop (dataEnd place) m))
+  abbrev spliced : List ℕ → ChunkSpan → List ℕ
+  spliced m span = take (span .at + 4) m ++ (bytes32 (length content) ++ (content ++ drop (dataEnd span) m))
 
   module _ {m header : List ℕ} {all : List (List ℕ)} (rules : ChunkRules m header all) {chunk : List ℕ} (a : Among all letters chunk) where
-    pub data-at : (place : Place) → Found m all letters place → header ++ joined (map alone all) ≡ spliced m place
-    data-at place found =
+    pub data-at : (span : ChunkSpan) → Found m all letters span → header ++ joined (map alone all) ≡ spliced m span
+    data-at span found =
         let c = every-among (rules .whole) a in
-        let front = front-taken (stands-part (found .stands chunk a)) 4 (omega (arith, c .size)) in
-        alone-at covers (data-same-but (identifierOf covers) content (λ one. one)) rules a place found
+        let front = front-taken (span-part (found .holds chunk a)) 4 (omega (arith, c .size)) in
+        alone-at covers (data-same-but (identifierOf covers) content (λ one. one)) rules a span found
         ∙ rw (data-there covers content (λ one. one) c (a .named), front) (simp append-assoc)

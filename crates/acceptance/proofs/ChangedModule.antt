@@ -8,13 +8,13 @@ use Rattle.vocabulary.specs.Lists.{joined, Every}
 use Rattle.vocabulary.specs.Letters.{infoLetters, venvLetters, penvLetters}
 use Rattle.vocabulary.proofs.Splits.{only-one}
 use Rattle.numbers.specs.Numbers.{byteAt, Bytes, number16}
-use Rattle.layout.specs.Chunks.{NAME, INFO, VENV, PENV}
+use Rattle.layout.specs.Chunks.{nameIdentifier, infoIdentifier, venvIdentifier, penvIdentifier}
 use Rattle.layout.specs.declared.Layout.{Layout}
 use Rattle.layout.specs.declared.Outline.the-variants.{Found}
 use Rattle.module.specs.Verdicts.{opened}
-use Rattle.acceptance.specs.Rules.{ChunkBytes, Among, Covered, InfoRules, Filled, SongRules, InstrumentRules}
+use Rattle.acceptance.specs.Rules.{IsChunk, Among, Covered, InfoRules, Filled, SongRules, InstrumentRules}
 use Rattle.acceptance.specs.Rules.{PatternRules, SampleRules, EnvelopesRules, VolumeFits, PanningValueFits, Rules}
-use Rattle.acceptance.proofs.Standing.{LayoutOf}
+use Rattle.acceptance.proofs.Spans.{LayoutOf}
 use Rattle.acceptance.proofs.Identifiers.{identifierOf}
 use Rattle.acceptance.proofs.Recorded.{among-within}
 use Rattle.acceptance.proofs.ChangedChunks.{Change, stays-as, among-changed, left-among, rules-changed}
@@ -36,22 +36,22 @@ pub record BlocksAfter (f : List ℕ → List ℕ) {m : List ℕ} (r : Rules m) 
   pub sampleRules : Every SampleRules samples
   pub asMany : length (r .content .instruments) ≡ length instruments
 
--- NAME and the envelopes do not change.
+-- nameIdentifier and the envelopes do not change.
 pub record LeavesRest (changes : ℕ → Bool) : Type 0 where
-  pub name : changes NAME ≡ false
-  pub volume : changes VENV ≡ false
-  pub panning : changes PENV ≡ false
+  pub name : changes nameIdentifier ≡ false
+  pub volume : changes venvIdentifier ≡ false
+  pub panning : changes penvIdentifier ≡ false
 
 module _ {m : List ℕ} (r : Rules m) {changes : ℕ → Bool} {f : List ℕ → List ℕ} (change : Change changes f) where
-  abbrev whole : Every ChunkBytes (r .chunks)
+  abbrev whole : Every IsChunk (r .chunks)
   whole = r .chunkRules .whole
 
-  -- The blocks of a chunk that does not change, where INFO does not either.
-  module _ (info : changes INFO ≡ false) where
+  -- The blocks of a chunk that does not change, where infoIdentifier does not either.
+  module _ (info : changes infoIdentifier ≡ false) where
     pub info-stays : f (r .info) ≡ r .info
     info-stays = stays-as change whole Covered.info info (r .infoThere)
 
-    -- A chunk has so many blocks as the number at this offset of INFO says.
+    -- A chunk has so many blocks as the number at this offset of infoIdentifier says.
     abbrev FilledBy : List ℕ → List ℕ → ℕ → List (List ℕ) → Type 0
     FilledBy chunk one offset blocks = Filled 8 chunk (number16 one offset) blocks
 
@@ -62,7 +62,7 @@ module _ {m : List ℕ} (r : Rules m) {changes : ℕ → Bool} {f : List ℕ →
           let counted = subst (λ (one : List ℕ). FilledBy chunk one offset blocks) (sym info-stays) filled in
           subst (λ (one : List ℕ). FilledBy one (f (r .info)) offset blocks) (sym (stays-as change whole covers left a)) counted
 
-  -- INFO is there once.
+  -- infoIdentifier is there once.
   info-rules : InfoRules (f (r .info)) → (info : List ℕ) → Among (r .chunks) infoLetters info → InfoRules (f info)
   info-rules rules info a =
       let once = r .chunkRules .once infoLetters Covered.info in

@@ -14,13 +14,13 @@ use Rattle.vocabulary.proofs.JoinedLists.{joined-append}
 use Rattle.numbers.specs.Numbers.{Bytes}
 use Rattle.layout.specs.Header.{headerRules}
 use Rattle.layout.specs.Chunks.{occurs}
-use Rattle.layout.specs.Outlines.{standing, placeOf, placesOf, layoutWith, mandatoryThere, outline}
-use Rattle.layout.specs.declared.Place.{Place}
+use Rattle.layout.specs.Outlines.{standing, spanOf, spansOf, layoutWith, mandatoryThere, outline}
+use Rattle.layout.specs.declared.ChunkSpan.{ChunkSpan}
 use Rattle.layout.specs.declared.Layout.{Layout}
 use Rattle.layout.specs.declared.Outline.{Outline}
 use Rattle.layout.specs.declared.Outline.the-variants.{Found as OutlineFound, Refused}
 use Rattle.acceptance.specs.Rules.{Among, Covered, ChunkRules}
-use Rattle.acceptance.proofs.Standing.{Stands, Found, LayoutOf}
+use Rattle.acceptance.proofs.Spans.{SpanHolds, Found, LayoutOf}
 use Rattle.acceptance.proofs.Locating.{PartAt, number16-at}
 use Rattle.acceptance.proofs.Holding.{and-says, accepted-hold}
 use Rattle.acceptance.proofs.Identifiers.{identifierOf, chunk-named}
@@ -47,8 +47,8 @@ pub record Outlined (m : List ℕ) (l : Layout) : Type 0 where
   pub layout : LayoutOf m header chunks l
 
 -- The bytes of a chunk stand where its place says.
-pub stands-part : {m chunk : List ℕ} {place : Place} → Stands m place chunk → PartAt m (place .at) chunk
-stands-part s = record { before = s .before; after = s .after; bytes = s .bytes; starts = s .starts }
+pub span-part : {m chunk : List ℕ} {span : ChunkSpan} → SpanHolds m span chunk → PartAt m (span .at) chunk
+span-part s = record { before = s .before; after = s .after; bytes = s .bytes; starts = s .starts }
 
 module _ {m header : List ℕ} {all : List (List ℕ)} (rules : ChunkRules m header all) where
   -- A chunk among the chunks, and the first of its letters there.
@@ -63,15 +63,15 @@ module _ {m header : List ℕ} {all : List (List ℕ)} (rules : ChunkRules m hea
         rules .once letters covers (b .before) (b .after) (a .after) other chunk
         (a .splits ∙ rw (b .splits) (append-assoc (b .before) (other ∷ b .after) (chunk ∷ a .after))) (b .named) (a .named)
 
-    place-is : (covers : Covered letters) → placeOf (identifierOf covers) (recordsFrom 8 all) ≡ standing (recorded (8 + length (joined (a .before))) chunk)
+    place-is : (covers : Covered letters) → spanOf (identifierOf covers) (recordsFrom 8 all) ≡ standing (recorded (8 + length (joined (a .before))) chunk)
     place-is covers =
         let before = every-append (a .before) (chunk ∷ a .after) .0 (rw (a .splits) at (rules .whole)) .0 in
         let c = every-among (rules .whole) a in
-        ap (λ (l : List (List ℕ)). placeOf (identifierOf covers) (recordsFrom 8 l)) (a .splits)
+        ap (λ (l : List (List ℕ)). spanOf (identifierOf covers) (recordsFrom 8 l)) (a .splits)
         ∙ place-of-first covers 8 chunk (a .after) before (chunk-named c covers .1 (a .named)) (not-before covers)
 
-    stands-of : (covers : Covered letters) → Stands m (placeOf (identifierOf covers) (recordsFrom 8 all)) chunk
-    stands-of covers = record {
+    span-of : (covers : Covered letters) → SpanHolds m (spanOf (identifierOf covers) (recordsFrom 8 all)) chunk
+    span-of covers = record {
       before = header ++ joined (a .before);
       after = joined (a .after);
       bytes = bytes-split;
@@ -80,19 +80,19 @@ module _ {m header : List ℕ} {all : List (List ℕ)} (rules : ChunkRules m hea
       size = rw (place-is covers) (every-among (rules .whole) a .size);
     }
 
-  found-of : {letters : List ℕ} (covers : Covered letters) → Found m all letters (placeOf (identifierOf covers) (recordsFrom 8 all))
+  found-of : {letters : List ℕ} (covers : Covered letters) → Found m all letters (spanOf (identifierOf covers) (recordsFrom 8 all))
   found-of covers = record {
-    stands = λ chunk a. stands-of a covers;
-    begins = λ chunk a. ap (λ (p : Place). p .at) (place-is a covers);
+    holds = λ chunk a. span-of a covers;
+    begins = λ chunk a. ap (λ (p : ChunkSpan). p .at) (place-is a covers);
     chunk = λ present. occurs-says covers 8 (rules .whole) .0 (sym (present-occurs (identifierOf covers) (recordsFrom 8 all)) ∙ present);
   }
 
-  layout-of : LayoutOf m header all (layoutWith m (placesOf (recordsFrom 8 all)))
+  layout-of : LayoutOf m header all (layoutWith m (spansOf (recordsFrom 8 all)))
   layout-of = record {
     version = header-byte m header (joined all) (rules .bytes) (rules .headerSize) 4 (omega arith);
     revision = header-byte m header (joined all) (rules .bytes) (rules .headerSize) 5 (omega arith);
     counts = λ info a. (
-        let part = stands-part (stands-of a Covered.info) in
+        let part = span-part (span-of a Covered.info) in
         let long = rules .info info a .size in (
           number16-at part 8 (omega arith),
           number16-at part 10 (omega arith),
@@ -133,7 +133,7 @@ rules-of bytes size head fits = record {
   revision = head .revision;
   whole = fits .whole;
   once = fits .once;
-  behindInfo = fits .behindInfo;
+  afterInfo = fits .afterInfo;
   name = fits .name;
   info = fits .info;
 }
@@ -143,24 +143,26 @@ module _ {m header : List ℕ} {all : List (List ℕ)} (rules : ChunkRules m hea
   header-part = record { limit = rules .limit; begins = rules .begins; version = rules .version; revision = rules .revision }
 
   pub chunks-part : ChunksFit all
-  chunks-part = record { whole = rules .whole; once = rules .once; behindInfo = rules .behindInfo; name = rules .name; info = rules .info }
+  chunks-part = record { whole = rules .whole; once = rules .once; afterInfo = rules .afterInfo; name = rules .name; info = rules .info }
 
 -- Found, so the rules hold.
-abbrev Told : List ℕ → Outline → Type 0
-Told m (OutlineFound l) = Outlined m l
-Told m (Refused r) = Unit {0}
+abbrev Says : List ℕ → Outline → Type 0
+Says m (OutlineFound l) = Outlined m l
+Says m (Refused r) = Unit {0}
 
-told : (m : List ℕ) → Bytes m → Told m (outline m)
-told m below = along-outline m (Told m) (record { header = λ r e. tt; chunk = λ before at reached less r e. tt; missing = λ all read lacks. tt; found = found })
+reported : (m : List ℕ) → Bytes m → Says m (outline m)
+reported m below =
+    along-outline m (Says m)
+    (record { header = λ r e. tt; chunk = λ before at reached less r e. tt; missing = λ all read lacks. tt; found = found })
   where
-    found : (all : List (List ℕ)) → AllRead m all → mandatoryThere (recordsFrom 8 all) ≡ true → Outlined m (layoutWith m (placesOf (recordsFrom 8 all)))
+    found : (all : List (List ℕ)) → AllRead m all → mandatoryThere (recordsFrom 8 all) ≡ true → Outlined m (layoutWith m (spansOf (recordsFrom 8 all)))
     found all read h =
         let size = read .front .headerSize in
         let rules = rules-of (read .bytes) size (rules-header m (take 8 m) (joined all) (read .bytes) size below (read .header)) (turn-fits (read .turn)) in
         record { header = take 8 m; chunks = all; rules = rules; mandatory = mandatory-says rules .0 h; layout = layout-of rules }
 
 pub outline-chunks : (m : List ℕ) (l : Layout) → Bytes m → outline m ≡ OutlineFound l → Outlined m l
-outline-chunks m l below e = subst (Told m) e (told m below)
+outline-chunks m l below e = subst (Says m) e (reported m below)
 
 -- The rules hold, so found.
 pub chunks-outline : (m header : List ℕ) (all : List (List ℕ)) → ChunkRules m header all → Mandatory all
@@ -168,4 +170,4 @@ pub chunks-outline : (m header : List ℕ) (all : List (List ℕ)) → ChunkRule
 chunks-outline m header all rules mandatory =
     let accepted = accepted-hold (headerRules m) .1 (header-rules m header (joined all) (rules .bytes) (rules .headerSize) (header-part rules)) in
     let walked = read-whole m header all (rules .headerSize) (rules .bytes) (fits-turn (chunks-part rules)) in
-    (layoutWith m (placesOf (recordsFrom 8 all)), rw (accepted, walked, mandatory-says rules .1 mandatory), layout-of rules)
+    (layoutWith m (spansOf (recordsFrom 8 all)), rw (accepted, walked, mandatory-says rules .1 mandatory), layout-of rules)

@@ -11,16 +11,17 @@ use borrow.Author.Tests.{leb-true, leb-false, eqb-true, eqb-false}
 use Rattle.vocabulary.specs.Lists.{joined, Every}
 use Rattle.vocabulary.specs.Letters.{infoLetters}
 use Rattle.refusal.specs.Numbers.{refusal}
-use Rattle.refusal.specs.declared.Cause.the-variants.{Repeated, BeforeInfo, Missing, InfoRange}
+use Rattle.refusal.specs.declared.Reason.the-variants.{Repeated, BeforeInfo, Missing, InfoRange}
 use Rattle.refusal.specs.declared.Refusal.{Refusal}
 use Rattle.numbers.specs.Numbers.{byteAt, number16, number32}
 use Rattle.layout.specs.Header.{headerFits, versionFits, headerRules}
-use Rattle.layout.specs.Chunks.{NAME, INFO, SONG, INST, PATT, SMPL, Chunk, occurs, chunkAt, fourLetters, needsInfo, covered}
+use Rattle.layout.specs.Chunks.{nameIdentifier, infoIdentifier, songIdentifier, instIdentifier, pattIdentifier, smplIdentifier, ChunkHeader, occurs}
+use Rattle.layout.specs.Chunks.{chunkAt, fourLetters, needsInfo, covered}
 use Rattle.layout.specs.Chunks.{lengthFits, tracksFit, infoRules, chunkRules}
 use Rattle.layout.specs.Outlines.{mandatoryThere, outline}
 use Rattle.layout.specs.declared.Outline.{Outline}
 use Rattle.layout.specs.declared.Outline.the-variants.{Found, Refused}
-use Rattle.acceptance.specs.Rules.{ChunkBytes, Covered, NeedsInfo}
+use Rattle.acceptance.specs.Rules.{IsChunk, Covered, NeedsInfo}
 use Rattle.acceptance.specs.Faults.{HeaderFault, VersionFault, CutFault, IdentifierFault, LengthFault, RangeFault}
 use Rattle.acceptance.specs.Places.{ChunkBegins, ChunksOf, PlaceOf, tooLong, notAModule, version, chunkCut, identifier}
 use Rattle.acceptance.specs.Places.{repeated, beforeInfo, missing, fixedLength, infoRange}
@@ -107,7 +108,7 @@ module _ {m header : List ℕ} {before : List (List ℕ)} {at : ℕ} (r : Reache
         CutFault.contents (omega (arith, leb-false (at + 8 + number32 m (at + 4)) (length m) e, rest-long))
 
   -- The others are of a whole chunk.
-  module _ {chunk : List ℕ} (part : PartAt m at chunk) (c : ChunkBytes chunk) where
+  module _ {chunk : List ℕ} (part : PartAt m at chunk) (c : IsChunk chunk) where
     abbrev chunk-at : ChunkBegins m at
     chunk-at = record {
       begins = record {
@@ -137,9 +138,9 @@ module _ {m header : List ℕ} {before : List (List ℕ)} {at : ℕ} (r : Reache
         let letter = named covers same in
         (repeated chunk-at (record { covered = rw letter covers; other = other; among = rw letter among }), inside)
 
-    before-placed : not (needsInfo (number32 m at)) || occurs INFO (recordsFrom 8 before) ≡ false → Placed m (refusal BeforeInfo at)
+    before-placed : not (needsInfo (number32 m at)) || occurs infoIdentifier (recordsFrom 8 before) ≡ false → Placed m (refusal BeforeInfo at)
     before-placed e =
-        let (need, lacks) = unless-broken (needsInfo (number32 m at)) (occurs INFO (recordsFrom 8 before)) e in
+        let (need, lacks) = unless-broken (needsInfo (number32 m at)) (occurs infoIdentifier (recordsFrom 8 before)) e in
         let (letters, needs, same) = needing-letters (number32 m at) need in
         let no = never (occurs-says Covered.info 8 (turn-bytes (r .turn))) lacks in
         (beforeInfo chunk-at (record { needs = rw (named (needing needs) same) needs; lacks = λ info a. no (info, a) }), inside)
@@ -153,9 +154,10 @@ module _ {m header : List ℕ} {before : List (List ℕ)} {at : ℕ} (r : Reache
 
     length-fault : lengthFits (chunkAt m at) ≡ false → LengthFault chunk
     length-fault =
-        both-broken (not (eqb (number32 m at) NAME) || eqb (number32 m (at + 4)) 44) (not (eqb (number32 m at) INFO) || eqb (number32 m (at + 4)) 10)
-        (λ e. let (is, other) = other-length NAME 44 e in LengthFault.name (named Covered.name is) other)
-        (λ _ e. let (is, other) = other-length INFO 10 e in LengthFault.info (named Covered.info is) other)
+        both-broken (not (eqb (number32 m at) nameIdentifier) || eqb (number32 m (at + 4)) 44)
+        (not (eqb (number32 m at) infoIdentifier) || eqb (number32 m (at + 4)) 10)
+        (λ e. let (is, other) = other-length nameIdentifier 44 e in LengthFault.name (named Covered.name is) other)
+        (λ _ e. let (is, other) = other-length infoIdentifier 10 e in LengthFault.info (named Covered.info is) other)
 
     module _ (letters : take 4 chunk ≡ infoLetters) (long : length chunk ≡ 18) where
       range-placed : {offset : ℕ} (place : ℕ) → place ≡ at + offset → offset < 18 → RangeFault chunk offset → Placed m (refusal InfoRange place)
@@ -183,9 +185,9 @@ module _ {m header : List ℕ} {before : List (List ℕ)} {at : ℕ} (r : Reache
           this-or (number-placed 8 (lit< tt) tracksFit (λ e. RangeFault.tracks (never (tracks-say (number16 chunk 16)) e))) λ _.
           no-rule
 
-    info-if-placed : lengthFits (chunkAt m at) ≡ true → eqb (number32 m at) INFO ≡ true → WhereBroken (Placed m) (infoRules m (at + 8))
+    info-if-placed : lengthFits (chunkAt m at) ≡ true → eqb (number32 m at) infoIdentifier ≡ true → WhereBroken (Placed m) (infoRules m (at + 8))
     info-if-placed lengths test =
-        let is = eqb-true (number32 m at) INFO test in
+        let is = eqb-true (number32 m at) infoIdentifier test in
         let ten : number32 m (at + 4) ≡ 10 = (simp (and-says, unless-says, eqb-says) at lengths) .1 is in
         info-placed (named Covered.info is) (omega (arith, c .size, data-length-is part (c .size)))
 
@@ -196,11 +198,11 @@ module _ {m header : List ℕ} {before : List (List ℕ)} {at : ℕ} (r : Reache
       this-or (λ b. (identifier here (letters-fault headed b), inside)) λ lettered.
       this-or (λ b. (chunkCut here (data-fault headed b), inside)) λ whole.
       let (chunk, part, size) = whole-part m at (leb-true (at + 8 + number32 m (at + 4)) (length m) whole) in
-      let c : ChunkBytes chunk = record { size = size; letters = chunk-letters-say part size .0 lettered } in
+      let c : IsChunk chunk = record { size = size; letters = chunk-letters-say part size .0 lettered } in
       this-or (repeated-placed part c) λ _.
       this-or (before-placed part c) λ _.
       this-or (λ b. (fixedLength (chunk-at part c) (length-fault part c b), inside)) λ lengths.
-      broken-if (eqb (number32 m at) INFO) (info-if-placed part c lengths)
+      broken-if (eqb (number32 m at) infoIdentifier) (info-if-placed part c lengths)
 
 -- 8.
 abbrev Mandatory : List ℕ → Type 0
@@ -208,16 +210,16 @@ Mandatory letters = (letters ≡ infoLetters) ⊎ NeedsInfo letters
 
 missing-placed : (m : List ℕ) (all : List (List ℕ)) → AllRead m all → mandatoryThere (recordsFrom 8 all) ≡ false → Placed m (refusal Missing (length m))
 missing-placed m all read =
-    both-broken (occurs INFO records) _ (lacks Covered.info (inl refl)) λ _.
-    both-broken (occurs SONG records) _ (lacks Covered.song (inr NeedsInfo.song)) λ _.
-    both-broken (occurs INST records) _ (lacks Covered.inst (inr NeedsInfo.inst)) λ _.
-    both-broken (occurs PATT records) (occurs SMPL records) (lacks Covered.patt (inr NeedsInfo.patt)) λ _.
+    both-broken (occurs infoIdentifier records) _ (lacks Covered.info (inl refl)) λ _.
+    both-broken (occurs songIdentifier records) _ (lacks Covered.song (inr NeedsInfo.song)) λ _.
+    both-broken (occurs instIdentifier records) _ (lacks Covered.inst (inr NeedsInfo.inst)) λ _.
+    both-broken (occurs pattIdentifier records) (occurs smplIdentifier records) (lacks Covered.patt (inr NeedsInfo.patt)) λ _.
     lacks Covered.smpl (inr NeedsInfo.smpl)
   where
-    records : List Chunk
+    records : List ChunkHeader
     records = recordsFrom 8 all
 
-    whole : Every ChunkBytes all
+    whole : Every IsChunk all
     whole = turn-bytes (read .turn)
 
     these : ChunksOf m all
@@ -229,12 +231,12 @@ missing-placed m all read =
         (missing these (record { letters = letters; mandatory = mandatory; lacks = λ chunk a. no (chunk, a) }), omega arith)
 
 -- What an outline says of places.
-abbrev Told : List ℕ → Outline → Type 0
-Told m (Found l) = Unit {0}
-Told m (Refused r) = Placed m r
+abbrev Says : List ℕ → Outline → Type 0
+Says m (Found l) = Unit {0}
+Says m (Refused r) = Placed m r
 
-told : (m : List ℕ) → Told m (outline m)
-told m = along-outline m (Told m) (record {
+reported : (m : List ℕ) → Says m (outline m)
+reported m = along-outline m (Says m) (record {
   header = first-broken (header-placed m);
   chunk = λ before at reached less. first-broken (chunk-placed reached less);
   missing = missing-placed m;
@@ -242,4 +244,4 @@ told m = along-outline m (Told m) (record {
 })
 
 pub outline-place : (m : List ℕ) (r : Refusal) → outline m ≡ Refused r → Placed m r
-outline-place m r e = subst (Told m) e (told m)
+outline-place m r e = subst (Says m) e (reported m)

@@ -17,8 +17,8 @@ use Rattle.refusal.specs.declared.Refusal.{Refusal}
 use Rattle.refusal.specs.declared.Verdict.{Verdict}
 use Rattle.refusal.specs.declared.Verdict.the-variants.{Accepted, Refused}
 use Rattle.numbers.specs.Numbers.{number32, partOf}
-use Rattle.layout.specs.Chunks.{Chunk, chunkAt, chunkEnd, chunkRules, Walk, whole, stopped, goOn, chunksFrom, chunks}
-use Rattle.acceptance.specs.Rules.{ChunkBytes}
+use Rattle.layout.specs.Chunks.{ChunkHeader, chunkAt, chunkEnd, chunkRules, Walk, complete, stopped, walkOn, chunksFrom, chunks}
+use Rattle.acceptance.specs.Rules.{IsChunk}
 use Rattle.acceptance.proofs.Locating.{PartAt, number32-at, part-length, part-there, part-inside}
 use Rattle.acceptance.proofs.Holding.{AllHold, accepted-hold}
 use Rattle.acceptance.proofs.Recorded.{recordsFrom, records-append}
@@ -31,7 +31,7 @@ pub data InTurn : List (List ℕ) → List (List ℕ) → Type 0 where
       → InTurn (before ++ (chunk ∷ [])) rest
       → InTurn before (chunk ∷ rest)
 
-pub turn-bytes : {before rest : List (List ℕ)} → InTurn before rest → Every ChunkBytes rest
+pub turn-bytes : {before rest : List (List ℕ)} → InTurn before rest → Every IsChunk rest
 turn-bytes done = none
 turn-bytes (next fits turn) = also (fits .bytes) (turn-bytes turn)
 
@@ -117,7 +117,7 @@ accepted-fits {m} {header} {before} {at} r hold =
 
 -- Induction along the walk: what holds where all chunks are read, and where one is refused, holds of every walk.
 module _ {m header : List ℕ} (P : Walk → Type 0)
-    (ends : (all : List (List ℕ)) → m ≡ header ++ joined all → InTurn [] all → P (whole (recordsFrom 8 all)))
+    (ends : (all : List (List ℕ)) → m ≡ header ++ joined all → InTurn [] all → P (complete (recordsFrom 8 all)))
     (stops : (before : List (List ℕ)) (at : ℕ) → Reached m header before at → at < length m → (r : Refusal)
     → firstBroken (chunkRules m (recordsFrom 8 before) at) ≡ Refused r
     → P (stopped r)) where
@@ -132,7 +132,7 @@ module _ {m header : List ℕ} (P : Walk → Type 0)
       behind : Walk
       behind = chunksFrom steps m (recordsFrom 8 before ++ (chunkAt m at ∷ [])) (chunkEnd (chunkAt m at))
 
-      turn : (v : Verdict) → firstBroken (chunkRules m (recordsFrom 8 before) at) ≡ v → at < length m → Onward steps → P (goOn v behind)
+      turn : (v : Verdict) → firstBroken (chunkRules m (recordsFrom 8 before) at) ≡ v → at < length m → Onward steps → P (walkOn v behind)
       turn (Refused refused) e less ih = stops before at r less refused e
       turn Accepted e less ih =
           let (chunk, part, fits) = accepted-fits r (accepted-hold (chunkRules m (recordsFrom 8 before) at) .0 e) in
@@ -140,7 +140,7 @@ module _ {m header : List ℕ} (P : Walk → Type 0)
           (ih (before ++ (chunk ∷ [])) (at + length chunk) (reached-next r part fits) (omega (arith, fits .bytes .size)))
 
       go : (b : Bool) → leb (length m) at ≡ b → Onward steps
-          → P (cond b (whole (recordsFrom 8 before)) (goOn (firstBroken (chunkRules m (recordsFrom 8 before) at)) behind))
+          → P (cond b (complete (recordsFrom 8 before)) (walkOn (firstBroken (chunkRules m (recordsFrom 8 before) at)) behind))
       go true e ih = ends before (reached-end r (leb-true (length m) at e)) (r .turn)
       go false e ih = turn (firstBroken (chunkRules m (recordsFrom 8 before) at)) refl (leb-false (length m) at e) ih
 
@@ -149,12 +149,12 @@ module _ {m header : List ℕ} (P : Walk → Type 0)
   along r = along-steps (suc (length m)) [] 8 r (omega arith)
 
 -- Chunks in turn are read to the end.
-walk-ends : (steps : ℕ) (m : List ℕ) (before : List Chunk) (at : ℕ) → length m ≤ at → chunksFrom steps m before at ≡ whole before
+walk-ends : (steps : ℕ) (m : List ℕ) (before : List ChunkHeader) (at : ℕ) → length m ≤ at → chunksFrom steps m before at ≡ complete before
 unfolding chunksFrom
 walk-ends zero m before at h = refl
 walk-ends (suc steps) m before at h = rw (le-leb (length m) at h)
 
-walk-goes-on : (steps : ℕ) (m : List ℕ) (before : List Chunk) (at : ℕ) → at < length m
+walk-goes-on : (steps : ℕ) (m : List ℕ) (before : List ChunkHeader) (at : ℕ) → at < length m
     → firstBroken (chunkRules m before at) ≡ Accepted
     → chunksFrom (suc steps) m before at ≡ chunksFrom steps m (before ++ (chunkAt m at ∷ [])) (chunkEnd (chunkAt m at))
 unfolding chunksFrom
@@ -162,7 +162,7 @@ walk-goes-on steps m before at h e = rw (lt-leb (length m) at h, e)
 
 read-on : (steps : ℕ) {m header : List ℕ} {before rest : List (List ℕ)} {at : ℕ} → Reached m header before at
     → m ≡ (header ++ joined before) ++ joined rest → InTurn before rest → length m < at + steps
-    → chunksFrom steps m (recordsFrom 8 before) at ≡ whole (recordsFrom 8 (before ++ rest))
+    → chunksFrom steps m (recordsFrom 8 before) at ≡ complete (recordsFrom 8 (before ++ rest))
 read-on zero r bytes turn h = absurd (omega (arith, reached-inside r))
 read-on (suc steps) {m} {header} {before} {at = at} r bytes done h =
     let over : length m ≤ at = omega (arith, ap length bytes, length-append (header ++ joined before) [], r .there) in
@@ -177,7 +177,8 @@ read-on (suc steps) {m} {header} {before} {at = at} r bytes (next {chunk = chunk
     ∙ ih
     ∙ rw append-assoc
 
-pub read-whole : (m header : List ℕ) (all : List (List ℕ)) → length header ≡ 8 → m ≡ header ++ joined all → InTurn [] all → chunks m ≡ whole (recordsFrom 8 all)
+pub read-whole : (m header : List ℕ) (all : List (List ℕ)) → length header ≡ 8 → m ≡ header ++ joined all → InTurn [] all
+    → chunks m ≡ complete (recordsFrom 8 all)
 unfolding chunks
 read-whole m header all size bytes turn =
     let bytes′ : m ≡ (header ++ []) ++ joined all = rw (append-nil header) bytes in

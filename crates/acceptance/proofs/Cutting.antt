@@ -10,8 +10,8 @@ use lib.Seq.{length-take-le, take-at, take-append-add, take-append-le}
 use Rattle.vocabulary.specs.Lists.{joined, Every, none, also}
 use Rattle.numbers.specs.Numbers.{partOf}
 use Rattle.blocks.specs.Sizes.{sizeOf, placesFrom, placeAfter}
-use Rattle.blocks.specs.declared.Kind.{Kind}
-use Rattle.blocks.specs.declared.Kind.the-variants.{Song, Instrument, Pattern, Sample, Envelope}
+use Rattle.blocks.specs.declared.BlockKind.{BlockKind}
+use Rattle.blocks.specs.declared.BlockKind.the-variants.{Song, Instrument, Pattern, Sample, Envelope}
 use Rattle.acceptance.proofs.Locating.{PartAt, number16-at, number32-at, number32-start, part-is}
 
 -- A part of two parts.
@@ -40,14 +40,14 @@ module _ {m part : List ℕ} {at : ℕ} (p : PartAt m at part) (k : ℕ) (h : k 
       ∙ ap (λ (l : List ℕ). l ++ take k part) (sym before)
 
 -- The bytes that every block of a kind has.
-abbrev pub least : Kind → ℕ
+abbrev pub least : BlockKind → ℕ
 least Song = 46
 least Instrument = 50
 least Pattern = 6
 least Sample = 8
 least Envelope = 136
 
-pub size-least : (kind : Kind) (m : List ℕ) (at : ℕ) → least kind ≤ sizeOf kind m at
+pub size-least : (kind : BlockKind) (m : List ℕ) (at : ℕ) → least kind ≤ sizeOf kind m at
 unfolding sizeOf
 size-least Song m at = omega arith
 size-least Instrument m at = omega arith
@@ -56,14 +56,14 @@ size-least Sample m at = omega arith
 size-least Envelope m at = omega arith
 
 -- A block that is as long as its own bytes say.
-abbrev pub Sized : Kind → List ℕ → Type 0
+abbrev pub Sized : BlockKind → List ℕ → Type 0
 Sized kind block = length block ≡ sizeOf kind block 0
 
-pub sized-least : (kind : Kind) (block : List ℕ) → Sized kind block → least kind ≤ length block
+pub sized-least : (kind : BlockKind) (block : List ℕ) → Sized kind block → least kind ≤ length block
 sized-least kind block s = rw s (size-least kind block 0)
 
 -- The size that is read at the block's place is that in the block.
-pub size-in-part : (kind : Kind) {m block : List ℕ} {at : ℕ} → PartAt m at block → least kind ≤ length block → sizeOf kind m at ≡ sizeOf kind block 0
+pub size-in-part : (kind : BlockKind) {m block : List ℕ} {at : ℕ} → PartAt m at block → least kind ≤ length block → sizeOf kind m at ≡ sizeOf kind block 0
 unfolding sizeOf
 size-in-part Song p h = rw (number16-at p 44 (omega arith))
 size-in-part Instrument p h = refl
@@ -71,7 +71,7 @@ size-in-part Pattern p h = rw (number32-at p 2 (omega arith))
 size-in-part Sample p h = rw (number32-at p 4 (omega arith), number32-start p (omega arith))
 size-in-part Envelope p h = refl
 
-module _ (kind : Kind) {m : List ℕ} where
+module _ (kind : BlockKind) {m : List ℕ} where
   pub part-size : {block : List ℕ} {at : ℕ} → PartAt m at block → Sized kind block → sizeOf kind m at ≡ length block
   part-size {block} p s = size-in-part kind p (sized-least kind block s) ∙ sym s
 
@@ -87,13 +87,15 @@ pub after-first : (size : ℕ → ℕ) (n at first : ℕ) → size at ≡ first 
 after-first size n at first e = ap (λ (k : ℕ). placeAfter size n (at + k)) e
 
 -- Data cut into so many blocks.
-pub record Cut (kind : Kind) (n : ℕ) (bytes : List ℕ) : Type 0 where
+pub record Cut (kind : BlockKind) (n : ℕ) (bytes : List ℕ) : Type 0 where
   pub blocks : List (List ℕ)
   pub number : length blocks ≡ n
   pub all : bytes ≡ joined blocks
   pub sized : Every (Sized kind) blocks
 
-pub cut : (kind : Kind) (m : List ℕ) (n at : ℕ) (bytes : List ℕ) → PartAt m at bytes → placeAfter (sizeOf kind m) n at ≡ at + length bytes → Cut kind n bytes
+pub cut : (kind : BlockKind) (m : List ℕ) (n at : ℕ) (bytes : List ℕ) → PartAt m at bytes
+    → placeAfter (sizeOf kind m) n at ≡ at + length bytes
+    → Cut kind n bytes
 cut kind m zero at [] p e = record { blocks = []; number = refl; all = refl; sized = none }
 cut kind m zero at (x ∷ bytes) p e = absurd (omega arith)
 cut kind m (suc n) at bytes p e =
@@ -124,7 +126,7 @@ cut kind m (suc n) at bytes p e =
     }
 
 -- Blocks lead to the end of their bytes.
-pub blocks-end : (kind : Kind) {m : List ℕ} {at : ℕ} (blocks : List (List ℕ)) → PartAt m at (joined blocks)
+pub blocks-end : (kind : BlockKind) {m : List ℕ} {at : ℕ} (blocks : List (List ℕ)) → PartAt m at (joined blocks)
     → Every (Sized kind) blocks
     → placeAfter (sizeOf kind m) (length blocks) at ≡ at + length (joined blocks)
 blocks-end kind [] p e = omega arith
@@ -134,7 +136,7 @@ blocks-end kind {at = at} (block ∷ blocks) p (also s e) =
     ∙ omega (arith, length-append block (joined blocks))
 
 -- Each block stands at its place.
-pub block-there : (kind : Kind) {m : List ℕ} {at : ℕ} (blocks : List (List ℕ)) (i : ℕ) → i < length blocks
+pub block-there : (kind : BlockKind) {m : List ℕ} {at : ℕ} (blocks : List (List ℕ)) (i : ℕ) → i < length blocks
     → PartAt m at (joined blocks) → Every (Sized kind) blocks
     → PartAt m (placeAfter (sizeOf kind m) i at) (getD blocks i [])
 block-there kind [] i h p e = absurd (omega arith)
@@ -143,7 +145,7 @@ block-there kind (block ∷ blocks) (suc i) h p (also s e) =
     rw (part-size kind (part-first block (joined blocks) p) s) (block-there kind blocks i (omega arith) (part-rest block (joined blocks) p) e)
 
 -- What holds of every place holds of every block, and back.
-module _ (kind : Kind) {m : List ℕ} {P : ℕ → Type 0} {Q : List ℕ → Type 0} where
+module _ (kind : BlockKind) {m : List ℕ} {P : ℕ → Type 0} {Q : List ℕ → Type 0} where
   pub places-blocks : ((at : ℕ) (block : List ℕ) → PartAt m at block → Sized kind block → P at → Q block)
       → {at : ℕ} (blocks : List (List ℕ)) → PartAt m at (joined blocks) → Every (Sized kind) blocks
       → Every P (placesFrom (sizeOf kind m) (length blocks) at)

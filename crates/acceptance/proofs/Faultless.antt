@@ -18,10 +18,10 @@ use Rattle.layout.specs.declared.Layout.{Layout}
 use Rattle.layout.specs.declared.Outline.{Outline}
 use Rattle.layout.specs.declared.Outline.the-variants.{Found}
 use Rattle.blocks.specs.Sizes.{sizeOf}
-use Rattle.blocks.specs.Things.{kindOf}
-use Rattle.blocks.specs.declared.Thing.{Thing}
-use Rattle.blocks.specs.declared.Thing.the-variants.{Song, Instrument, Pattern, Sample, VolumeEnvelope, PanningEnvelope}
-use Rattle.module.specs.Verdicts.{contentRules, contentIf, verdictOf, moduleVerdict}
+use Rattle.blocks.specs.RecordKinds.{blockKindOf}
+use Rattle.blocks.specs.declared.RecordKind.{RecordKind}
+use Rattle.blocks.specs.declared.RecordKind.the-variants.{Song, Instrument, Pattern, Sample, VolumeEnvelope, PanningEnvelope}
+use Rattle.module.specs.Verdicts.{contentRules, contentIf, verdictOfOutline, moduleVerdict}
 use Rattle.acceptance.specs.Rules.{Among, NeedsInfo, SongRules, InstrumentRules, PatternRules, SampleRules}
 use Rattle.acceptance.specs.Rules.{EnvelopeRules, VolumeFits, PanningValueFits, Content, Rules}
 use Rattle.acceptance.specs.Faults.{lettersOf, frontOf, MadeOf, BlocksFault, InstrumentLacks, ReferenceFault}
@@ -30,7 +30,7 @@ use Rattle.acceptance.specs.Places.{AllChunks, BlockBegins, ContentPlace
 use Rattle.acceptance.specs.Places.{PlaceOf, tooLong, notAModule, version, chunkCut, identifier, repeated, beforeInfo}
 use Rattle.acceptance.specs.Places.{missing, fixedLength, infoRange, content}
 use Rattle.acceptance.proofs.Recorded.{There}
-use Rattle.acceptance.proofs.Standing.{LayoutOf}
+use Rattle.acceptance.proofs.Spans.{LayoutOf}
 use Rattle.acceptance.proofs.ChunkHalf.{Mandatory, chunks-outline}
 use Rattle.acceptance.proofs.BlockStreams.{pattern-sound, pattern-sized}
 use Rattle.acceptance.proofs.ContentHalf.{content-exactly}
@@ -62,11 +62,11 @@ no-instrument-fault r (InstrumentFault.panning h) = h (r .panning)
 no-instrument-fault r (InstrumentFault.flags h) = absurd (omega (arith, r .flags))
 
 -- Blocks fill a chunk in one way only.
-blocks-same : (thing : Thing) {info chunk : List ℕ} {xs ys : List (List ℕ)} → MadeOf thing info chunk xs → MadeOf thing info chunk ys → xs ≡ ys
-blocks-same thing {chunk = chunk} {xs = xs} {ys = ys} a b =
-    let front = take (frontOf thing) chunk in
+blocks-same : (kind : RecordKind) {info chunk : List ℕ} {xs ys : List (List ℕ)} → MadeOf kind info chunk xs → MadeOf kind info chunk ys → xs ≡ ys
+blocks-same kind {chunk = chunk} {xs = xs} {ys = ys} a b =
+    let front = take (frontOf kind) chunk in
     let joins = split-same front front (joined xs) (joined ys) refl (sym (a .filled .bytes) ∙ b .filled .bytes) .1 in
-    all-same (blocks-own (kindOf thing)) (every-of (sized-of thing) (a .sizes)) (every-of (sized-of thing) (b .sizes)) joins
+    all-same (blocks-own (blockKindOf kind)) (every-of (sized-of kind) (a .sizes)) (every-of (sized-of kind) (b .sizes)) joins
 
 -- The chunks are made of the blocks of the content.
 module _ {header : List ℕ} {chunks : List (List ℕ)} {info song inst patt smpl : List ℕ} (c : Content header chunks info song inst patt smpl) where
@@ -109,7 +109,7 @@ module _ {m : List ℕ} (below : Bytes m) (accepted : moduleVerdict m ≡ Accept
   passes : firstBroken (contentRules m (found .0)) ≡ Accepted
   passes =
       sym (verdict-found (found .0) (firstBroken (contentRules m (found .0))))
-      ∙ ap (λ (o : Outline). verdictOf (contentIf m o)) (sym (found .1))
+      ∙ ap (λ (o : Outline). verdictOfOutline (contentIf m o)) (sym (found .1))
       ∙ accepted
 
   -- The content, whichever chunks are taken for the four.
@@ -138,7 +138,7 @@ module _ {m : List ℕ} (below : Bytes m) (accepted : moduleVerdict m ≡ Accept
   any-content = content-of (any-song .1) (any-inst .1) (any-patt .1) (any-smpl .1)
 
   -- 11.
-  no-blocks-fault : (thing : Thing) (chunk : List ℕ) → Is (lettersOf thing) chunk → BlocksFault thing (all .info) chunk → ⊥
+  no-blocks-fault : (kind : RecordKind) (chunk : List ℕ) → Is (lettersOf kind) chunk → BlocksFault kind (all .info) chunk → ⊥
   no-blocks-fault Song chunk a fault = fault .none _ (songs-made (content-of a (any-inst .1) (any-patt .1) (any-smpl .1)))
   no-blocks-fault Instrument chunk a fault = fault .none _ (instruments-made (content-of (any-song .1) a (any-patt .1) (any-smpl .1)))
   no-blocks-fault Pattern chunk a fault = fault .none _ (patterns-made (content-of (any-song .1) (any-inst .1) a (any-smpl .1)))
@@ -147,14 +147,14 @@ module _ {m : List ℕ} (below : Bytes m) (accepted : moduleVerdict m ≡ Accept
   no-blocks-fault PanningEnvelope chunk a fault = fault .none _ (panning-made any-content a)
 
   -- What holds of all blocks of a chunk holds of the block at a place.
-  module _ {thing : Thing} {place : ℕ} (b : BlockBegins all thing place) {Q : List ℕ → Type 0} {list : List (List ℕ)} where
-    block-has : MadeOf thing (all .info) (b .within .chunk) list → Every Q list → Q (b .block)
+  module _ {kind : RecordKind} {place : ℕ} (b : BlockBegins all kind place) {Q : List ℕ → Type 0} {list : List (List ℕ)} where
+    block-has : MadeOf kind (all .info) (b .within .chunk) list → Every Q list → Q (b .block)
     block-has made every =
-        let each : Every Q (b .before ++ (b .block ∷ b .after)) = subst (Every Q) (blocks-same thing made (b .blocks)) every in
+        let each : Every Q (b .before ++ (b .block ∷ b .after)) = subst (Every Q) (blocks-same kind made (b .blocks)) every in
         every-first (every-append (b .before) (b .block ∷ b .after) .0 each .1)
 
   -- The rules of the block at a place.
-  abbrev RulesOf : Thing → List ℕ → Type 0
+  abbrev RulesOf : RecordKind → List ℕ → Type 0
   RulesOf Song block = SongRules (number16 (all .info) 14) block
   RulesOf Instrument block = InstrumentRules (any-content .samples) block
   RulesOf Pattern block = PatternRules (number16 (all .info) 16) block
@@ -170,7 +170,7 @@ module _ {m : List ℕ} (below : Bytes m) (accepted : moduleVerdict m ≡ Accept
         let rules = block-has b (instruments-made c) (c .instrumentRules) in
         subst (λ (list : List (List ℕ)). InstrumentRules list (b .block)) (blocks-same Sample (samples-made c) made) rules
 
-  block-rules : (thing : Thing) {place : ℕ} (b : BlockBegins all thing place) → RulesOf thing (b .block)
+  block-rules : (kind : RecordKind) {place : ℕ} (b : BlockBegins all kind place) → RulesOf kind (b .block)
   block-rules Song b =
       let c = content-of (b .within .among) (any-inst .1) (any-patt .1) (any-smpl .1) in
       subst (λ (n : ℕ). SongRules n (b .block)) (c .patternsFill .number) (block-has b (songs-made c) (c .songRules))
@@ -191,14 +191,14 @@ module _ {m : List ℕ} (below : Bytes m) (accepted : moduleVerdict m ≡ Accept
       subst (λ (n : ℕ). EnvelopeRules n (PanningValueFits (byteAt (all .header) 4)) (b .block)) (c .instrumentsFill .number) rules
 
   -- 12.
-  no-reference-fault : {block : List ℕ} {thing : Thing} {offset : ℕ} → ReferenceFault (all .info) block thing offset → RulesOf thing block → ⊥
-  no-reference-fault (ReferenceFault.entry i low over) r = absurd (omega (arith, r .entries i low))
+  no-reference-fault : {block : List ℕ} {kind : RecordKind} {offset : ℕ} → ReferenceFault (all .info) block kind offset → RulesOf kind block → ⊥
+  no-reference-fault (ReferenceFault.playlistEntry i low over) r = absurd (omega (arith, r .entries i low))
   no-reference-fault (ReferenceFault.sample over) r = absurd (omega (arith, r .sample, any-content .samplesFill .number))
   no-reference-fault {block} (ReferenceFault.ofVolume none) r = no-instrument (all .info) block none (r .instrument)
   no-reference-fault {block} (ReferenceFault.ofPanning none) r = no-instrument (all .info) block none (r .instrument)
 
   -- 13.
-  no-field-fault : {block : List ℕ} {thing : Thing} {offset : ℕ} → FieldFault (all .header) block thing offset → RulesOf thing block → ⊥
+  no-field-fault : {block : List ℕ} {kind : RecordKind} {offset : ℕ} → FieldFault (all .header) block kind offset → RulesOf kind block → ⊥
   no-field-fault (FieldFault.instrument fault) r = no-instrument-fault r fault
   no-field-fault (FieldFault.ofVolume fault) r = no-envelope-fault r fault
   no-field-fault (FieldFault.ofPanning fault) r = no-envelope-fault r fault
@@ -217,9 +217,9 @@ module _ {m : List ℕ} (below : Bytes m) (accepted : moduleVerdict m ≡ Accept
         fault .none (rules .entries) (pattern-sound (number16 (all .info) 16) (b .block) rules)
 
   no-place-in : {r : Refusal} → ContentPlace all r → ⊥
-  no-place-in (blocks {thing = thing} at fault) = no-blocks-fault thing (at .chunk) (at .among) fault
-  no-place-in (reference at) = no-reference-fault (at .wrong) (block-rules (at .thing) (at .within))
-  no-place-in (fieldRange at) = no-field-fault (at .wrong) (block-rules (at .thing) (at .within))
+  no-place-in (blocks {kind = kind} at fault) = no-blocks-fault kind (at .chunk) (at .among) fault
+  no-place-in (reference at) = no-reference-fault (at .wrong) (block-rules (at .kind) (at .within))
+  no-place-in (fieldRange at) = no-field-fault (at .wrong) (block-rules (at .kind) (at .within))
   no-place-in (loop at fault) = no-loop-fault at fault
   no-place-in (stream at fault) = no-stream-fault at fault
 

@@ -11,7 +11,7 @@ use Rattle.vocabulary.specs.Lists.{joined}
 use Rattle.vocabulary.specs.Letters.{infoLetters}
 use Rattle.vocabulary.proofs.EveryOne.{every-append, every-first}
 use Rattle.numbers.specs.Numbers.{byteAt, number32}
-use Rattle.acceptance.specs.Rules.{ChunkBytes, Among, NeedsInfo, InfoRules, ChunkRules}
+use Rattle.acceptance.specs.Rules.{IsChunk, Among, NeedsInfo, InfoRules, ChunkRules}
 use Rattle.acceptance.specs.Faults.{HeaderFault, VersionFault, CutFault, IdentifierFault, RepeatedFault, OrderFault}
 use Rattle.acceptance.specs.Faults.{MissingFault, LengthFault, RangeFault, InfoFault}
 use Rattle.acceptance.specs.Places.{HeaderAt, ChunkBegins, ChunksOf}
@@ -65,7 +65,7 @@ module _ {m header : List ℕ} {chunks : List (List ℕ)} (c : ChunkRules m head
       more : List (List ℕ)
       splits : chunks ≡ at .before ++ (chunk ∷ more)
       bytes : chunk ++ joined more ≡ at .after
-      whole : ChunkBytes chunk
+      whole : IsChunk chunk
 
     next : Next
     next =
@@ -125,7 +125,7 @@ module _ {m header : List ℕ} {chunks : List (List ℕ)} (c : ChunkRules m head
 
     pub no-order-fault : OrderFault (at .begins .before) (at .chunk) → ⊥
     no-order-fault fault =
-        let (info, a) = c .behindInfo (take 4 (at .chunk)) (fault .needs) (at .begins .before) (splits .0) (at .chunk) (splits .1) refl in
+        let (info, a) = c .afterInfo (take 4 (at .chunk)) (fault .needs) (at .begins .before) (splits .0) (at .chunk) (splits .1) refl in
         fault .lacks info a
 
     pub no-length-fault : LengthFault (at .chunk) → ⊥

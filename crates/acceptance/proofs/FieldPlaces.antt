@@ -11,17 +11,17 @@ use borrow.Author.Tests.{leb-true, leb-false, ltb-false, eqb-true}
 use Rattle.vocabulary.proofs.EveryOne.{every-first, every-rest, every-of}
 use Rattle.refusal.specs.Numbers.{refusal}
 use Rattle.refusal.specs.Rules.{Rule, rulesOfEach}
-use Rattle.refusal.specs.declared.Cause.the-variants.{Reference, FieldRange}
+use Rattle.refusal.specs.declared.Reason.the-variants.{Reference, FieldRange}
 use Rattle.numbers.specs.Numbers.{byteAt, number16}
 use Rattle.layout.specs.declared.Layout.{Layout}
 use Rattle.blocks.specs.StoredFields.{songLength, songEntry, instrumentSample, envelopeFlags, envelopeSections, envelopeLoopFirst}
 use Rattle.blocks.specs.StoredFields.{envelopeLoopLast}
 use Rattle.blocks.specs.Sizes.{blocksOf}
-use Rattle.blocks.specs.declared.Kind.{Kind}
-use Rattle.blocks.specs.declared.Kind.the-variants.{Envelope}
-use Rattle.blocks.specs.Things.{kindOf, chunkOf, countOf}
-use Rattle.blocks.specs.declared.Thing.{Thing}
-use Rattle.blocks.specs.declared.Thing.the-variants.{Song, Instrument, VolumeEnvelope, PanningEnvelope}
+use Rattle.blocks.specs.declared.BlockKind.{BlockKind}
+use Rattle.blocks.specs.declared.BlockKind.the-variants.{Envelope}
+use Rattle.blocks.specs.RecordKinds.{blockKindOf, chunkOf, countOf}
+use Rattle.blocks.specs.declared.RecordKind.{RecordKind}
+use Rattle.blocks.specs.declared.RecordKind.the-variants.{Song, Instrument, VolumeEnvelope, PanningEnvelope}
 use Rattle.fields.specs.Fields.{panningFits, bit1, bit2, bit3, entryRules, songRules, instrumentRules, envelopeHeadRules}
 use Rattle.fields.specs.Fields.{envelopePointRules, valueFits, valueRules, valuesRules, envelopeRules, fieldRules}
 use Rattle.acceptance.specs.Rules.{VolumeFits, PanningValueFits}
@@ -50,21 +50,21 @@ module _ {m : List ℕ} {l : Layout} (o : Outlined m l) where
   infoBytes = all-chunks o .info
 
   -- At an offset of a block.
-  module _ {thing : Thing} {at : ℕ} (b : Begins o thing at) where
+  module _ {kind : RecordKind} {at : ℕ} (b : Begins o kind at) where
     abbrev block : List ℕ
     block = b .here .block
 
     module _ {offset : ℕ} (place : ℕ) (same : at + offset ≡ place) (low : offset ≤ length block) where
-      field-at : (Wrong : List ℕ → Thing → ℕ → Type 0) → Wrong block thing offset → FieldAt (all-chunks o) Wrong place
-      field-at Wrong wrong = record { thing = thing; start = at; within = b .here; offset = offset; there = same; wrong = wrong }
+      field-at : (Wrong : List ℕ → RecordKind → ℕ → Type 0) → Wrong block kind offset → FieldAt (all-chunks o) Wrong place
+      field-at Wrong wrong = record { kind = kind; start = at; within = b .here; offset = offset; there = same; wrong = wrong }
 
       field-inside : place ≤ length m
       field-inside = omega (arith, part-inside (b .part))
 
-      reference-placed : ReferenceFault infoBytes block thing offset → ReferenceAt place
+      reference-placed : ReferenceFault infoBytes block kind offset → ReferenceAt place
       reference-placed fault = (content (all-chunks o) (reference (field-at (ReferenceFault infoBytes) fault)), field-inside)
 
-      range-placed : FieldFault (o .header) block thing offset → RangeAt place
+      range-placed : FieldFault (o .header) block kind offset → RangeAt place
       range-placed fault = (content (all-chunks o) (fieldRange (field-at (FieldFault (o .header)) fault)), field-inside)
 
   -- A song: the entries of its playlist.
@@ -76,7 +76,7 @@ module _ {m : List ℕ} {l : Layout} (o : Outlined m l) where
         let low : i < number16 (block b) 44 = rw (entry-count p s) at h in
         let over = ltb-false (number16 (block b) (46 + 2 * i)) (l .patterns) (rw (entry-same p s i low) at e) in
         let inside : 46 + 2 * i ≤ length (block b) = omega (arith, song-size p s) in
-        reference-placed b (at + 46 + 2 * i) (omega arith) inside (ReferenceFault.entry i low (omega (arith, counts o .3)))
+        reference-placed b (at + 46 + 2 * i) (omega arith) inside (ReferenceFault.playlistEntry i low (omega (arith, counts o .3)))
 
     song-placed : WhereBroken (Placed m) (songRules m (l .patterns) at)
     song-placed =
@@ -110,16 +110,16 @@ module _ {m : List ℕ} {l : Layout} (o : Outlined m l) where
         no-rule
 
   -- Envelopes: what is wrong in one, as what is wrong in one of volume or of panning; and what its values have to be.
-  record Enveloped (thing : Thing) (signed : Bool) (ValueFits : ℕ → Type 0) : Type 0 where
-    kind : kindOf thing ≡ Envelope
-    absent : chunkOf l thing .present ≡ false → countOf m l thing ≡ 0
-    referring : (block : List ℕ) → InstrumentLacks infoBytes block → ReferenceFault infoBytes block thing 0
-    ranging : (block : List ℕ) (offset : ℕ) → EnvelopeFault ValueFits block offset → FieldFault (o .header) block thing offset
+  record Enveloped (kind : RecordKind) (signed : Bool) (ValueFits : ℕ → Type 0) : Type 0 where
+    blockKind : blockKindOf kind ≡ Envelope
+    absent : chunkOf l kind .present ≡ false → countOf m l kind ≡ 0
+    referring : (block : List ℕ) → InstrumentLacks infoBytes block → ReferenceFault infoBytes block kind 0
+    ranging : (block : List ℕ) (offset : ℕ) → EnvelopeFault ValueFits block offset → FieldFault (o .header) block kind offset
     says : (v : ℕ) → (valueFits signed v ≡ true) ↔ ValueFits v
 
   of-volume : Enveloped VolumeEnvelope false VolumeFits
   of-volume = record {
-    kind = refl;
+    blockKind = refl;
     absent = λ e. rw e;
     referring = λ block. ReferenceFault.ofVolume;
     ranging = λ block offset. FieldFault.ofVolume;
@@ -128,16 +128,16 @@ module _ {m : List ℕ} {l : Layout} (o : Outlined m l) where
 
   of-panning : Enveloped PanningEnvelope (eqb (l .version) 3) (PanningValueFits (byteAt (o .header) 4))
   of-panning = record {
-    kind = refl;
+    blockKind = refl;
     absent = λ e. rw e;
     referring = λ block. ReferenceFault.ofPanning;
     ranging = λ block offset. FieldFault.ofPanning;
     says = λ v. rw (o .layout .version) (panning-values (byteAt (o .header) 4) (o .rules .version) v);
   }
 
-  module _ {thing : Thing} {signed : Bool} {ValueFits : ℕ → Type 0} (is : Enveloped thing signed ValueFits) (at : ℕ) (b : Begins o thing at) where
+  module _ {kind : RecordKind} {signed : Bool} {ValueFits : ℕ → Type 0} (is : Enveloped kind signed ValueFits) (at : ℕ) (b : Begins o kind at) where
     sized : Sized Envelope (block b)
-    sized = subst (λ (kind : Kind). Sized kind (block b)) (is .kind) (b .sized)
+    sized = subst (λ (blockKind : BlockKind). Sized blockKind (block b)) (is .blockKind) (b .sized)
 
     byte-is : (k : ℕ) → k < 8 → byteAt m (at + k) ≡ byteAt (block b) k
     byte-is = byte-same (b .part) sized
@@ -236,20 +236,20 @@ module _ {m : List ℕ} {l : Layout} (o : Outlined m l) where
 
   -- The blocks of a thing, where they fill their chunk.
   module _ (fill : BlocksHold m l) where
-    module _ (thing : Thing) (rulesAt : ℕ → List Rule) where
+    module _ (kind : RecordKind) (rulesAt : ℕ → List Rule) where
       abbrev EachPlaced : Type 0
-      EachPlaced = WhereBroken (Placed m) (rulesOfEach rulesAt (blocksOf m (kindOf thing) (chunkOf l thing) (countOf m l thing)))
+      EachPlaced = WhereBroken (Placed m) (rulesOfEach rulesAt (blocksOf m (blockKindOf kind) (chunkOf l kind) (countOf m l kind)))
 
-      pub each-placed : There (o .chunks) (lettersOf thing) → ((at : ℕ) → Begins o thing at → WhereBroken (Placed m) (rulesAt at)) → EachPlaced
-      each-placed there h = broken-each rulesAt (every-of h (each-begins o fill thing there))
+      pub each-placed : There (o .chunks) (lettersOf kind) → ((at : ℕ) → Begins o kind at → WhereBroken (Placed m) (rulesAt at)) → EachPlaced
+      each-placed there h = broken-each rulesAt (every-of h (each-begins o fill kind there))
 
     -- Envelopes, where their chunk is there.
-    module _ {thing : Thing} {signed : Bool} {ValueFits : ℕ → Type 0} (is : Enveloped thing signed ValueFits) where
-      envelopes-placed : EachPlaced thing (envelopeRules m (l .instruments) signed)
-      envelopes-placed = go (chunkOf l thing .present) refl
+    module _ {kind : RecordKind} {signed : Bool} {ValueFits : ℕ → Type 0} (is : Enveloped kind signed ValueFits) where
+      envelopes-placed : EachPlaced kind (envelopeRules m (l .instruments) signed)
+      envelopes-placed = go (chunkOf l kind .present) refl
         where
-          go : (there : Bool) → chunkOf l thing .present ≡ there → EachPlaced thing (envelopeRules m (l .instruments) signed)
-          go true e = each-placed thing (envelopeRules m (l .instruments) signed) (found-of o thing .chunk e) (envelope-placed is)
+          go : (there : Bool) → chunkOf l kind .present ≡ there → EachPlaced kind (envelopeRules m (l .instruments) signed)
+          go true e = each-placed kind (envelopeRules m (l .instruments) signed) (found-of o kind .chunk e) (envelope-placed is)
           go false e = rw (is .absent e) no-rule
 
     pub field-rules-placed : WhereBroken (Placed m) (fieldRules m l)

@@ -9,41 +9,41 @@ use lib.ListN.{length, take, drop, length-append, length-drop, take-append-drop}
 use lib.Seq.{length-take-le}
 use Rattle.vocabulary.specs.Lists.{joined, Every, none, also}
 use Rattle.vocabulary.proofs.JoinedLists.{joined-last}
-use Rattle.layout.specs.declared.Place.{Place}
+use Rattle.layout.specs.declared.ChunkSpan.{ChunkSpan}
 use Rattle.blocks.specs.Sizes.{sizeOf, placesFrom, placeAfter}
 use Rattle.blocks.specs.Filling.{dataEnd}
-use Rattle.blocks.specs.declared.Kind.{Kind}
+use Rattle.blocks.specs.declared.BlockKind.{BlockKind}
 use Rattle.acceptance.specs.Rules.{Filled}
-use Rattle.acceptance.proofs.Standing.{Stands}
+use Rattle.acceptance.proofs.Spans.{SpanHolds}
 use Rattle.acceptance.proofs.Locating.{PartAt}
-use Rattle.acceptance.proofs.ChunkHalf.{stands-part}
+use Rattle.acceptance.proofs.ChunkHalf.{span-part}
 use Rattle.acceptance.proofs.Cutting.{Sized, after-least, part-first, part-rest, part-size, Cut, cut, blocks-end, places-blocks, blocks-places}
 
 -- So many blocks fill a chunk behind its front, and stand in the module from this place on.
-pub record BlocksIn (kind : Kind) (m : List ℕ) (start front : ℕ) (chunk : List ℕ) (count : ℕ) (blocks : List (List ℕ)) : Type 0 where
+pub record BlocksIn (kind : BlockKind) (m : List ℕ) (start front : ℕ) (chunk : List ℕ) (count : ℕ) (blocks : List (List ℕ)) : Type 0 where
   pub filled : Filled front chunk count blocks
   pub there : PartAt m start (joined blocks)
   pub sized : Every (Sized kind) blocks
 
-module _ {m chunk : List ℕ} {place : Place} (s : Stands m place chunk) where
+module _ {m chunk : List ℕ} {span : ChunkSpan} (s : SpanHolds m span chunk) where
   -- What stands behind the front.
-  behind-front : (front : ℕ) (rest : List ℕ) → front ≤ length chunk → chunk ≡ take front chunk ++ rest → PartAt m (place .at + front) rest
-  behind-front front rest h e =
+  after-front : (front : ℕ) (rest : List ℕ) → front ≤ length chunk → chunk ≡ take front chunk ++ rest → PartAt m (span .at + front) rest
+  after-front front rest h e =
       let size : length (take front chunk) ≡ front = length-take-le front chunk h in
-      rw size at (part-rest {at = place .at} (take front chunk) rest (rw e at (stands-part s)))
+      rw size at (part-rest {at = span .at} (take front chunk) rest (rw e at (span-part s)))
 
-  module _ (kind : Kind) (front count : ℕ) where
-    pub fill-blocks : placeAfter (sizeOf kind m) count (place .at + front) ≡ dataEnd place
-        → (blocks : List (List ℕ)) × BlocksIn kind m (place .at + front) front chunk count blocks
-    fill-blocks e = filled-by (cut kind m count (place .at + front) (drop front chunk) rest (e ∙ rw length-drop (omega (arith, s .size, fits))))
+  module _ (kind : BlockKind) (front count : ℕ) where
+    pub fill-blocks : placeAfter (sizeOf kind m) count (span .at + front) ≡ dataEnd span
+        → (blocks : List (List ℕ)) × BlocksIn kind m (span .at + front) front chunk count blocks
+    fill-blocks e = filled-by (cut kind m count (span .at + front) (drop front chunk) rest (e ∙ rw length-drop (omega (arith, s .size, fits))))
       where
         fits : front ≤ length chunk
-        fits = omega (arith, after-least (sizeOf kind m) count (place .at + front), s .size, e)
+        fits = omega (arith, after-least (sizeOf kind m) count (span .at + front), s .size, e)
 
-        rest : PartAt m (place .at + front) (drop front chunk)
-        rest = behind-front front (drop front chunk) fits (sym (take-append-drop front chunk))
+        rest : PartAt m (span .at + front) (drop front chunk)
+        rest = after-front front (drop front chunk) fits (sym (take-append-drop front chunk))
 
-        filled-by : Cut kind count (drop front chunk) → (blocks : List (List ℕ)) × BlocksIn kind m (place .at + front) front chunk count blocks
+        filled-by : Cut kind count (drop front chunk) → (blocks : List (List ℕ)) × BlocksIn kind m (span .at + front) front chunk count blocks
         filled-by c = (
           c .blocks,
           record {
@@ -58,10 +58,10 @@ module _ {m chunk : List ℕ} {place : Place} (s : Stands m place chunk) where
         )
 
     module _ (blocks : List (List ℕ)) where
-      pub filled-blocks : Filled front chunk count blocks → Every (Sized kind) blocks → BlocksIn kind m (place .at + front) front chunk count blocks
-      filled-blocks f sized = record { filled = f; there = behind-front front (joined blocks) (f .fronts) (f .bytes); sized = sized }
+      pub filled-blocks : Filled front chunk count blocks → Every (Sized kind) blocks → BlocksIn kind m (span .at + front) front chunk count blocks
+      filled-blocks f sized = record { filled = f; there = after-front front (joined blocks) (f .fronts) (f .bytes); sized = sized }
 
-      pub blocks-fill : BlocksIn kind m (place .at + front) front chunk count blocks → placeAfter (sizeOf kind m) count (place .at + front) ≡ dataEnd place
+      pub blocks-fill : BlocksIn kind m (span .at + front) front chunk count blocks → placeAfter (sizeOf kind m) count (span .at + front) ≡ dataEnd span
       blocks-fill b =
           let end = blocks-end kind blocks (b .there) (b .sized) in
           let long : length chunk ≡ front + length (joined blocks) =
@@ -71,7 +71,8 @@ module _ {m chunk : List ℕ} {place : Place} (s : Stands m place chunk) where
           (rw (b .filled .number) at end) ∙ omega (arith, s .size, long)
 
 -- What holds at the places of the blocks holds of the blocks, and back.
-pub blocks-every : {kind : Kind} {m : List ℕ} {start front : ℕ} {chunk : List ℕ} {count : ℕ} {blocks : List (List ℕ)} {P : ℕ → Type 0} {Q : List ℕ → Type 0}
+pub blocks-every : {kind : BlockKind} {m : List ℕ} {start front : ℕ} {chunk : List ℕ} {count : ℕ} {blocks : List (List ℕ)}
+    {P : ℕ → Type 0} {Q : List ℕ → Type 0}
     → BlocksIn kind m start front chunk count blocks
     → ((at : ℕ) (block : List ℕ) → PartAt m at block → Sized kind block → P at ↔ Q block)
     → Every P (placesFrom (sizeOf kind m) count start) ↔ Every Q blocks
@@ -81,7 +82,7 @@ blocks-every {kind} {blocks = blocks} b h = rw (← b .filled .number) (
 )
 
 -- One of some blocks, which begin one after the other at a start: the blocks before it and after it, and its place.
-pub record OneBlock (kind : Kind) (m : List ℕ) (start : ℕ) (blocks : List (List ℕ)) (at : ℕ) : Type 0 where
+pub record OneBlock (kind : BlockKind) (m : List ℕ) (start : ℕ) (blocks : List (List ℕ)) (at : ℕ) : Type 0 where
   pub before : List (List ℕ)
   pub block : List ℕ
   pub after : List (List ℕ)
@@ -91,7 +92,7 @@ pub record OneBlock (kind : Kind) (m : List ℕ) (start : ℕ) (blocks : List (L
   pub there : start + length (joined before) ≡ at
 
 -- At each place there is one.
-module _ (kind : Kind) (m : List ℕ) (start : ℕ) where
+module _ (kind : BlockKind) (m : List ℕ) (start : ℕ) where
   abbrev EachFrom : List (List ℕ) → List (List ℕ) → ℕ → Type 0
   EachFrom first blocks at = Every (OneBlock kind m start (first ++ blocks)) (placesFrom (sizeOf kind m) (length blocks) at)
 
@@ -104,6 +105,6 @@ module _ (kind : Kind) (m : List ℕ) (start : ℕ) where
       also (record { before = first; block = block; after = blocks; splits = refl; part = part; sized = s; there = there })
       (rw (append-assoc, sym (part-size kind part s)) at more)
 
-module _ {kind : Kind} {m chunk : List ℕ} {start front n : ℕ} {blocks : List (List ℕ)} (b : BlocksIn kind m start front chunk n blocks) where
+module _ {kind : BlockKind} {m chunk : List ℕ} {start front n : ℕ} {blocks : List (List ℕ)} (b : BlocksIn kind m start front chunk n blocks) where
   pub each-block : Every (OneBlock kind m start blocks) (placesFrom (sizeOf kind m) n start)
   each-block = rw (← b .filled .number) (each-from kind m start [] blocks start (b .there) (b .sized) (omega arith))

@@ -16,7 +16,7 @@ use Rattle.acceptance.proofs.Holding.{false-never, AllHold}
 -- Rule by rule: of this one's refusal, where it does not hold, and of those behind it, where it does.
 pub data WhereBroken (P : Refusal → Type 0) : List Rule → Type 0 where
   no-rule : WhereBroken P []
-  this-or : {r : Rule} {rules : List Rule} → (r .holds ≡ false → P (refusal (r .cause) (r .place)))
+  this-or : {r : Rule} {rules : List Rule} → (r .holds ≡ false → P (refusal (r .reason) (r .place)))
       → (r .holds ≡ true → WhereBroken P rules)
       → WhereBroken P (r ∷ rules)
 
@@ -26,10 +26,10 @@ module _ {P : Refusal → Type 0} where
   first-broken (this-or {r = rule} {rules = rules} this more) r e = go (rule .holds) refl (λ h. first-broken (more h) r) e
     where
       go : (b : Bool) → rule .holds ≡ b → (rule .holds ≡ true → firstBroken rules ≡ Refused r → P r)
-          → cond b (firstBroken rules) (Refused (refusal (rule .cause) (rule .place))) ≡ Refused r
+          → cond b (firstBroken rules) (Refused (refusal (rule .reason) (rule .place))) ≡ Refused r
           → P r
       go true h ih e = ih h e
-      go false h ih e = let same : refusal (rule .cause) (rule .place) ≡ r = cc in subst P same (this h)
+      go false h ih e = let same : refusal (rule .reason) (rule .place) ≡ r = cc in subst P same (this h)
 
   -- Of joined lists, of rules that only some places have, and of the rules of each place.
   pub broken-append : {xs ys : List Rule} → WhereBroken P xs → (AllHold xs → WhereBroken P ys) → WhereBroken P (xs ++ ys)

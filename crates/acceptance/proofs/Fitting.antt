@@ -14,8 +14,8 @@ use Rattle.vocabulary.specs.Letters.{nameLetters, infoLetters}
 use Rattle.vocabulary.proofs.EveryOne.{every-more}
 use Rattle.refusal.specs.Rules.{Rule}
 use Rattle.numbers.specs.Numbers.{byteAt, number16, number32}
-use Rattle.layout.specs.Chunks.{INFO, chunkAt, fourLetters, needsInfo, covered, occurs, lengthFits, infoRules, chunkRules}
-use Rattle.acceptance.specs.Rules.{ChunkBytes, Covered, NeedsInfo, InfoRules}
+use Rattle.layout.specs.Chunks.{infoIdentifier, chunkAt, fourLetters, needsInfo, covered, occurs, lengthFits, infoRules, chunkRules}
+use Rattle.acceptance.specs.Rules.{IsChunk, Covered, NeedsInfo, InfoRules}
 use Rattle.acceptance.proofs.Locating.{PartAt, byteAt-at, number16-at, number32-at, number32-start, part-inside}
 use Rattle.acceptance.proofs.Holding.{leb-says, eqb-says, and-says, unless-says, false-never, AllHold, plain}
 use Rattle.acceptance.proofs.Identifiers.{chunk-named, covered-holds, covered-letters, needing, needing-holds, needing-letters}
@@ -23,9 +23,9 @@ use Rattle.acceptance.proofs.Recorded.{recordsFrom, There, occurs-says}
 
 -- M5 to M9, of one chunk behind those before it.
 pub record ChunkFits (before : List (List ℕ)) (chunk : List ℕ) : Type 0 where
-  pub bytes : ChunkBytes chunk
+  pub bytes : IsChunk chunk
   pub once : (letters : List ℕ) → Covered letters → take 4 chunk ≡ letters → There before letters → ⊥
-  pub behindInfo : (letters : List ℕ) → NeedsInfo letters → take 4 chunk ≡ letters → There before infoLetters
+  pub afterInfo : (letters : List ℕ) → NeedsInfo letters → take 4 chunk ≡ letters → There before infoLetters
   pub name : take 4 chunk ≡ nameLetters → length chunk ≡ 52
   pub info : take 4 chunk ≡ infoLetters → InfoRules chunk
 
@@ -60,7 +60,7 @@ module _ {m : List ℕ} {at : ℕ} {chunk : List ℕ} (part : PartAt m at chunk)
     λ h. letters-say m at .1 (λ i l. rw (byteAt-at part i (omega arith)) (h i l)),
   )
 
--- M9: the numbers of INFO.
+-- M9: the numbers of infoIdentifier.
 module _ {m : List ℕ} {at : ℕ} {chunk : List ℕ} (part : PartAt m at chunk) (long : length chunk ≡ 18) where
   pub info-number : (k : ℕ) → k < 9 → number16 m (at + 8 + k) ≡ number16 chunk (8 + k)
   info-number k h = rw add-assoc (number16-at part (8 + k) (omega arith))
@@ -106,7 +106,7 @@ never-both true true = (λ h p q. false-never h, λ h. absurd (h refl refl))
 never-both true false = (λ h p q. false-never q, λ h. refl)
 never-both false b = (λ h p q. false-never p, λ h. refl)
 
-module _ (start : ℕ) {before : List (List ℕ)} {chunk : List ℕ} (every : Every ChunkBytes before) (c : ChunkBytes chunk) where
+module _ (start : ℕ) {before : List (List ℕ)} {chunk : List ℕ} (every : Every IsChunk before) (c : IsChunk chunk) where
   once-says : (not (covered (number32 chunk 0) && occurs (number32 chunk 0) (recordsFrom start before)) ≡ true)
       ↔ ((letters : List ℕ) → Covered letters → take 4 chunk ≡ letters → There before letters → ⊥)
   once-says = simp never-both (
@@ -116,17 +116,17 @@ module _ (start : ℕ) {before : List (List ℕ)} {chunk : List ℕ} (every : Ev
         h letters covers (chunk-named c covers .0 e) (occurs-says covers start every .0 (rw e at q)),
   )
 
-  behind-says : (not (needsInfo (number32 chunk 0)) || occurs INFO (recordsFrom start before) ≡ true)
+  after-says : (not (needsInfo (number32 chunk 0)) || occurs infoIdentifier (recordsFrom start before) ≡ true)
       ↔ ((letters : List ℕ) → NeedsInfo letters → take 4 chunk ≡ letters → There before infoLetters)
-  behind-says = simp unless-says (
+  after-says = simp unless-says (
     λ h letters needs named. occurs-says Covered.info start every .0 (h (rw (chunk-named c (needing needs) .1 named) (needing-holds needs))),
     λ h p.
         let (letters, needs, e) = needing-letters (number32 chunk 0) p in
         occurs-says Covered.info start every .1 (h letters needs (chunk-named c (needing needs) .0 e)),
   )
 
--- M8, M9: the lengths of NAME and of INFO.
-module _ {m : List ℕ} {at : ℕ} {chunk : List ℕ} (part : PartAt m at chunk) (c : ChunkBytes chunk) where
+-- M8, M9: the lengths of NAME and of infoIdentifier.
+module _ {m : List ℕ} {at : ℕ} {chunk : List ℕ} (part : PartAt m at chunk) (c : IsChunk chunk) where
   lengths-say : (lengthFits (chunkAt m at) ≡ true) ↔ ((take 4 chunk ≡ nameLetters → length chunk ≡ 52) × (take 4 chunk ≡ infoLetters → length chunk ≡ 18))
   lengths-say =
       simp (
@@ -142,20 +142,20 @@ module _ {m : List ℕ} {at : ℕ} {chunk : List ℕ} (part : PartAt m at chunk)
         λ h. (λ e. omega (arith, h .0 e, c .size), λ e. omega (arith, h .1 e, c .size)),
       )
 
-  info-if-named : AllHold (cond (eqb (number32 m at) INFO) (infoRules m (at + 8)) []) ↔ (take 4 chunk ≡ infoLetters → AllHold (infoRules m (at + 8)))
+  info-if-named : AllHold (cond (eqb (number32 m at) infoIdentifier) (infoRules m (at + 8)) []) ↔ (take 4 chunk ≡ infoLetters → AllHold (infoRules m (at + 8)))
   info-if-named = simp (hold-if, eqb-says, identifier-is part (c .size), chunk-named c Covered.info) Iff·rfl
 
 -- All the rules of a chunk, both ways.
-module _ (start : ℕ) {before : List (List ℕ)} (every : Every ChunkBytes before) {m : List ℕ} {at : ℕ} {chunk : List ℕ} (part : PartAt m at chunk) where
+module _ (start : ℕ) {before : List (List ℕ)} (every : Every IsChunk before) {m : List ℕ} {at : ℕ} {chunk : List ℕ} (part : PartAt m at chunk) where
   pub rules-fit : length chunk ≡ 8 + number32 chunk 4 → AllHold (chunkRules m (recordsFrom start before) at) → ChunkFits before chunk
   rules-fit size hold =
       let says = simp every-more at hold in
-      let c : ChunkBytes chunk = record { size = size; letters = chunk-letters-say part size .0 (says .1 .0) } in
+      let c : IsChunk chunk = record { size = size; letters = chunk-letters-say part size .0 (says .1 .0) } in
       let lengths = lengths-say part c .0 (says .1 .1 .1 .1 .1 .0) in
       record {
         bytes = c;
         once = once-says start every c .0 (rw (identifier-is part size) at (says .1 .1 .1 .0));
-        behindInfo = behind-says start every c .0 (rw (identifier-is part size) at (says .1 .1 .1 .1 .0));
+        afterInfo = after-says start every c .0 (rw (identifier-is part size) at (says .1 .1 .1 .1 .0));
         name = lengths .0;
         info = λ e. info-say part (lengths .1 e) .0 (info-if-named part c .0 (says .1 .1 .1 .1 .1 .1) e);
       }
@@ -170,6 +170,6 @@ module _ (start : ℕ) {before : List (List ℕ)} (every : Every ChunkBytes befo
       (also (chunk-letters-say part (c .size) .1 (c .letters))
       (also (leb-says _ _ .1 whole)
       (also (rw (← identifier-is part (c .size)) at (once-says start every c .1 (fits .once)))
-      (also (rw (← identifier-is part (c .size)) at (behind-says start every c .1 (fits .behindInfo)))
+      (also (rw (← identifier-is part (c .size)) at (after-says start every c .1 (fits .afterInfo)))
       (also (lengths-say part c .1 (fits .name, λ e. fits .info e .size))
       (info-if-named part c .1 (λ e. info-say part (fits .info e .size) .1 (fits .info e))))))))

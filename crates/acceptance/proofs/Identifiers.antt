@@ -12,8 +12,9 @@ use lib.Dec.{eqb, ltb}
 use borrow.Author.Tests.{eqb-true}
 use Rattle.vocabulary.specs.Letters.{nameLetters, infoLetters, songLetters, instLetters, pattLetters, smplLetters, venvLetters, penvLetters}
 use Rattle.numbers.specs.Numbers.{byteAt, number16, number32}
-use Rattle.layout.specs.Chunks.{NAME, INFO, SONG, INST, PATT, SMPL, VENV, PENV, needsInfo, covered}
-use Rattle.acceptance.specs.Rules.{ChunkBytes, Covered, NeedsInfo}
+use Rattle.layout.specs.Chunks.{nameIdentifier, infoIdentifier, songIdentifier, instIdentifier, pattIdentifier, smplIdentifier, venvIdentifier}
+use Rattle.layout.specs.Chunks.{penvIdentifier, needsInfo, covered}
+use Rattle.acceptance.specs.Rules.{IsChunk, Covered, NeedsInfo}
 use Rattle.acceptance.proofs.Locating.{number32-take}
 use Rattle.acceptance.proofs.Holding.{ltb-says, and-says}
 
@@ -68,14 +69,14 @@ letters-number xs letters e = sym (number32-take 4 xs 0 (omega arith)) ∙ ap (�
 
 -- The identifier of a covered chunk, as the check has it.
 abbrev pub identifierOf : {letters : List ℕ} → Covered letters → ℕ
-identifierOf Covered.name = NAME
-identifierOf Covered.info = INFO
-identifierOf Covered.song = SONG
-identifierOf Covered.inst = INST
-identifierOf Covered.patt = PATT
-identifierOf Covered.smpl = SMPL
-identifierOf Covered.venv = VENV
-identifierOf Covered.penv = PENV
+identifierOf Covered.name = nameIdentifier
+identifierOf Covered.info = infoIdentifier
+identifierOf Covered.song = songIdentifier
+identifierOf Covered.inst = instIdentifier
+identifierOf Covered.patt = pattIdentifier
+identifierOf Covered.smpl = smplIdentifier
+identifierOf Covered.venv = venvIdentifier
+identifierOf Covered.penv = penvIdentifier
 
 -- What is computed of each of them: its letters are four bytes, whose number is the identifier, which the check takes for covered.
 record Identifies (letters : List ℕ) (identifier : ℕ) : Type 0 where
@@ -95,7 +96,7 @@ covered-identified Covered.venv = record { four = refl; number = refl; taken = r
 covered-identified Covered.penv = record { four = refl; number = refl; taken = refl }
 
 -- A chunk has that identifier exactly where it has those letters.
-pub chunk-named : {chunk letters : List ℕ} → ChunkBytes chunk → (covers : Covered letters) → (number32 chunk 0 ≡ identifierOf covers) ↔ (take 4 chunk ≡ letters)
+pub chunk-named : {chunk letters : List ℕ} → IsChunk chunk → (covers : Covered letters) → (number32 chunk 0 ≡ identifierOf covers) ↔ (take 4 chunk ≡ letters)
 chunk-named {chunk} {letters} c covers = rw (← covered-identified covers .number) (
   number-letters chunk letters (omega (arith, c .size)) (λ i h. omega (arith, c .letters i h .1)) (four-bytes letters (covered-identified covers .four)),
   letters-number chunk letters,
@@ -105,7 +106,7 @@ chunk-named {chunk} {letters} c covers = rw (← covered-identified covers .numb
 pub covered-holds : {letters : List ℕ} (covers : Covered letters) → covered (identifierOf covers) ≡ true
 covered-holds covers = covered-identified covers .taken
 
--- The four that INFO stands before are covered.
+-- The four that infoIdentifier stands before are covered.
 abbrev pub needing : {letters : List ℕ} → NeedsInfo letters → Covered letters
 needing NeedsInfo.song = Covered.song
 needing NeedsInfo.inst = Covered.inst
@@ -124,15 +125,15 @@ either false b f g h = g h
 
 pub needing-letters : (n : ℕ) → needsInfo n ≡ true → (letters : List ℕ) × (needs : NeedsInfo letters) × (n ≡ identifierOf (needing needs))
 needing-letters n =
-    either (eqb n SONG) _ (λ e. (songLetters, NeedsInfo.song, eqb-true n SONG e))
-    (either (eqb n INST) _ (λ e. (instLetters, NeedsInfo.inst, eqb-true n INST e))
-    (either (eqb n PATT) _ (λ e. (pattLetters, NeedsInfo.patt, eqb-true n PATT e))
-    (λ e. (smplLetters, NeedsInfo.smpl, eqb-true n SMPL e))))
+    either (eqb n songIdentifier) _ (λ e. (songLetters, NeedsInfo.song, eqb-true n songIdentifier e))
+    (either (eqb n instIdentifier) _ (λ e. (instLetters, NeedsInfo.inst, eqb-true n instIdentifier e))
+    (either (eqb n pattIdentifier) _ (λ e. (pattLetters, NeedsInfo.patt, eqb-true n pattIdentifier e))
+    (λ e. (smplLetters, NeedsInfo.smpl, eqb-true n smplIdentifier e))))
 
 pub covered-letters : (n : ℕ) → covered n ≡ true → (letters : List ℕ) × (covers : Covered letters) × (n ≡ identifierOf covers)
 covered-letters n =
-    either (eqb n NAME) _ (λ e. (nameLetters, Covered.name, eqb-true n NAME e))
-    (either (eqb n INFO) _ (λ e. (infoLetters, Covered.info, eqb-true n INFO e))
+    either (eqb n nameIdentifier) _ (λ e. (nameLetters, Covered.name, eqb-true n nameIdentifier e))
+    (either (eqb n infoIdentifier) _ (λ e. (infoLetters, Covered.info, eqb-true n infoIdentifier e))
     (either (needsInfo n) _ (λ e. let found = needing-letters n e in (found .0, needing (found .1), found .2))
-    (either (eqb n VENV) _ (λ e. (venvLetters, Covered.venv, eqb-true n VENV e))
-    (λ e. (penvLetters, Covered.penv, eqb-true n PENV e)))))
+    (either (eqb n venvIdentifier) _ (λ e. (venvLetters, Covered.venv, eqb-true n venvIdentifier e))
+    (λ e. (penvLetters, Covered.penv, eqb-true n penvIdentifier e)))))

@@ -1,4 +1,4 @@
-pub mod Standing
+pub mod Spans
 pub mod Locating
 pub mod Ends
 pub mod Holding

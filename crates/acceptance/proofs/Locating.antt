@@ -22,18 +22,18 @@ module _ (xs ys : List ℕ) (at to size : ℕ) (same : (i : ℕ) → i < size �
 
 -- The end of a list.
 module _ (xs ys : List ℕ) where
-  pub byteAt-behind : (k : ℕ) → byteAt (xs ++ ys) (length xs + k) ≡ byteAt ys k
+  pub byteAt-after : (k : ℕ) → byteAt (xs ++ ys) (length xs + k) ≡ byteAt ys k
   unfolding byteAt
-  byteAt-behind k = getD-append-add xs ys k 0
+  byteAt-after k = getD-append-add xs ys k 0
 
   behind : (i : ℕ) → byteAt (xs ++ ys) (length xs + i) ≡ byteAt ys (0 + i)
-  behind i = rw zero-add (byteAt-behind i)
+  behind i = rw zero-add (byteAt-after i)
 
-  pub number16-behind : (k : ℕ) → number16 (xs ++ ys) (length xs + k) ≡ number16 ys k
-  number16-behind k = rw zero-add at (same-number16 (xs ++ ys) ys (length xs) 0 (k + 2) (λ i h. behind i) k (omega arith))
+  pub number16-after : (k : ℕ) → number16 (xs ++ ys) (length xs + k) ≡ number16 ys k
+  number16-after k = rw zero-add at (same-number16 (xs ++ ys) ys (length xs) 0 (k + 2) (λ i h. behind i) k (omega arith))
 
-  pub number32-behind : (k : ℕ) → number32 (xs ++ ys) (length xs + k) ≡ number32 ys k
-  number32-behind k = rw zero-add at (same-number32 (xs ++ ys) ys (length xs) 0 (k + 4) (λ i h. behind i) k (omega arith))
+  pub number32-after : (k : ℕ) → number32 (xs ++ ys) (length xs + k) ≡ number32 ys k
+  number32-after k = rw zero-add at (same-number32 (xs ++ ys) ys (length xs) 0 (k + 4) (λ i h. behind i) k (omega arith))
 
 -- The front of a list.
 module _ (xs ys : List ℕ) where
@@ -53,13 +53,13 @@ module _ (xs ys : List ℕ) where
 -- A part of a list.
 module _ (xs ys zs : List ℕ) where
   pub byteAt-part : (k : ℕ) → k < length ys → byteAt (xs ++ (ys ++ zs)) (length xs + k) ≡ byteAt ys k
-  byteAt-part k h = byteAt-behind xs (ys ++ zs) k ∙ byteAt-front ys zs k h
+  byteAt-part k h = byteAt-after xs (ys ++ zs) k ∙ byteAt-front ys zs k h
 
   pub number16-part : (k : ℕ) → k + 2 ≤ length ys → number16 (xs ++ (ys ++ zs)) (length xs + k) ≡ number16 ys k
-  number16-part k h = number16-behind xs (ys ++ zs) k ∙ number16-front ys zs k h
+  number16-part k h = number16-after xs (ys ++ zs) k ∙ number16-front ys zs k h
 
   pub number32-part : (k : ℕ) → k + 4 ≤ length ys → number32 (xs ++ (ys ++ zs)) (length xs + k) ≡ number32 ys k
-  number32-part k h = number32-behind xs (ys ++ zs) k ∙ number32-front ys zs k h
+  number32-part k h = number32-after xs (ys ++ zs) k ∙ number32-front ys zs k h
 
 -- What `take` leaves.
 module _ (n : ℕ) (xs : List ℕ) where

@@ -10,9 +10,9 @@ use Rattle.vocabulary.specs.Lists.{joined, Every, none, also}
 use Rattle.vocabulary.proofs.EveryOne.{every-append}
 use Rattle.numbers.specs.Numbers.{number32}
 use Rattle.blocks.specs.Sizes.{sizeOf}
-use Rattle.blocks.specs.declared.Kind.{Kind}
+use Rattle.blocks.specs.declared.BlockKind.{BlockKind}
 use Rattle.blocks.proofs.BlockSizes.{size-some}
-use Rattle.acceptance.specs.Rules.{ChunkBytes}
+use Rattle.acceptance.specs.Rules.{IsChunk}
 use Rattle.acceptance.proofs.Locating.{number32-front, PartAt}
 use Rattle.acceptance.proofs.Cutting.{Sized, part-size}
 
@@ -52,7 +52,7 @@ module _ {P : List ℕ → Type 0} (own : OwnLength P) where
       let nothing = none-left (every-append ys rest .0 (rw splits at every) .1) joins in
       splits ∙ rw nothing (append-nil ys)
 
-pub chunks-own : OwnLength ChunkBytes
+pub chunks-own : OwnLength IsChunk
 chunks-own = record {
   some = λ a c. omega (arith, c .size);
   same = λ a b xs ys c d e. (
@@ -63,7 +63,7 @@ chunks-own = record {
       );
 }
 
-pub blocks-own : (kind : Kind) → OwnLength (Sized kind)
+pub blocks-own : (kind : BlockKind) → OwnLength (Sized kind)
 blocks-own kind = record {
   some = λ a s. rw s (size-some kind a 0);
   same = λ a b xs ys s t e. sym (part-size kind (front a xs) s) ∙ ap (λ (l : List ℕ). sizeOf kind l 0) e ∙ part-size kind (front b ys) t;

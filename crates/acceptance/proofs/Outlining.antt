@@ -8,13 +8,13 @@ use lib.ListN.{length, take}
 use Rattle.vocabulary.specs.Lists.{joined}
 use Rattle.refusal.specs.Numbers.{refusal}
 use Rattle.refusal.specs.Rules.{firstBroken}
-use Rattle.refusal.specs.declared.Cause.the-variants.{Missing}
+use Rattle.refusal.specs.declared.Reason.the-variants.{Missing}
 use Rattle.refusal.specs.declared.Refusal.{Refusal}
 use Rattle.refusal.specs.declared.Verdict.{Verdict}
 use Rattle.refusal.specs.declared.Verdict.the-variants.{Accepted, Refused as VerdictRefused}
 use Rattle.layout.specs.Header.{headerRules}
 use Rattle.layout.specs.Chunks.{Walk, chunkRules, chunks}
-use Rattle.layout.specs.Outlines.{placesOf, layoutWith, mandatoryThere, outlineOf, outlineIf, outline}
+use Rattle.layout.specs.Outlines.{spansOf, layoutWith, mandatoryThere, outlineOf, outlineIf, outline}
 use Rattle.layout.specs.declared.Outline.{Outline}
 use Rattle.layout.specs.declared.Outline.the-variants.{Found, Refused}
 use Rattle.acceptance.proofs.Holding.{AllHold, accepted-hold, plain}
@@ -34,11 +34,11 @@ pub record EachOutline (m : List ℕ) (P : Outline → Type 0) : Type 0 where
   pub chunk : (before : List (List ℕ)) (at : ℕ) → Reached m (take 8 m) before at → at < length m
       → (r : Refusal) → firstBroken (chunkRules m (recordsFrom 8 before) at) ≡ VerdictRefused r → P (Refused r)
   pub missing : (all : List (List ℕ)) → AllRead m all → mandatoryThere (recordsFrom 8 all) ≡ false → P (Refused (refusal Missing (length m)))
-  pub found : (all : List (List ℕ)) → AllRead m all → mandatoryThere (recordsFrom 8 all) ≡ true → P (Found (layoutWith m (placesOf (recordsFrom 8 all))))
+  pub found : (all : List (List ℕ)) → AllRead m all → mandatoryThere (recordsFrom 8 all) ≡ true → P (Found (layoutWith m (spansOf (recordsFrom 8 all))))
 
 module _ (m : List ℕ) (P : Outline → Type 0) (each : EachOutline m P) where
   all-read : (all : List (List ℕ)) → AllRead m all → (b : Bool) → mandatoryThere (recordsFrom 8 all) ≡ b
-      → P (cond b (Found (layoutWith m (placesOf (recordsFrom 8 all)))) (Refused (refusal Missing (length m))))
+      → P (cond b (Found (layoutWith m (spansOf (recordsFrom 8 all)))) (Refused (refusal Missing (length m))))
   all-read all read true h = each .found all read h
   all-read all read false h = each .missing all read h
 

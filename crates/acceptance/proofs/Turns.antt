@@ -7,7 +7,7 @@ use lib.ListN.{length}
 use Rattle.vocabulary.specs.Lists.{Every}
 use Rattle.vocabulary.specs.Letters.{nameLetters, infoLetters}
 use Rattle.vocabulary.proofs.EveryOne.{every-first, every-append}
-use Rattle.acceptance.specs.Rules.{ChunkBytes, Among, AtMostOnce, Covered, NeedsInfo, BehindInfo, InfoRules}
+use Rattle.acceptance.specs.Rules.{IsChunk, Among, AtMostOnce, Covered, NeedsInfo, AfterInfo, InfoRules}
 use Rattle.acceptance.proofs.Fitting.{ChunkFits}
 use Rattle.acceptance.proofs.Chunking.{InTurn, done, next, turn-bytes}
 
@@ -32,9 +32,9 @@ each-turn first (chunk ∷ chunks) h =
 
 -- M5 to M9, of all the chunks.
 pub record ChunksFit (chunks : List (List ℕ)) : Type 0 where
-  pub whole : Every ChunkBytes chunks
+  pub whole : Every IsChunk chunks
   pub once : (letters : List ℕ) → Covered letters → AtMostOnce chunks letters
-  pub behindInfo : (letters : List ℕ) → NeedsInfo letters → BehindInfo chunks letters
+  pub afterInfo : (letters : List ℕ) → NeedsInfo letters → AfterInfo chunks letters
   pub name : (chunk : List ℕ) → Among chunks nameLetters chunk → length chunk ≡ 52
   pub info : (chunk : List ℕ) → Among chunks infoLetters chunk → InfoRules chunk
 
@@ -44,7 +44,7 @@ turn-fits {chunks} turn = record {
   once = λ letters covers before between after one two e named named′.
       each (before ++ (one ∷ between)) after two (rw append-assoc e) .once letters covers named′
       (one, record { before = before; after = between; splits = refl; named = named });
-  behindInfo = λ letters needs before after chunk e named. each before after chunk e .behindInfo letters needs named;
+  afterInfo = λ letters needs before after chunk e named. each before after chunk e .afterInfo letters needs named;
   name = λ chunk a. each (a .before) (a .after) chunk (a .splits) .name (a .named);
   info = λ chunk a. each (a .before) (a .after) chunk (a .splits) .info (a .named);
 }
@@ -58,7 +58,7 @@ fits-turn {chunks} fits = each-turn [] chunks (λ before after chunk e. record {
   once = λ letters covers named (other, a).
       fits .once letters covers (a .before) (a .after) after other chunk
       (e ∙ rw (a .splits) (append-assoc (a .before) (other ∷ a .after) (chunk ∷ after))) (a .named) named;
-  behindInfo = λ letters needs named. fits .behindInfo letters needs before after chunk e named;
+  afterInfo = λ letters needs named. fits .afterInfo letters needs before after chunk e named;
   name = λ named. fits .name chunk (record { before = before; after = after; splits = e; named = named });
   info = λ named. fits .info chunk (record { before = before; after = after; splits = e; named = named });
 })

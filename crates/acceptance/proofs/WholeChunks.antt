@@ -9,9 +9,10 @@ use lib.Dec.{eqb}
 use Rattle.vocabulary.specs.Lists.{joined}
 use Rattle.vocabulary.proofs.JoinedLists.{joined-next}
 use Rattle.numbers.specs.Numbers.{number32}
-use Rattle.layout.specs.Chunks.{NAME, INFO, SONG, INST, PATT, SMPL, VENV, PENV, occurs}
-use Rattle.layout.specs.Outlines.{standing, placeOf, placesOf, layoutWith, mandatoryThere, outline}
-use Rattle.layout.specs.declared.Place.{Place}
+use Rattle.layout.specs.Chunks.{nameIdentifier, infoIdentifier, songIdentifier, instIdentifier, pattIdentifier, smplIdentifier, venvIdentifier}
+use Rattle.layout.specs.Chunks.{penvIdentifier, occurs}
+use Rattle.layout.specs.Outlines.{standing, spanOf, spansOf, layoutWith, mandatoryThere, outline}
+use Rattle.layout.specs.declared.ChunkSpan.{ChunkSpan}
 use Rattle.layout.specs.declared.Layout.{Layout}
 use Rattle.layout.specs.declared.Outline.{Outline}
 use Rattle.layout.specs.declared.Outline.the-variants.{Found, Refused}
@@ -40,19 +41,19 @@ header-at {m} {header} {before} r less = record {
 }
 
 -- A place of a layout is that of a whole chunk with this identifier: the chunk is there, its header begins there, and its data are as
--- long as its length says, in NAME 44.
-pub record WholeAt (m : List ℕ) (identifier : ℕ) (place : Place) : Type 0 where
-  pub present : place .present ≡ true
-  pub header : HeaderAt m (place .at)
-  pub named : number32 m (place .at) ≡ identifier
-  pub size : number32 m (place .at + 4) ≡ place .length
-  pub nameSize : identifier ≡ NAME → place .length ≡ 44
-  pub inside : dataEnd place ≤ length m
+-- long as its length says, in nameIdentifier 44.
+pub record WholeAt (m : List ℕ) (identifier : ℕ) (span : ChunkSpan) : Type 0 where
+  pub present : span .present ≡ true
+  pub header : HeaderAt m (span .at)
+  pub named : number32 m (span .at) ≡ identifier
+  pub size : number32 m (span .at + 4) ≡ span .length
+  pub nameSize : identifier ≡ nameIdentifier → span .length ≡ 44
+  pub inside : dataEnd span ≤ length m
 
 -- A place that the check finds among chunks in turn.
 place-whole : (n : ℕ) {m header : List ℕ} {before rest : List (List ℕ)} {at : ℕ} → Reached m header before at
-    → m ≡ (header ++ joined before) ++ joined rest → InTurn before rest → placeOf n (recordsFrom at rest) .present ≡ true
-    → WholeAt m n (placeOf n (recordsFrom at rest))
+    → m ≡ (header ++ joined before) ++ joined rest → InTurn before rest → spanOf n (recordsFrom at rest) .present ≡ true
+    → WholeAt m n (spanOf n (recordsFrom at rest))
 place-whole n r bytes done there = let z : _≡_ {A = ℕ} 0 1 = cc in absurd (omega arith)
 place-whole n {m} {header} {before} {at = at} r bytes (next {chunk = chunk} {rest = rest} fits turn) there =
     go (eqb (number32 chunk 0) n) refl (place-whole n (reached-next r part fits) (bytes ∙ joined-next header before chunk rest) turn) there
@@ -61,9 +62,9 @@ place-whole n {m} {header} {before} {at = at} r bytes (next {chunk = chunk} {res
     part = record { before = header ++ joined before; after = joined rest; bytes = bytes; starts = r .there }
 
     go : (b : Bool) → eqb (number32 chunk 0) n ≡ b
-        → (placeOf n (recordsFrom (at + length chunk) rest) .present ≡ true → WholeAt m n (placeOf n (recordsFrom (at + length chunk) rest)))
-        → cond b (standing (recorded at chunk)) (placeOf n (recordsFrom (at + length chunk) rest)) .present ≡ true
-        → WholeAt m n (cond b (standing (recorded at chunk)) (placeOf n (recordsFrom (at + length chunk) rest)))
+        → (spanOf n (recordsFrom (at + length chunk) rest) .present ≡ true → WholeAt m n (spanOf n (recordsFrom (at + length chunk) rest)))
+        → cond b (standing (recorded at chunk)) (spanOf n (recordsFrom (at + length chunk) rest)) .present ≡ true
+        → WholeAt m n (cond b (standing (recorded at chunk)) (spanOf n (recordsFrom (at + length chunk) rest)))
     go true e ih h =
         let size = fits .bytes .size in
         let inside = part-inside part in
@@ -78,44 +79,46 @@ place-whole n {m} {header} {before} {at = at} r bytes (next {chunk = chunk} {res
     go false e ih h = ih h
 
 -- The places of a found layout.
-pub record PlacesWhole (m : List ℕ) (l : Layout) : Type 0 where
-  pub name : l .places .name .present ≡ true → WholeAt m NAME (l .places .name)
-  pub info : WholeAt m INFO (l .places .info)
-  pub song : WholeAt m SONG (l .places .song)
-  pub inst : WholeAt m INST (l .places .inst)
-  pub patt : WholeAt m PATT (l .places .patt)
-  pub smpl : WholeAt m SMPL (l .places .smpl)
-  pub venv : l .places .venv .present ≡ true → WholeAt m VENV (l .places .venv)
-  pub penv : l .places .penv .present ≡ true → WholeAt m PENV (l .places .penv)
+pub record SpansWhole (m : List ℕ) (l : Layout) : Type 0 where
+  pub name : l .spans .name .present ≡ true → WholeAt m nameIdentifier (l .spans .name)
+  pub info : WholeAt m infoIdentifier (l .spans .info)
+  pub song : WholeAt m songIdentifier (l .spans .song)
+  pub inst : WholeAt m instIdentifier (l .spans .inst)
+  pub patt : WholeAt m pattIdentifier (l .spans .patt)
+  pub smpl : WholeAt m smplIdentifier (l .spans .smpl)
+  pub venv : l .spans .venv .present ≡ true → WholeAt m venvIdentifier (l .spans .venv)
+  pub penv : l .spans .penv .present ≡ true → WholeAt m penvIdentifier (l .spans .penv)
 
 places-of : {m : List ℕ} (all : List (List ℕ)) → AllRead m all → mandatoryThere (recordsFrom 8 all) ≡ true
-    → PlacesWhole m (layoutWith m (placesOf (recordsFrom 8 all)))
+    → SpansWhole m (layoutWith m (spansOf (recordsFrom 8 all)))
 places-of {m} all read mandatory = record {
-  name = of NAME;
-  info = of INFO (rw (present-occurs INFO (recordsFrom 8 all)) (says .0));
-  song = of SONG (rw (present-occurs SONG (recordsFrom 8 all)) (says .1 .0));
-  inst = of INST (rw (present-occurs INST (recordsFrom 8 all)) (says .1 .1 .0));
-  patt = of PATT (rw (present-occurs PATT (recordsFrom 8 all)) (says .1 .1 .1 .0));
-  smpl = of SMPL (rw (present-occurs SMPL (recordsFrom 8 all)) (says .1 .1 .1 .1));
-  venv = of VENV;
-  penv = of PENV;
+  name = of nameIdentifier;
+  info = of infoIdentifier (rw (present-occurs infoIdentifier (recordsFrom 8 all)) (says .0));
+  song = of songIdentifier (rw (present-occurs songIdentifier (recordsFrom 8 all)) (says .1 .0));
+  inst = of instIdentifier (rw (present-occurs instIdentifier (recordsFrom 8 all)) (says .1 .1 .0));
+  patt = of pattIdentifier (rw (present-occurs pattIdentifier (recordsFrom 8 all)) (says .1 .1 .1 .0));
+  smpl = of smplIdentifier (rw (present-occurs smplIdentifier (recordsFrom 8 all)) (says .1 .1 .1 .1));
+  venv = of venvIdentifier;
+  penv = of penvIdentifier;
 }
   where
-    of : (n : ℕ) → placeOf n (recordsFrom 8 all) .present ≡ true → WholeAt m n (placeOf n (recordsFrom 8 all))
+    of : (n : ℕ) → spanOf n (recordsFrom 8 all) .present ≡ true → WholeAt m n (spanOf n (recordsFrom 8 all))
     of n = place-whole n (read .front) (rw (append-nil (take 8 m)) (read .bytes)) (read .turn)
 
-    says : (occurs INFO (recordsFrom 8 all) ≡ true)
-        × ((occurs SONG (recordsFrom 8 all) ≡ true)
-        × ((occurs INST (recordsFrom 8 all) ≡ true) × ((occurs PATT (recordsFrom 8 all) ≡ true) × (occurs SMPL (recordsFrom 8 all) ≡ true))))
+    says : (occurs infoIdentifier (recordsFrom 8 all) ≡ true)
+        × ((occurs songIdentifier (recordsFrom 8 all) ≡ true)
+        × ((occurs instIdentifier (recordsFrom 8 all) ≡ true) × ((occurs pattIdentifier (recordsFrom 8 all) ≡ true) × (occurs smplIdentifier (recordsFrom 8 all) ≡ true))))
     says = simp and-says at mandatory
 
 -- What an outline says of places.
-abbrev Told : List ℕ → Outline → Type 0
-Told m (Found l) = PlacesWhole m l
-Told m (Refused r) = Unit {0}
+abbrev Says : List ℕ → Outline → Type 0
+Says m (Found l) = SpansWhole m l
+Says m (Refused r) = Unit {0}
 
-told : (m : List ℕ) → Told m (outline m)
-told m = along-outline m (Told m) (record { header = λ r e. tt; chunk = λ before at reached less r e. tt; missing = λ all read lacks. tt; found = places-of })
+reported : (m : List ℕ) → Says m (outline m)
+reported m =
+    along-outline m (Says m)
+    (record { header = λ r e. tt; chunk = λ before at reached less r e. tt; missing = λ all read lacks. tt; found = places-of })
 
-pub outline-places : (m : List ℕ) (l : Layout) → outline m ≡ Found l → PlacesWhole m l
-outline-places m l e = subst (Told m) e (told m)
+pub outline-places : (m : List ℕ) (l : Layout) → outline m ≡ Found l → SpansWhole m l
+outline-places m l e = subst (Says m) e (reported m)

@@ -11,13 +11,13 @@ use Rattle.vocabulary.specs.Lists.{Every}
 use Rattle.vocabulary.specs.Letters.{nameLetters, infoLetters, songLetters, instLetters, pattLetters, smplLetters, venvLetters, penvLetters}
 use Rattle.numbers.specs.Numbers.{byteAt, number16, number32, partOf}
 use Rattle.packed_rows.specs.Entries.{Entry}
-use Rattle.packed_rows.specs.Theorems.{StreamOf}
-use Rattle.blocks.specs.declared.Thing.{Thing}
-use Rattle.blocks.specs.declared.Thing.the-variants.{Song, Instrument, Pattern, Sample, VolumeEnvelope, PanningEnvelope}
-use Rattle.acceptance.specs.Rules.{Among, Covered, NeedsInfo, Filled, PanningFits, Looped, SampleRules, VolumeFits, PanningValueFits}
+use Rattle.packed_rows.specs.Theorems.{SoundStream}
+use Rattle.blocks.specs.declared.RecordKind.{RecordKind}
+use Rattle.blocks.specs.declared.RecordKind.the-variants.{Song, Instrument, Pattern, Sample, VolumeEnvelope, PanningEnvelope}
+use Rattle.acceptance.specs.Rules.{Among, Covered, NeedsInfo, Filled, PanningFits, LoopedBlock, SampleRules, VolumeFits, PanningValueFits}
 
 -- B1: the letters of the chunk whose blocks are such things.
-abbrev pub lettersOf : Thing → List ℕ
+abbrev pub lettersOf : RecordKind → List ℕ
 lettersOf Song = songLetters
 lettersOf Instrument = instLetters
 lettersOf Pattern = pattLetters
@@ -26,7 +26,7 @@ lettersOf VolumeEnvelope = venvLetters
 lettersOf PanningEnvelope = penvLetters
 
 -- B1: the bytes before its first block: identifier and length, and in VENV and PENV the count.
-abbrev pub frontOf : Thing → ℕ
+abbrev pub frontOf : RecordKind → ℕ
 frontOf Song = 8
 frontOf Instrument = 8
 frontOf Pattern = 8
@@ -35,7 +35,7 @@ frontOf VolumeEnvelope = 10
 frontOf PanningEnvelope = 10
 
 -- B1: how many blocks it has, by INFO or by its own count.
-abbrev pub countIn : Thing → List ℕ → List ℕ → ℕ
+abbrev pub countIn : RecordKind → List ℕ → List ℕ → ℕ
 countIn Song info chunk = number16 info 12
 countIn Instrument info chunk = number16 info 8
 countIn Pattern info chunk = number16 info 14
@@ -44,7 +44,7 @@ countIn VolumeEnvelope info chunk = number16 chunk 8
 countIn PanningEnvelope info chunk = number16 chunk 8
 
 -- B2 to B6: a block is as long as its own bytes say. To the size of a sample belong its flags, which are 1, 2 or 4.
-abbrev pub SizeFits : Thing → List ℕ → Type 0
+abbrev pub SizeFits : RecordKind → List ℕ → Type 0
 SizeFits Song block = length block ≡ 46 + 2 * number16 block 44
 SizeFits Instrument block = length block ≡ 50
 SizeFits Pattern block = length block ≡ 6 + number32 block 2 + number32 block 2 % 2
@@ -53,9 +53,9 @@ SizeFits VolumeEnvelope block = length block ≡ 136
 SizeFits PanningEnvelope block = length block ≡ 136
 
 -- B1: the chunk is its front and these blocks, as many as it has, each as long as its bytes say, and nothing else.
-pub record MadeOf (thing : Thing) (info chunk : List ℕ) (blocks : List (List ℕ)) : Type 0 where
-  pub filled : Filled (frontOf thing) chunk (countIn thing info chunk) blocks
-  pub sizes : Every (SizeFits thing) blocks
+pub record MadeOf (kind : RecordKind) (info chunk : List ℕ) (blocks : List (List ℕ)) : Type 0 where
+  pub filled : Filled (frontOf kind) chunk (countIn kind info chunk) blocks
+  pub sizes : Every (SizeFits kind) blocks
 
 -- 2, M3: under 8 bytes, or they do not begin with D B M 0.
 pub data HeaderFault (m : List ℕ) : Type 0 where
@@ -114,16 +114,16 @@ pub record InfoFault (chunk : List ℕ) (offset : ℕ) : Type 0 where
   pub range : RangeFault chunk offset
 
 -- 11: the chunk is not made of such blocks.
-pub record BlocksFault (thing : Thing) (info chunk : List ℕ) : Type 0 where
-  pub none : (blocks : List (List ℕ)) → MadeOf thing info chunk blocks → ⊥
+pub record BlocksFault (kind : RecordKind) (info chunk : List ℕ) : Type 0 where
+  pub none : (blocks : List (List ℕ)) → MadeOf kind info chunk blocks → ⊥
 
 -- 12, V1 to V3: what a block refers to does not exist: the pattern of an entry, patterns counted from 0; the sample of an instrument, from
 -- 1, where 0 is none; the instrument of an envelope, from 1.
 abbrev pub InstrumentLacks : List ℕ → List ℕ → Type 0
 InstrumentLacks counts block = (number16 block 0 ≡ 0) ⊎ (number16 counts 8 < number16 block 0)
 
-pub data ReferenceFault (info block : List ℕ) : Thing → ℕ → Type 0 where
-  entry : (i : ℕ) → i < number16 block 44 → number16 info 14 ≤ number16 block (46 + 2 * i) → ReferenceFault info block Song (46 + 2 * i)
+pub data ReferenceFault (info block : List ℕ) : RecordKind → ℕ → Type 0 where
+  playlistEntry : (i : ℕ) → i < number16 block 44 → number16 info 14 ≤ number16 block (46 + 2 * i) → ReferenceFault info block Song (46 + 2 * i)
   sample : number16 info 10 < number16 block 30 → ReferenceFault info block Instrument 30
   ofVolume : InstrumentLacks info block → ReferenceFault info block VolumeEnvelope 0
   ofPanning : InstrumentLacks info block → ReferenceFault info block PanningEnvelope 0
@@ -146,7 +146,7 @@ pub data EnvelopeFault (ValueFits : ℕ → Type 0) (block : List ℕ) : ℕ →
   value : (i : ℕ) → i ≤ byteAt block 3 → i < 32 → (ValueFits (number16 block (10 + 4 * i)) → ⊥) → EnvelopeFault ValueFits block (10 + 4 * i)
 
 -- 13: the same of all blocks with such fields. The values of panning envelopes go by the version, which is in the module's header.
-pub data FieldFault (header block : List ℕ) : Thing → ℕ → Type 0 where
+pub data FieldFault (header block : List ℕ) : RecordKind → ℕ → Type 0 where
   instrument : {offset : ℕ} → InstrumentFault block offset → FieldFault header block Instrument offset
   ofVolume : {offset : ℕ} → EnvelopeFault VolumeFits block offset → FieldFault header block VolumeEnvelope offset
   ofPanning : {offset : ℕ} → EnvelopeFault (PanningValueFits (byteAt header 4)) block offset → FieldFault header block PanningEnvelope offset
@@ -157,10 +157,10 @@ pub record LoopFault (chunks : List (List ℕ)) (info block : List ℕ) : Type 0
   pub among : Among chunks smplLetters smpl
   pub samples : List (List ℕ)
   pub blocks : MadeOf Sample info smpl samples
-  pub looped : Looped block
+  pub looped : LoopedBlock block
   pub exists : number16 block 30 ≤ length samples
   pub outside : (number16 block 30 ≡ 0) ⊎ (number32 (getD samples (number16 block 30 - 1) []) 4 < number32 block 38 + number32 block 42)
 
 -- 15, V7: the packed bytes of a pattern are no stream of its rows and INFO's tracks.
 pub record PatternFault (info block : List ℕ) : Type 0 where
-  pub none : (entries : List (List Entry)) → StreamOf (number16 block 0) (number16 info 16) (partOf block 6 (number32 block 2)) entries → ⊥
+  pub none : (entries : List (List Entry)) → SoundStream (number16 block 0) (number16 info 16) (partOf block 6 (number32 block 2)) entries → ⊥

@@ -7,13 +7,13 @@ use lib.ListN.{length}
 use Rattle.vocabulary.specs.Lists.{joined, Every}
 use Rattle.vocabulary.specs.Letters.{infoLetters}
 use Rattle.refusal.specs.Numbers.{refusal}
-use Rattle.refusal.specs.declared.Cause.the-variants.{TooLong, NotAModule, Version, ChunkCut, Identifier, Repeated}
-use Rattle.refusal.specs.declared.Cause.the-variants.{BeforeInfo, Missing, FixedLength, InfoRange, Blocks, Reference}
-use Rattle.refusal.specs.declared.Cause.the-variants.{FieldRange, Loop, Stream}
+use Rattle.refusal.specs.declared.Reason.the-variants.{TooLong, NotAModule, Version, ChunkCut, Identifier, Repeated}
+use Rattle.refusal.specs.declared.Reason.the-variants.{BeforeInfo, Missing, FixedLength, InfoRange, Blocks, Reference}
+use Rattle.refusal.specs.declared.Reason.the-variants.{FieldRange, Loop, Stream}
 use Rattle.refusal.specs.declared.Refusal.{Refusal}
-use Rattle.blocks.specs.declared.Thing.{Thing}
-use Rattle.blocks.specs.declared.Thing.the-variants.{Instrument, Pattern}
-use Rattle.acceptance.specs.Rules.{ChunkBytes, Among, NeedsInfo, ChunkRules}
+use Rattle.blocks.specs.declared.RecordKind.{RecordKind}
+use Rattle.blocks.specs.declared.RecordKind.the-variants.{Instrument, Pattern}
+use Rattle.acceptance.specs.Rules.{IsChunk, Among, NeedsInfo, ChunkRules}
 use Rattle.acceptance.specs.Faults.{lettersOf, frontOf, MadeOf, HeaderFault, VersionFault, CutFault, IdentifierFault}
 use Rattle.acceptance.specs.Faults.{RepeatedFault, OrderFault, MissingFault, LengthFault, InfoFault, BlocksFault}
 use Rattle.acceptance.specs.Faults.{ReferenceFault, FieldFault, LoopFault, PatternFault}
@@ -25,7 +25,7 @@ pub record HeaderAt (m : List ℕ) (place : ℕ) : Type 0 where
   pub after : List ℕ
   pub bytes : m ≡ (header ++ joined before) ++ after
   pub headerSize : length header ≡ 8
-  pub whole : Every ChunkBytes before
+  pub whole : Every IsChunk before
   pub there : length (header ++ joined before) ≡ place
   pub follows : place < length m
 
@@ -35,14 +35,14 @@ pub record ChunkBegins (m : List ℕ) (place : ℕ) : Type 0 where
   pub chunk : List ℕ
   pub rest : List ℕ
   pub bytes : begins .after ≡ chunk ++ rest
-  pub whole : ChunkBytes chunk
+  pub whole : IsChunk chunk
 
 -- The module is a header and these chunks.
 pub record ChunksOf (m : List ℕ) (chunks : List (List ℕ)) : Type 0 where
   pub header : List ℕ
   pub bytes : m ≡ header ++ joined chunks
   pub headerSize : length header ≡ 8
-  pub whole : Every ChunkBytes chunks
+  pub whole : Every IsChunk chunks
 
 -- Nothing of 1 to 10 is wrong: these are the header and the chunks of the module, M2 to M9 hold of them, and the mandatory ones are there.
 pub record AllChunks (m : List ℕ) : Type 0 where
@@ -54,33 +54,33 @@ pub record AllChunks (m : List ℕ) : Type 0 where
   pub othersThere : (letters : List ℕ) → NeedsInfo letters → (chunk : List ℕ) × Among chunks letters chunk
 
 -- The chunk of a thing begins at this place, after the module's 8 bytes and the chunks before it.
-pub record BlocksAt {m : List ℕ} (all : AllChunks m) (thing : Thing) (place : ℕ) : Type 0 where
+pub record BlocksAt {m : List ℕ} (all : AllChunks m) (kind : RecordKind) (place : ℕ) : Type 0 where
   pub chunk : List ℕ
-  pub among : Among (all .chunks) (lettersOf thing) chunk
+  pub among : Among (all .chunks) (lettersOf kind) chunk
   pub there : 8 + length (joined (among .before)) ≡ place
 
 -- A block of a thing begins at this place: it is one of the blocks that its chunk is made of.
-pub record BlockBegins {m : List ℕ} (all : AllChunks m) (thing : Thing) (place : ℕ) : Type 0 where
+pub record BlockBegins {m : List ℕ} (all : AllChunks m) (kind : RecordKind) (place : ℕ) : Type 0 where
   pub start : ℕ
-  pub within : BlocksAt all thing start
+  pub within : BlocksAt all kind start
   pub before : List (List ℕ)
   pub block : List ℕ
   pub after : List (List ℕ)
-  pub blocks : MadeOf thing (all .info) (within .chunk) (before ++ (block ∷ after))
-  pub there : start + frontOf thing + length (joined before) ≡ place
+  pub blocks : MadeOf kind (all .info) (within .chunk) (before ++ (block ∷ after))
+  pub there : start + frontOf kind + length (joined before) ≡ place
 
 -- A field of such a block begins at this place, and of the block, the thing and the field's offset this is so.
-pub record FieldAt {m : List ℕ} (all : AllChunks m) (Wrong : List ℕ → Thing → ℕ → Type 0) (place : ℕ) : Type 0 where
-  pub thing : Thing
+pub record FieldAt {m : List ℕ} (all : AllChunks m) (Wrong : List ℕ → RecordKind → ℕ → Type 0) (place : ℕ) : Type 0 where
+  pub kind : RecordKind
   pub start : ℕ
-  pub within : BlockBegins all thing start
+  pub within : BlockBegins all kind start
   pub offset : ℕ
   pub there : start + offset ≡ place
-  pub wrong : Wrong (within .block) thing offset
+  pub wrong : Wrong (within .block) kind offset
 
 -- F17: the place of each refusal from 11 to 15, and what is wrong there.
 pub data ContentPlace {m : List ℕ} (all : AllChunks m) : Refusal → Type 0 where
-  blocks : {thing : Thing} {place : ℕ} (at : BlocksAt all thing place) → BlocksFault thing (all .info) (at .chunk) → ContentPlace all (refusal Blocks place)
+  blocks : {kind : RecordKind} {place : ℕ} (at : BlocksAt all kind place) → BlocksFault kind (all .info) (at .chunk) → ContentPlace all (refusal Blocks place)
   reference : {place : ℕ} → FieldAt all (ReferenceFault (all .info)) place → ContentPlace all (refusal Reference place)
   fieldRange : {place : ℕ} → FieldAt all (FieldFault (all .header)) place → ContentPlace all (refusal FieldRange place)
   loop : {place : ℕ} (at : BlockBegins all Instrument place) → LoopFault (all .chunks) (all .info) (at .block) → ContentPlace all (refusal Loop place)

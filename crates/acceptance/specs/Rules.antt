@@ -13,10 +13,10 @@ use Rattle.vocabulary.specs.Lists.{joined, Every}
 use Rattle.vocabulary.specs.Letters.{nameLetters, infoLetters, songLetters, instLetters, pattLetters, smplLetters, venvLetters, penvLetters}
 use Rattle.numbers.specs.Numbers.{byteAt, number16, number32, signed16}
 use Rattle.packed_rows.specs.Entries.{Entry}
-use Rattle.packed_rows.specs.Theorems.{StreamOf}
+use Rattle.packed_rows.specs.Theorems.{SoundStream}
 
 -- M5: a chunk has 8 bytes, identifier and length, and as many bytes of data as its length says. Its identifier is four letters A to Z.
-pub record ChunkBytes (chunk : List ℕ) : Type 0 where
+pub record IsChunk (chunk : List ℕ) : Type 0 where
   pub size : length chunk ≡ 8 + number32 chunk 4
   pub letters : (i : ℕ) → i < 4 → (65 ≤ byteAt chunk i) × (byteAt chunk i ≤ 90)
 
@@ -53,8 +53,8 @@ pub data NeedsInfo : List ℕ → Type 0 where
   smpl : NeedsInfo smplLetters
 
 -- M7: INFO stands before each chunk with these letters.
-abbrev pub BehindInfo : List (List ℕ) → List ℕ → Type 0
-BehindInfo chunks letters =
+abbrev pub AfterInfo : List (List ℕ) → List ℕ → Type 0
+AfterInfo chunks letters =
     (before after : List (List ℕ)) (chunk : List ℕ)
     → chunks ≡ before ++ (chunk ∷ after) → take 4 chunk ≡ letters
     → (info : List ℕ) × Among before infoLetters info
@@ -76,9 +76,9 @@ pub record ChunkRules (m header : List ℕ) (chunks : List (List ℕ)) : Type 0 
   pub begins : take 4 header ≡ 68 ∷ 66 ∷ 77 ∷ 48 ∷ []
   pub version : (byteAt header 4 ≡ 2) ⊎ (byteAt header 4 ≡ 3)
   pub revision : (byteAt header 5 / 16 ≤ 9) × (byteAt header 5 % 16 ≤ 9)
-  pub whole : Every ChunkBytes chunks
+  pub whole : Every IsChunk chunks
   pub once : (letters : List ℕ) → Covered letters → AtMostOnce chunks letters
-  pub behindInfo : (letters : List ℕ) → NeedsInfo letters → BehindInfo chunks letters
+  pub afterInfo : (letters : List ℕ) → NeedsInfo letters → AfterInfo chunks letters
   pub name : (chunk : List ℕ) → Among chunks nameLetters chunk → length chunk ≡ 52
   pub info : (chunk : List ℕ) → Among chunks infoLetters chunk → InfoRules chunk
 
@@ -98,8 +98,8 @@ abbrev pub PanningFits : ℕ → Type 0
 PanningFits v = (negsuc 127 ≤ℤ signed16 v) × (signed16 v ≤ℤ pos 128)
 
 -- V6: the loop length is not 0, and bit 0 or bit 1 of the flags is set.
-abbrev pub Looped : List ℕ → Type 0
-Looped block = (1 ≤ number32 block 42) × ((number16 block 48 % 2 ≡ 1) ⊎ (number16 block 48 / 2 % 2 ≡ 1))
+abbrev pub LoopedBlock : List ℕ → Type 0
+LoopedBlock block = (1 ≤ number32 block 42) × ((number16 block 48 % 2 ≡ 1) ⊎ (number16 block 48 / 2 % 2 ≡ 1))
 
 -- B3, V2, V6: an instrument: sample at 30, volume at 32, loop start at 38, loop length at 42, panning at 46, flags at 48.
 pub record InstrumentRules (samples : List (List ℕ)) (block : List ℕ) : Type 0 where
@@ -108,7 +108,7 @@ pub record InstrumentRules (samples : List (List ℕ)) (block : List ℕ) : Type
   pub volume : number16 block 32 ≤ 64
   pub panning : PanningFits (number16 block 46)
   pub flags : number16 block 48 < 4
-  pub loop : Looped block → (1 ≤ number16 block 30) × (number32 block 38 + number32 block 42 ≤ number32 (getD samples (number16 block 30 - 1) []) 4)
+  pub loop : LoopedBlock block → (1 ≤ number16 block 30) × (number32 block 38 + number32 block 42 ≤ number32 (getD samples (number16 block 30 - 1) []) 4)
 
 -- B4, V7: a pattern: rows 2, packed length 4, a stream of that length (R1 to R7), and a filler if it is odd.
 pub record PatternRules (tracks : ℕ) (block : List ℕ) : Type 0 where
@@ -120,7 +120,7 @@ pub record PatternRules (tracks : ℕ) (block : List ℕ) : Type 0 where
   pub frontSize : length front ≡ 6
   pub packed : number32 front 2 ≡ length stream
   pub odd : length filler ≡ length stream % 2
-  pub sound : StreamOf (number16 front 0) tracks stream entries
+  pub sound : SoundStream (number16 front 0) tracks stream entries
 
 -- B5: a sample: flags 1, 2 or 4, which is also the number of bytes of a frame; and so many frames.
 pub record SampleRules (block : List ℕ) : Type 0 where

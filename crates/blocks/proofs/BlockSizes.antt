@@ -4,10 +4,10 @@ use mathlib.Core.List.{List}
 use native.Mathlib.Omega.{arith}
 use native.Mathlib.Nat.{mul-le-mul}
 use Rattle.blocks.specs.Sizes.{sizeOf}
-use Rattle.blocks.specs.declared.Kind.{Kind}
-use Rattle.blocks.specs.declared.Kind.the-variants.{Song, Instrument, Pattern, Sample, Envelope}
+use Rattle.blocks.specs.declared.BlockKind.{BlockKind}
+use Rattle.blocks.specs.declared.BlockKind.the-variants.{Song, Instrument, Pattern, Sample, Envelope}
 
-pub size-some : (kind : Kind) (m : List ℕ) (at : ℕ) → 0 < sizeOf kind m at
+pub size-some : (kind : BlockKind) (m : List ℕ) (at : ℕ) → 0 < sizeOf kind m at
 unfolding sizeOf
 size-some Song m at = omega arith
 size-some Instrument m at = omega arith

@@ -6,7 +6,7 @@ use mathlib.Core.Bool.{Bool, true, false}
 use native.Mathlib.Omega.{arith}
 use Rattle.refusal.specs.Numbers.{refusal}
 use Rattle.refusal.specs.Rules.{Rule, rule, firstBroken, rulesOfEach}
-use Rattle.refusal.specs.declared.Cause.{Cause}
+use Rattle.refusal.specs.declared.Reason.{Reason}
 use Rattle.refusal.specs.declared.Refusal.{Refusal}
 use Rattle.refusal.specs.declared.Verdict.the-variants.{Accepted, Refused}
 use Rattle.refusal.proofs.RuleLists.{broken-passed, broken-stopped}
@@ -40,8 +40,8 @@ module _ {rules : ℕ → List Rule} {size : ℕ → ℕ} {n start left at : ℕ
     all : firstBroken (rulesOfEach rules (placesFrom size n start)) ≡ firstBroken (rulesOfEach rules (placesFrom size count begin))
     all = rw (counted, begun) refl
 
-    pub passing-stopped : {r told : Refusal} → 0 < left → firstBroken (rules at) ≡ Refused r → told ≡ r
-        → Refused told ≡ firstBroken (rulesOfEach rules (placesFrom size count begin))
+    pub passing-stopped : {r reported : Refusal} → 0 < left → firstBroken (rules at) ≡ Refused r → reported ≡ r
+        → Refused reported ≡ firstBroken (rulesOfEach rules (placesFrom size count begin))
     passing-stopped some refused e =
         ap Refused e
         ∙ sym (broken-stopped (rulesOfEach rules (placesFrom size (left - 1) (at + size at))) (rules at) refused)
@@ -52,13 +52,13 @@ module _ {rules : ℕ → List Rule} {size : ℕ → ℕ} {n start left at : ℕ
     passing-last none = let e : left ≡ 0 = omega arith in (rw e at (p .same)) ∙ all
 
 -- The same where one rule stands at each place.
-module _ {holds : ℕ → Bool} {cause : Cause} {place size : ℕ → ℕ} {n start left at : ℕ}
-    (p : Passing (λ at. rule (holds at) cause (place at) ∷ []) size n start left at) where
+module _ {holds : ℕ → Bool} {reason : Reason} {place size : ℕ → ℕ} {n start left at : ℕ}
+    (p : Passing (λ at. rule (holds at) reason (place at) ∷ []) size n start left at) where
   pub rule-turn : {s : ℕ} → 0 < left → holds at ≡ true → (s ≡ size at) × (s < 0x800000000)
-      → Passing (λ at. rule (holds at) cause (place at) ∷ []) size n start (left - 1) (at + s)
+      → Passing (λ at. rule (holds at) reason (place at) ∷ []) size n start (left - 1) (at + s)
   rule-turn some held sized = passing-turn p some (rw held) sized
 
-  pub rule-stopped : {count begin : ℕ} {told : Refusal} → n ≡ count → start ≡ begin → 0 < left → holds at ≡ false
-      → told ≡ refusal cause (place at)
-      → Refused told ≡ firstBroken (rulesOfEach (λ at. rule (holds at) cause (place at) ∷ []) (placesFrom size count begin))
+  pub rule-stopped : {count begin : ℕ} {reported : Refusal} → n ≡ count → start ≡ begin → 0 < left → holds at ≡ false
+      → reported ≡ refusal reason (place at)
+      → Refused reported ≡ firstBroken (rulesOfEach (λ at. rule (holds at) reason (place at) ∷ []) (placesFrom size count begin))
   rule-stopped counted begun some failed e = passing-stopped p counted begun some (rw failed) e

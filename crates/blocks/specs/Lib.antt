@@ -1,4 +1,4 @@
 pub mod StoredFields
 pub mod Sizes
 pub mod Filling
-pub mod Things
+pub mod RecordKinds

@@ -4,11 +4,11 @@ use mathlib.Core.List.{List, [], _∷_}
 use mathlib.Core.Bool.{cond}
 use lib.Dec.{eqb}
 use Rattle.numbers.specs.Numbers.{number16}
-use Rattle.layout.specs.declared.Place.{Place}
+use Rattle.layout.specs.declared.ChunkSpan.{ChunkSpan}
 use Rattle.layout.specs.declared.Layout.{Layout}
 use Rattle.blocks.specs.StoredFields.{songLength, patternPackedLength, sampleFlags, sampleFrames}
-use Rattle.blocks.specs.declared.Kind.{Kind}
-use Rattle.blocks.specs.declared.Kind.the-variants.{Song, Instrument, Pattern, Sample, Envelope}
+use Rattle.blocks.specs.declared.BlockKind.{BlockKind}
+use Rattle.blocks.specs.declared.BlockKind.the-variants.{Song, Instrument, Pattern, Sample, Envelope}
 
 -- B5: a sample's flags are exactly 1, 2 or 4, for frames of 8, 16 or 32 bits: so many bytes to a frame. 0 for any other flags.
 abbrev pub widthOf : ℕ → ℕ
@@ -18,7 +18,7 @@ widthOf flags = cond (eqb flags 1) 1 (cond (eqb flags 2) 2 (cond (eqb flags 4) 4
 -- B2: a song: name 44, length 2, and so many numbers of 2 bytes. B3: an instrument, 50.
 -- B4: a pattern: rows 2, packed length 4, packed bytes, and a filler if their number is odd.
 -- B5: a sample: flags 4, frames 4, and the frames. B6: an envelope, 136.
-unfoldable pub sizeOf : Kind → List ℕ → ℕ → ℕ
+unfoldable pub sizeOf : BlockKind → List ℕ → ℕ → ℕ
 sizeOf Song m at = 46 + 2 * songLength m at
 sizeOf Instrument m at = 50
 sizeOf Pattern m at = 6 + patternPackedLength m at + patternPackedLength m at % 2
@@ -35,7 +35,7 @@ placeAfter size zero at = at
 placeAfter size (suc n) at = placeAfter size n (at + size at)
 
 -- B1: the first block stands at the beginning of the data, an envelope behind their count.
-abbrev pub firstBlock : Kind → Place → ℕ
+abbrev pub firstBlock : BlockKind → ChunkSpan → ℕ
 firstBlock Song chunk = chunk .at + 8
 firstBlock Instrument chunk = chunk .at + 8
 firstBlock Pattern chunk = chunk .at + 8
@@ -43,29 +43,29 @@ firstBlock Sample chunk = chunk .at + 8
 firstBlock Envelope chunk = chunk .at + 10
 
 -- B1: the place of a block, counted from 0.
-abbrev pub blockAt : List ℕ → Kind → Place → ℕ → ℕ
+abbrev pub blockAt : List ℕ → BlockKind → ChunkSpan → ℕ → ℕ
 blockAt m kind chunk i = placeAfter (sizeOf kind m) i (firstBlock kind chunk)
 
 -- The places of the first so many blocks of a chunk.
-abbrev pub blocksOf : List ℕ → Kind → Place → ℕ → List ℕ
+abbrev pub blocksOf : List ℕ → BlockKind → ChunkSpan → ℕ → List ℕ
 blocksOf m kind chunk n = placesFrom (sizeOf kind m) n (firstBlock kind chunk)
 
 -- B6: how many envelopes a chunk has; none where there is no chunk.
-abbrev pub envelopeCount : List ℕ → Place → ℕ
+abbrev pub envelopeCount : List ℕ → ChunkSpan → ℕ
 envelopeCount m chunk = cond (chunk .present) (number16 m (chunk .at + 8)) 0
 
 -- The blocks of each chunk.
 abbrev pub songBlocks : List ℕ → Layout → List ℕ
-songBlocks m l = blocksOf m Song (l .places .song) (l .songs)
+songBlocks m l = blocksOf m Song (l .spans .song) (l .songs)
 
 abbrev pub instrumentBlocks : List ℕ → Layout → List ℕ
-instrumentBlocks m l = blocksOf m Instrument (l .places .inst) (l .instruments)
+instrumentBlocks m l = blocksOf m Instrument (l .spans .inst) (l .instruments)
 
 abbrev pub patternBlocks : List ℕ → Layout → List ℕ
-patternBlocks m l = blocksOf m Pattern (l .places .patt) (l .patterns)
+patternBlocks m l = blocksOf m Pattern (l .spans .patt) (l .patterns)
 
 abbrev pub sampleBlocks : List ℕ → Layout → List ℕ
-sampleBlocks m l = blocksOf m Sample (l .places .smpl) (l .samples)
+sampleBlocks m l = blocksOf m Sample (l .spans .smpl) (l .samples)
 
-abbrev pub envelopeBlocks : List ℕ → Place → List ℕ
+abbrev pub envelopeBlocks : List ℕ → ChunkSpan → List ℕ
 envelopeBlocks m chunk = blocksOf m Envelope chunk (envelopeCount m chunk)

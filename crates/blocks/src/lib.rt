@@ -5,10 +5,10 @@ use crate::stored::pattern_packed_length;
 use crate::stored::sample_flags;
 use crate::stored::sample_frames;
 use crate::stored::song_length;
+use layout::ChunkSpan;
 use layout::Layout;
-use layout::Place;
 use numbers::number16;
-use refusal::Cause;
+use refusal::Reason;
 use refusal::Verdict;
 use refusal::refuse;
 ghost use mathlib.Core.Path.{_≡_};
@@ -19,11 +19,11 @@ ghost use Rattle.refusal.specs.Numbers.{verdictNumbers, IsAnswer};
 ghost use Rattle.refusal.specs.Rules.{firstBroken, rulesOfEach};
 ghost use Rattle.blocks.specs.Sizes.{widthOf, sizeOf, firstBlock, blockAt, blocksOf, envelopeCount};
 ghost use Rattle.blocks.specs.Filling.{dataEnd, fills as fillsChunk, flagsRules, envelopesRule, blockRules};
-ghost use Rattle.blocks.specs.Things.{kindOf, chunkOf, countOf};
-ghost use Rattle.blocks.specs.declared.Kind.the-variants.{Envelope, Sample as SampleKind};
+ghost use Rattle.blocks.specs.RecordKinds.{blockKindOf, chunkOf, countOf};
+ghost use Rattle.blocks.specs.declared.BlockKind.the-variants.{Envelope, Sample as SampleBlock};
 
 // What a block is.
-pub enum Kind {
+pub enum BlockKind {
     Song,
     Instrument,
     Pattern,
@@ -32,7 +32,7 @@ pub enum Kind {
 }
 
 // What the blocks of a chunk are: what a query asks for.
-pub enum Thing {
+pub enum RecordKind {
     Song,
     Instrument,
     Pattern,
@@ -80,41 +80,41 @@ fn sample_size(flags: u32, frames: u32) -> usize
 }
 
 // How many bytes the block at a place has. Past the module's end every number counts as 0.
-pub fn size(m: &[u8], kind: Kind, at: usize) -> usize
+pub fn size(m: &[u8], kind: BlockKind, at: usize) -> usize
     ensures { λ r. ⌜ (r ≡ sizeOf kind (now (m .entry)) at) × (r < 0x800000000) ⌝ }
 {
     match kind {
-        Kind::Song => song_size(song_length(m, at)),
-        Kind::Instrument => 50,
-        Kind::Pattern => pattern_size(pattern_packed_length(m, at)),
-        Kind::Sample => sample_size(sample_flags(m, at), sample_frames(m, at)),
-        Kind::Envelope => 136,
+        BlockKind::Song => song_size(song_length(m, at)),
+        BlockKind::Instrument => 50,
+        BlockKind::Pattern => pattern_size(pattern_packed_length(m, at)),
+        BlockKind::Sample => sample_size(sample_flags(m, at), sample_frames(m, at)),
+        BlockKind::Envelope => 136,
     }
 }
 
 // The place of a chunk's first block.
-fn first_block(kind: Kind, chunk: Place) -> usize
+fn first_block(kind: BlockKind, chunk: ChunkSpan) -> usize
     ensures { λ r. ⌜ (r ≡ firstBlock kind chunk) × (r < 0x200000000) ⌝ }
 {
     let at = chunk.at as usize;
     match kind {
-        Kind::Song => at + 8,
-        Kind::Instrument => at + 8,
-        Kind::Pattern => at + 8,
-        Kind::Sample => at + 8,
-        Kind::Envelope => at + 10,
+        BlockKind::Song => at + 8,
+        BlockKind::Instrument => at + 8,
+        BlockKind::Pattern => at + 8,
+        BlockKind::Sample => at + 8,
+        BlockKind::Envelope => at + 10,
     }
 }
 
 // The place behind a chunk's data.
-fn data_end(chunk: Place) -> usize
+fn data_end(chunk: ChunkSpan) -> usize
     ensures { λ r. ⌜ r ≡ dataEnd chunk ⌝ }
 {
     (chunk.at as usize) + 8 + (chunk.length as usize)
 }
 
 // The place of a block, counted from 0. Each block before it has less than 2 ^ 35 bytes.
-pub fn block_at(m: &[u8], kind: Kind, chunk: Place, i: u16) -> usize
+pub fn block_at(m: &[u8], kind: BlockKind, chunk: ChunkSpan, i: u16) -> usize
     ensures { λ r. ⌜ (r ≡ blockAt (now (m .entry)) kind chunk i) × (r < 0x200000000 + i * 0x800000000) ⌝ }
 {
     let mut at = first_block(kind, chunk);
@@ -127,7 +127,7 @@ pub fn block_at(m: &[u8], kind: Kind, chunk: Place, i: u16) -> usize
 }
 
 // Whether so many blocks fill a chunk exactly.
-fn fills(m: &[u8], kind: Kind, chunk: Place, count: u16) -> bool
+fn fills(m: &[u8], kind: BlockKind, chunk: ChunkSpan, count: u16) -> bool
     ensures { λ r. ⌜ r ≡ fillsChunk (now (m .entry)) kind chunk count ⌝ }
 {
     let end = data_end(chunk);
@@ -144,7 +144,7 @@ fn fills(m: &[u8], kind: Kind, chunk: Place, count: u16) -> bool
 }
 
 // How many envelopes a chunk has; none where there is no chunk.
-pub fn envelope_count(m: &[u8], chunk: Place) -> u16
+pub fn envelope_count(m: &[u8], chunk: ChunkSpan) -> u16
     ensures { λ r. ⌜ r ≡ envelopeCount (now (m .entry)) chunk ⌝ }
 {
     if !chunk.present {
@@ -154,40 +154,40 @@ pub fn envelope_count(m: &[u8], chunk: Place) -> u16
 }
 
 // Whether the envelopes fill their chunk, where there is one.
-fn envelopes_fill(m: &[u8], chunk: Place) -> bool
+fn envelopes_fill(m: &[u8], chunk: ChunkSpan) -> bool
     ensures { λ r. ⌜ r ≡ (not (chunk .present) || fillsChunk (now (m .entry)) Envelope chunk (envelopeCount (now (m .entry)) chunk)) ⌝ }
 {
     if !chunk.present {
         return true;
     }
-    fills(m, Kind::Envelope, chunk, envelope_count(m, chunk))
+    fills(m, BlockKind::Envelope, chunk, envelope_count(m, chunk))
 }
 
 // Checks the flags of the samples.
-fn check_flags(m: &[u8], chunk: Place, count: u16) -> Verdict
-    ensures { λ r. ⌜ r ≡ firstBroken (rulesOfEach (flagsRules (now (m .entry)) chunk) (blocksOf (now (m .entry)) SampleKind chunk count)) ⌝ }
+fn check_flags(m: &[u8], chunk: ChunkSpan, count: u16) -> Verdict
+    ensures { λ r. ⌜ r ≡ firstBroken (rulesOfEach (flagsRules (now (m .entry)) chunk) (blocksOf (now (m .entry)) SampleBlock chunk count)) ⌝ }
 {
-    let mut at = block_at(m, Kind::Sample, chunk, 0);
+    let mut at = block_at(m, BlockKind::Sample, chunk, 0);
     let mut left = count;
     while 0 < left {
         if width(sample_flags(m, at)) == 0 {
-            return Verdict::Refused(refuse(Cause::Blocks, chunk.at as usize));
+            return Verdict::Refused(refuse(Reason::Blocks, chunk.at as usize));
         }
-        at = at + size(m, Kind::Sample, at);
+        at = at + size(m, BlockKind::Sample, at);
         left = left - 1;
     }
     Verdict::Accepted
 }
 
 // Checks VENV and PENV.
-fn check_envelopes(m: &[u8], venv: Place, penv: Place) -> Verdict
+fn check_envelopes(m: &[u8], venv: ChunkSpan, penv: ChunkSpan) -> Verdict
     ensures { λ r. ⌜ r ≡ firstBroken (envelopesRule (now (m .entry)) venv ∷ envelopesRule (now (m .entry)) penv ∷ []) ⌝ }
 {
     if !envelopes_fill(m, venv) {
-        return Verdict::Refused(refuse(Cause::Blocks, venv.at as usize));
+        return Verdict::Refused(refuse(Reason::Blocks, venv.at as usize));
     }
     if !envelopes_fill(m, penv) {
-        return Verdict::Refused(refuse(Cause::Blocks, penv.at as usize));
+        return Verdict::Refused(refuse(Reason::Blocks, penv.at as usize));
     }
     Verdict::Accepted
 }
@@ -196,18 +196,18 @@ fn check_envelopes(m: &[u8], venv: Place, penv: Place) -> Verdict
 pub fn check(m: &[u8], l: Layout) -> Verdict
     ensures { λ r. ⌜ IsAnswer verdictNumbers r (firstBroken (blockRules (now (m .entry)) l)) ⌝ }
 {
-    let p = l.places;
-    if !fills(m, Kind::Song, p.song, l.songs) {
-        return Verdict::Refused(refuse(Cause::Blocks, p.song.at as usize));
+    let p = l.spans;
+    if !fills(m, BlockKind::Song, p.song, l.songs) {
+        return Verdict::Refused(refuse(Reason::Blocks, p.song.at as usize));
     }
-    if !fills(m, Kind::Instrument, p.inst, l.instruments) {
-        return Verdict::Refused(refuse(Cause::Blocks, p.inst.at as usize));
+    if !fills(m, BlockKind::Instrument, p.inst, l.instruments) {
+        return Verdict::Refused(refuse(Reason::Blocks, p.inst.at as usize));
     }
-    if !fills(m, Kind::Pattern, p.patt, l.patterns) {
-        return Verdict::Refused(refuse(Cause::Blocks, p.patt.at as usize));
+    if !fills(m, BlockKind::Pattern, p.patt, l.patterns) {
+        return Verdict::Refused(refuse(Reason::Blocks, p.patt.at as usize));
     }
-    if !fills(m, Kind::Sample, p.smpl, l.samples) {
-        return Verdict::Refused(refuse(Cause::Blocks, p.smpl.at as usize));
+    if !fills(m, BlockKind::Sample, p.smpl, l.samples) {
+        return Verdict::Refused(refuse(Reason::Blocks, p.smpl.at as usize));
     }
     if let Verdict::Refused(r) = check_flags(m, p.smpl, l.samples) {
         return Verdict::Refused(r);
@@ -216,44 +216,44 @@ pub fn check(m: &[u8], l: Layout) -> Verdict
 }
 
 // The kind of the block of a thing.
-pub fn kind_of(thing: Thing) -> Kind
-    ensures { λ r. ⌜ r ≡ kindOf thing ⌝ }
+pub fn block_kind(kind: RecordKind) -> BlockKind
+    ensures { λ r. ⌜ r ≡ blockKindOf kind ⌝ }
 {
-    match thing {
-        Thing::Song => Kind::Song,
-        Thing::Instrument => Kind::Instrument,
-        Thing::Pattern => Kind::Pattern,
-        Thing::Sample => Kind::Sample,
-        Thing::VolumeEnvelope => Kind::Envelope,
-        Thing::PanningEnvelope => Kind::Envelope,
+    match kind {
+        RecordKind::Song => BlockKind::Song,
+        RecordKind::Instrument => BlockKind::Instrument,
+        RecordKind::Pattern => BlockKind::Pattern,
+        RecordKind::Sample => BlockKind::Sample,
+        RecordKind::VolumeEnvelope => BlockKind::Envelope,
+        RecordKind::PanningEnvelope => BlockKind::Envelope,
     }
 }
 
 // The chunk that holds such blocks.
-pub fn chunk_of(l: Layout, thing: Thing) -> Place
-    ensures { λ r. ⌜ r ≡ chunkOf l thing ⌝ }
+pub fn chunk_of(l: Layout, kind: RecordKind) -> ChunkSpan
+    ensures { λ r. ⌜ r ≡ chunkOf l kind ⌝ }
 {
-    let p = l.places;
-    match thing {
-        Thing::Song => p.song,
-        Thing::Instrument => p.inst,
-        Thing::Pattern => p.patt,
-        Thing::Sample => p.smpl,
-        Thing::VolumeEnvelope => p.venv,
-        Thing::PanningEnvelope => p.penv,
+    let p = l.spans;
+    match kind {
+        RecordKind::Song => p.song,
+        RecordKind::Instrument => p.inst,
+        RecordKind::Pattern => p.patt,
+        RecordKind::Sample => p.smpl,
+        RecordKind::VolumeEnvelope => p.venv,
+        RecordKind::PanningEnvelope => p.penv,
     }
 }
 
 // How many of these things the module has.
-pub fn count_of(m: &[u8], l: Layout, thing: Thing) -> u16
-    ensures { λ r. ⌜ r ≡ countOf (now (m .entry)) l thing ⌝ }
+pub fn count_of(m: &[u8], l: Layout, kind: RecordKind) -> u16
+    ensures { λ r. ⌜ r ≡ countOf (now (m .entry)) l kind ⌝ }
 {
-    match thing {
-        Thing::Song => l.songs,
-        Thing::Instrument => l.instruments,
-        Thing::Pattern => l.patterns,
-        Thing::Sample => l.samples,
-        Thing::VolumeEnvelope => envelope_count(m, l.places.venv),
-        Thing::PanningEnvelope => envelope_count(m, l.places.penv),
+    match kind {
+        RecordKind::Song => l.songs,
+        RecordKind::Instrument => l.instruments,
+        RecordKind::Pattern => l.patterns,
+        RecordKind::Sample => l.samples,
+        RecordKind::VolumeEnvelope => envelope_count(m, l.spans.venv),
+        RecordKind::PanningEnvelope => envelope_count(m, l.spans.penv),
     }
 }

@@ -2,13 +2,12 @@
 use Prim.Native.Nat.{ℕ, _/_, _%_}
 use mathlib.Core.Path.{_≡_, refl, sym, subst, _∙_}
 use mathlib.Core.Logic.{_↔_}
-use mathlib.Core.Bool.{Bool, true, false, cond, true≢false}
+use mathlib.Core.Bool.{Bool, true, false, cond, true≢false, _&&_}
 use native.Mathlib.Nat.{div-add-mod'}
 use native.Mathlib.Omega.{arith}
 use lib.Dec.{eqb, leb}
 use borrow.Author.Tests.{eqb-true, eqb-false, ne-eqb, leb-true, le-leb}
-use Rattle.cells.specs.Cells.{both}
-use Rattle.cells.specs.Shown.{isPitch, shownNote, noteByte, PitchNumber, NoteOf, none, keyOff, pitch, unknown}
+use Rattle.cells.specs.Shown.{isPitch, shownNote, noteByte, PitchNumber, NoteOf, noNote, keyOff, pitch, unknown}
 use Rattle.cells.specs.declared.Note.{Note}
 use Rattle.cells.specs.declared.Note.the-variants.{None, KeyOff, Pitch, Unknown}
 
@@ -32,7 +31,7 @@ pitch-passes n octave semitone p = let h = halves n octave semitone p in simp (h
 passed-pitch : (n : ℕ) → isPitch n ≡ true → PitchNumber n (n / 16) (n % 16)
 passed-pitch n = go (leb 1 (n / 16)) (leb (n / 16) 8) (leb (n % 16) 11) refl refl refl
   where
-    go : (a b d : Bool) → leb 1 (n / 16) ≡ a → leb (n / 16) 8 ≡ b → leb (n % 16) 11 ≡ d → both a (both b d) ≡ true → PitchNumber n (n / 16) (n % 16)
+    go : (a b d : Bool) → leb 1 (n / 16) ≡ a → leb (n / 16) 8 ≡ b → leb (n % 16) 11 ≡ d → a && (b && d) ≡ true → PitchNumber n (n / 16) (n % 16)
     go true true true e f g h = (omega arith, leb-true _ _ e, leb-true _ _ f, leb-true _ _ g)
     go true true false e f g h = let z : _≡_ {A = ℕ} 0 1 = cc in absurd (omega arith)
     go true false d e f g h = let z : _≡_ {A = ℕ} 0 1 = cc in absurd (omega arith)
@@ -45,13 +44,13 @@ shown-is : (n : ℕ) → NoteOf n (shownNote n)
 shown-is n = go (eqb n 0) (eqb n 31) (isPitch n) refl refl refl
   where
     go : (a b d : Bool) → eqb n 0 ≡ a → eqb n 31 ≡ b → isPitch n ≡ d → NoteOf n (cond a None (cond b KeyOff (cond d (Pitch (n / 16) (n % 16)) (Unknown n))))
-    go true b d e f g = none (eqb-true n 0 e)
+    go true b d e f g = noNote (eqb-true n 0 e)
     go false true d e f g = keyOff (eqb-true n 31 f)
     go false false true e f g = pitch (passed-pitch n g)
     go false false false e f g = unknown (eqb-false n 0 e) (eqb-false n 31 f) (no-pitch g)
 
 is-shown : (n : ℕ) (note : Note) → NoteOf n note → shownNote n ≡ note
-is-shown n None (none e) = rw e
+is-shown n None (noNote e) = rw e
 is-shown n KeyOff (keyOff e) = rw e
 is-shown n (Pitch octave semitone) (pitch p) =
     let h = halves n octave semitone p in

@@ -2,7 +2,7 @@
 -- tracks ascending, a cell the list of its six fields: note, instrument, command 1, parameter 1, command 2, parameter 2.
 use Prim.Native.Nat.{ℕ, zero, suc, _*_, _%_}
 use mathlib.Core.List.{List, [], _∷_, map}
-use mathlib.Core.Bool.{Bool, true, false, cond}
+use mathlib.Core.Bool.{Bool, cond, _&&_}
 use lib.ListN.{length, take, drop, replicate}
 use lib.Dec.{eqb, leb, ltb}
 use Rattle.vocabulary.specs.Lists.{joined}
@@ -20,30 +20,25 @@ emptyCell = replicate 6 0
 abbrev pub emptyRow : ℕ → Row
 emptyRow tracks = replicate tracks emptyCell
 
--- Both tests hold.
-abbrev pub both : Bool → Bool → Bool
-both true b = b
-both false b = false
-
 -- C1: at most 65,535 rows; an even number of tracks, from 4 to 254.
 abbrev pub sizesFit : ℕ → ℕ → Bool
-sizesFit rows tracks = both (leb rows 65535) (both (leb 4 tracks) (both (leb tracks 254) (eqb (tracks % 2) 0)))
+sizesFit rows tracks = leb rows 65535 && (leb 4 tracks && (leb tracks 254 && eqb (tracks % 2) 0))
 
 -- C3: how many bytes the cells of a pattern are.
 abbrev pub cellBytes : ℕ → ℕ → ℕ
 cellBytes rows tracks = rows * (tracks * 6)
 
 -- So many blocks of one size, from the front.
-abbrev pub blocksOf : ℕ → ℕ → List ℕ → List (List ℕ)
-blocksOf zero size bytes = []
-blocksOf (suc n) size bytes = take size bytes ∷ blocksOf n size (drop size bytes)
+abbrev pub groupsOf : ℕ → ℕ → List ℕ → List (List ℕ)
+groupsOf zero size bytes = []
+groupsOf (suc n) size bytes = take size bytes ∷ groupsOf n size (drop size bytes)
 
 -- C3: the cells of a row, and the rows of a pattern, off its bytes; and the bytes of rows.
 abbrev pub rowOf : ℕ → List ℕ → Row
-rowOf tracks bytes = blocksOf tracks 6 bytes
+rowOf tracks bytes = groupsOf tracks 6 bytes
 
 abbrev pub rowsOf : ℕ → ℕ → List ℕ → List Row
-rowsOf rows tracks bytes = map (rowOf tracks) (blocksOf rows (tracks * 6) bytes)
+rowsOf rows tracks bytes = map (rowOf tracks) (groupsOf rows (tracks * 6) bytes)
 
 abbrev pub bytesOf : List Row → List ℕ
 bytesOf rows = joined (map joined rows)

@@ -3,10 +3,9 @@
 use Prim.Native.Nat.{ℕ, _+_, _*_, _/_, _%_, _≤_}
 use mathlib.Core.Path.{_≡_}
 use mathlib.Core.List.{List, [], _∷_}
-use mathlib.Core.Bool.{Bool, cond}
+use mathlib.Core.Bool.{Bool, cond, _&&_}
 use lib.ListN.{getD}
 use lib.Dec.{eqb, leb}
-use Rattle.cells.specs.Cells.{both}
 use Rattle.cells.specs.declared.Note.{Note}
 use Rattle.cells.specs.declared.Note.the-variants.{None, KeyOff, Pitch, Unknown}
 use Rattle.cells.specs.declared.NoteNumbers.{NoteNumbers}
@@ -14,7 +13,7 @@ use Rattle.cells.specs.declared.Cell.{Cell}
 
 -- N3: the high half is an octave from 1 to 8, the low half a semitone from 0 to 11.
 abbrev pub isPitch : ℕ → Bool
-isPitch note = both (leb 1 (note / 16)) (both (leb (note / 16) 8) (leb (note % 16) 11))
+isPitch note = leb 1 (note / 16) && (leb (note / 16) 8 && leb (note % 16) 11)
 
 -- N2 to N4.
 abbrev pub shownNote : ℕ → Note
@@ -30,7 +29,7 @@ PitchNumber number octave semitone = (number ≡ 16 * octave + semitone) × (1 �
 
 -- N2 to N4 without the tests: which note a number is.
 pub data NoteOf (number : ℕ) : Note → Type 0 where
-  none : number ≡ 0 → NoteOf number None
+  noNote : number ≡ 0 → NoteOf number None
   keyOff : number ≡ 31 → NoteOf number KeyOff
   pitch : {octave semitone : ℕ} → PitchNumber number octave semitone → NoteOf number (Pitch octave semitone)
   unknown : (number ≡ 0 → ⊥) → (number ≡ 31 → ⊥) → ((octave semitone : ℕ) → PitchNumber number octave semitone → ⊥) → NoteOf number (Unknown number)

@@ -5,7 +5,7 @@ use native.Mathlib.Omega.{arith}
 use mathlib.Core.Path.{_≡_, refl}
 use borrow.Author.Tests.{lt-ltb, le-ltb}
 use Rattle.io.specs.Digits.{digits, Fewest}
-use Rattle.conformance_text.specs.Text.{figures, decimal}
+use Rattle.conformance_text.specs.Text.{figures, decimal64}
 
 power-some : (b k : ℕ) → 1 ≤ b → 1 ≤ b ^ k
 power-some b zero h = omega (arith, pow-zero b)
@@ -30,9 +30,9 @@ fewest-figures (suc more) (suc k) n h b =
     let above : 1 < suc k → 10 ^ (suc k - 1) ≤ n / 10 = λ one. rw (less k) (omega (arith, pow-suc 10 k)) in
     simp (le-ltb n 10 two-digits, fewest-figures more k (n / 10) (omega arith, below, above) (omega (arith, pow-suc 10 (suc more))))
 
--- What `io::decimal` writes.
-pub fewest-decimal : (k n : ℕ) → Fewest 10 1 n k → n < 2 ^ 64 → digits 10 k n ≡ decimal n
-unfolding decimal
+-- What `io::decimal64` writes.
+pub fewest-decimal : (k n : ℕ) → Fewest 10 1 n k → n < 2 ^ 64 → digits 10 k n ≡ decimal64 n
+unfolding decimal64
 fewest-decimal zero n h b = absurd (omega (arith, h .0))
 fewest-decimal (suc k) n h b = rw (fewest-figures 19 k n h (omega arith))
 

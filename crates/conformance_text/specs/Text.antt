@@ -17,18 +17,18 @@ lineEnd line at text = min (at + length text) (length line)
 abbrev pub HasPut : List ℕ → ℕ → List ℕ → List ℕ → ℕ → Type 0
 HasPut before at text line next = (next ≡ lineEnd before at text) × (line ≡ sets before at text)
 
--- How many decimal digits a number has, where they are at most so many and one more.
+-- How many decimal64 digits a number has, where they are at most so many and one more.
 abbrev pub figures : ℕ → ℕ → ℕ
 figures zero n = 1
 figures (suc more) n = cond (ltb n 10) 1 (suc (figures more (n / 10)))
 
--- A number of 8 bytes in decimal, without leading zeros: at most 20 digits.
-unfoldable pub decimal : ℕ → List ℕ
-decimal n = digits 10 (figures 19 n) n
+-- A number of 8 bytes in decimal64, without leading zeros: at most 20 digits.
+unfoldable pub decimal64 : ℕ → List ℕ
+decimal64 n = digits 10 (figures 19 n) n
 
 -- A number with a space before it.
 abbrev pub spaced : ℕ → List ℕ
-spaced n = 32 ∷ decimal n
+spaced n = 32 ∷ decimal64 n
 
 unfoldable pub numbersText : List ℕ → List ℕ
 numbersText numbers = joined (map spaced numbers)

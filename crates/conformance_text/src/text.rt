@@ -6,7 +6,7 @@ ghost use lib.ListN.{length, replicate};
 ghost use lib.Seq.{sets};
 ghost use Rattle.io.specs.Counts.{Counts};
 ghost use Rattle.io.specs.Digits.{digits};
-ghost use Rattle.conformance_text.specs.Text.{HasPut, decimal, numbersText, hexText, newline, bytesEnd, numbersLine, bytesLine};
+ghost use Rattle.conformance_text.specs.Text.{HasPut, decimal64, numbersText, hexText, newline, bytesEnd, numbersLine, bytesLine};
 
 // How many bytes a part of `xs` has where `n` are asked for: `n`, but no more than there are.
 pub fn within(n: usize, xs: &[u8]) -> usize
@@ -40,9 +40,9 @@ fn put(line: &mut [u8], at: usize, text: &[u8]) -> usize
     start + n
 }
 
-// Puts a word and a number in decimal.
+// Puts a word and a number in decimal64.
 pub fn put_number(line: &mut [u8], at: usize, word: &[u8], number: usize) -> usize
-    ensures { λ r. ⌜ HasPut (now (line .entry)) at (now (word .entry) ++ decimal number) (now (line .exit)) r ⌝ }
+    ensures { λ r. ⌜ HasPut (now (line .entry)) at (now (word .entry) ++ decimal64 number) (now (line .exit)) r ⌝ }
 {
     let mut figures = [0u8; 20];
     let k = io::decimal(number as u64, &mut figures);

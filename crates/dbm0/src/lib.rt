@@ -31,7 +31,7 @@ ghost use Rattle.repack.specs.Repacked.{repackAnswer, repackOutput};
 ghost use Rattle.samples.specs.Shown.{sampleAnswer, framesAnswer, frameAnswer, allFramesAnswer, allFramesOutput};
 ghost use Rattle.envelopes.specs.Shown.{countAnswer, envelopeAnswer};
 ghost use Rattle.envelopes.specs.declared.EnvelopeKind.the-variants.{Volume, Panning};
-ghost use Rattle.patterns.specs.Shown.{rowsAnswer, cellAnswer, unpackAnswer, unpackOutput};
+ghost use Rattle.patterns.specs.Shown.{rowsAnswer, cellAnswer, cellsAnswer, cellsOutput};
 ghost use Rattle.songs.specs.Shown.{songAnswer, entryAnswer, playlistAnswer, playlistOutput};
 ghost use Rattle.summary.specs.Shown.{versionAnswer, nameAnswer, infoAnswer};
 ghost use Rattle.instruments.specs.Shown.{instrumentAnswer};
@@ -208,8 +208,8 @@ pub extern "C" fn dbm0_cell(m: &[u8], pattern: usize, row: usize, track: usize) 
 // All cells of a pattern.
 #[no_mangle]
 pub extern "C" fn dbm0_cells(m: &[u8], pattern: usize, out: &mut [u8]) -> LengthAnswer
-    ensures { λ r. ⌜ (r ≡ unpackAnswer (now (m .entry)) pattern (length (now (out .entry))))
-        × (now (out .exit) ≡ unpackOutput (now (m .entry)) pattern (now (out .entry))) ⌝ }
+    ensures { λ r. ⌜ (r ≡ cellsAnswer (now (m .entry)) pattern (length (now (out .entry))))
+        × (now (out .exit) ≡ cellsOutput (now (m .entry)) pattern (now (out .entry))) ⌝ }
 {
     patterns::unpack(m, pattern, out)
 }

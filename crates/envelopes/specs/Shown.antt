@@ -15,9 +15,9 @@ use Rattle.blocks.specs.StoredFields.{envelopeInstrument, envelopeFlags, envelo
 use Rattle.blocks.specs.StoredFields.{envelopeFirstSustain, envelopeLoopFirst, envelopeLoopLast, envelopeSecondSustain}
 use Rattle.blocks.specs.StoredFields.{envelopePosition, envelopeValue}
 use Rattle.blocks.specs.Sizes.{envelopeCount}
-use Rattle.blocks.specs.Things.{chunkOf}
-use Rattle.blocks.specs.declared.Thing.{Thing}
-use Rattle.blocks.specs.declared.Thing.the-variants.{VolumeEnvelope, PanningEnvelope}
+use Rattle.blocks.specs.RecordKinds.{chunkOf}
+use Rattle.blocks.specs.declared.RecordKind.{RecordKind}
+use Rattle.blocks.specs.declared.RecordKind.the-variants.{VolumeEnvelope, PanningEnvelope}
 use Rattle.module.specs.Verdicts.{opened}
 use Rattle.queries.specs.Finding.{found}
 use Rattle.queries.specs.declared.Found.{Found}
@@ -28,15 +28,15 @@ use Rattle.envelopes.specs.declared.CountAnswer.{CountAnswer}
 use Rattle.envelopes.specs.declared.EnvelopeAnswer.{EnvelopeAnswer}
 
 -- The envelopes of VENV are of volume, those of PENV of panning.
-abbrev pub thingOf : EnvelopeKind → Thing
-thingOf Volume = VolumeEnvelope
-thingOf Panning = PanningEnvelope
+abbrev pub recordKind : EnvelopeKind → RecordKind
+recordKind Volume = VolumeEnvelope
+recordKind Panning = PanningEnvelope
 
 abbrev pub noCount : Refusal → CountAnswer
 noCount r = record { outcome = refusedOutcome r; count = 0 }
 
 abbrev pub countIf : List ℕ → EnvelopeKind → Outline → CountAnswer
-countIf m kind (Opened l) = record { outcome = noRefusal; count = envelopeCount m (chunkOf l (thingOf kind)) }
+countIf m kind (Opened l) = record { outcome = noRefusal; count = envelopeCount m (chunkOf l (recordKind kind)) }
 countIf m kind (OpeningRefused r) = noCount r
 
 -- Q9: how many envelopes there are: the count of their chunk, and none where it is missing.
@@ -90,4 +90,4 @@ envelopeIf m kind (Refused r) = noEnvelope r
 
 -- Q1: the module's own refusal, then 18, else the envelope.
 abbrev pub envelopeAnswer : List ℕ → EnvelopeKind → ℕ → EnvelopeAnswer
-envelopeAnswer m kind envelope = envelopeIf m kind (found m (thingOf kind) envelope)
+envelopeAnswer m kind envelope = envelopeIf m kind (found m (recordKind kind) envelope)

@@ -1,5 +1,5 @@
 // Envelopes: how many there are, and one of them. Each query gives the module's own refusal, then 18.
-use blocks::Thing;
+use blocks::RecordKind;
 use blocks::chunk_of;
 use blocks::envelope_count;
 use blocks::stored::envelope_first_sustain;
@@ -23,7 +23,7 @@ ghost use mathlib.Core.Path.{_≡_};
 ghost use lib.Dec.{leb};
 ghost use lib.ListN.{length};
 ghost use Rattle.numbers.specs.Numbers.{eachFrom};
-ghost use Rattle.envelopes.specs.Shown.{thingOf, noCount, countAnswer, positionShown, valueOf, valueShown, noEnvelope, shownEnvelope, envelopeAnswer};
+ghost use Rattle.envelopes.specs.Shown.{recordKind, noCount, countAnswer, positionShown, valueOf, valueShown, noEnvelope, shownEnvelope, envelopeAnswer};
 
 // The two kinds of envelopes.
 pub enum EnvelopeKind {
@@ -53,12 +53,12 @@ pub struct EnvelopeAnswer {
     pub values: [i32; 32],
 }
 
-fn thing_of(kind: EnvelopeKind) -> Thing
-    ensures { λ r. ⌜ r ≡ thingOf kind ⌝ }
+fn record_kind(kind: EnvelopeKind) -> RecordKind
+    ensures { λ r. ⌜ r ≡ recordKind kind ⌝ }
 {
     match kind {
-        EnvelopeKind::Volume => Thing::VolumeEnvelope,
-        EnvelopeKind::Panning => Thing::PanningEnvelope,
+        EnvelopeKind::Volume => RecordKind::VolumeEnvelope,
+        EnvelopeKind::Panning => RecordKind::PanningEnvelope,
     }
 }
 
@@ -78,7 +78,7 @@ pub fn count(m: &[u8], kind: EnvelopeKind) -> CountAnswer
     match module::open(m) {
         Outline::Found(l) => CountAnswer {
             outcome: outcome_of(Verdict::Accepted),
-            count: envelope_count(m, chunk_of(l, thing_of(kind))),
+            count: envelope_count(m, chunk_of(l, record_kind(kind))),
         },
         Outline::Refused(r) => no_count(r),
     }
@@ -207,7 +207,7 @@ fn envelope_at(m: &[u8], kind: EnvelopeKind, version: u8, at: usize) -> Envelope
 pub fn envelope(m: &[u8], kind: EnvelopeKind, envelope: usize) -> EnvelopeAnswer
     ensures { λ r. ⌜ r ≡ envelopeAnswer (now (m .entry)) kind envelope ⌝ }
 {
-    match find(m, thing_of(kind), envelope) {
+    match find(m, record_kind(kind), envelope) {
         Found::At(b) => envelope_at(m, kind, b.version, b.at),
         Found::Refused(r) => no_envelope(r),
     }

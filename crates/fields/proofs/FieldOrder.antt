@@ -23,10 +23,10 @@ module _ (m : List ℕ) (l : Layout) where
   instrumentPart = rulesOfEach (instrumentRules m (l .samples)) (instrumentBlocks m l)
 
   abbrev pub volumePart : List Rule
-  volumePart = rulesOfEach (envelopeRules m (l .instruments) false) (envelopeBlocks m (l .places .venv))
+  volumePart = rulesOfEach (envelopeRules m (l .instruments) false) (envelopeBlocks m (l .spans .venv))
 
   abbrev pub panningPart : List Rule
-  panningPart = rulesOfEach (envelopeRules m (l .instruments) (eqb (l .version) 3)) (envelopeBlocks m (l .places .penv))
+  panningPart = rulesOfEach (envelopeRules m (l .instruments) (eqb (l .version) 3)) (envelopeBlocks m (l .spans .penv))
 
 -- An envelope: its head, its points, its values.
 abbrev rulesAfterHead : List ℕ → Bool → ℕ → List Rule
@@ -40,19 +40,19 @@ module _ (m : List ℕ) (instruments : ℕ) (signed : Bool) (at : ℕ) {head : V
   module _ {flags sections : ℕ} {points : Verdict} (head-passed : head ≡ Accepted) (flags-are : flags ≡ envelopeFlags m at)
       (sections-are : sections ≡ envelopeSections m at)
       (points-are : points ≡ firstBroken (envelopePointRules m flags sections at)) where
-    points-told : points ≡ firstBroken (envelopePointRules m (envelopeFlags m at) (envelopeSections m at) at)
-    points-told = rw (← flags-are, ← sections-are) points-are
+    points-follow : points ≡ firstBroken (envelopePointRules m (envelopeFlags m at) (envelopeSections m at) at)
+    points-follow = rw (← flags-are, ← sections-are) points-are
 
-    behind-head : {v : Verdict} → v ≡ firstBroken (rulesAfterHead m signed at) → v ≡ firstBroken (envelopeRules m instruments signed at)
-    behind-head e = rules-passed (envelopeHeadRules m instruments at) (rulesAfterHead m signed at) head-is head-passed e
+    after-head : {v : Verdict} → v ≡ firstBroken (rulesAfterHead m signed at) → v ≡ firstBroken (envelopeRules m instruments signed at)
+    after-head e = rules-passed (envelopeHeadRules m instruments at) (rulesAfterHead m signed at) head-is head-passed e
 
     pub points-stopped : {r : Refusal} → points ≡ Refused r → Refused r ≡ firstBroken (envelopeRules m instruments signed at)
     points-stopped e =
-        behind-head (rules-stopped (envelopePointRules m (envelopeFlags m at) (envelopeSections m at) at)
-        (valuesRules m signed (envelopeSections m at) at) points-told e)
+        after-head (rules-stopped (envelopePointRules m (envelopeFlags m at) (envelopeSections m at) at)
+        (valuesRules m signed (envelopeSections m at) at) points-follow e)
 
-    pub values-told : {v : Verdict} → points ≡ Accepted → v ≡ firstBroken (valuesRules m signed sections at)
+    pub values-follow : {v : Verdict} → points ≡ Accepted → v ≡ firstBroken (valuesRules m signed sections at)
         → v ≡ firstBroken (envelopeRules m instruments signed at)
-    values-told e values-are =
-        behind-head (rules-passed (envelopePointRules m (envelopeFlags m at) (envelopeSections m at) at)
-        (valuesRules m signed (envelopeSections m at) at) points-told e (rw (← sections-are) values-are))
+    values-follow e values-are =
+        after-head (rules-passed (envelopePointRules m (envelopeFlags m at) (envelopeSections m at) at)
+        (valuesRules m signed (envelopeSections m at) at) points-follow e (rw (← sections-are) values-are))

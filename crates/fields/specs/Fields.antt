@@ -6,7 +6,7 @@ use lib.Dec.{eqb, leb, ltb}
 use lib.IntN.{pos, negsuc}
 use lib.Signed.{leZ}
 use Rattle.refusal.specs.Rules.{Rule, rule, rulesOfEach}
-use Rattle.refusal.specs.declared.Cause.the-variants.{Reference, FieldRange}
+use Rattle.refusal.specs.declared.Reason.the-variants.{Reference, FieldRange}
 use Rattle.numbers.specs.Numbers.{number16, signed16}
 use Rattle.layout.specs.declared.Layout.{Layout}
 use Rattle.blocks.specs.StoredFields.{songLength, instrumentSample, instrumentVolume, instrumentPanning, instrumentFlags}
@@ -88,5 +88,5 @@ abbrev pub fieldRules : List ℕ → Layout → List Rule
 fieldRules m l =
     rulesOfEach (songRules m (l .patterns)) (songBlocks m l)
     ++ (rulesOfEach (instrumentRules m (l .samples)) (instrumentBlocks m l)
-    ++ (rulesOfEach (envelopeRules m (l .instruments) false) (envelopeBlocks m (l .places .venv))
-    ++ rulesOfEach (envelopeRules m (l .instruments) (eqb (l .version) 3)) (envelopeBlocks m (l .places .penv))))
+    ++ (rulesOfEach (envelopeRules m (l .instruments) false) (envelopeBlocks m (l .spans .venv))
+    ++ rulesOfEach (envelopeRules m (l .instruments) (eqb (l .version) 3)) (envelopeBlocks m (l .spans .penv))))

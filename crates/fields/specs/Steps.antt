@@ -4,11 +4,11 @@ use Prim.Native.Nat.{ℕ}
 use mathlib.Core.List.{List, []}
 use mathlib.Core.Bool.{Bool, false}
 use Rattle.refusal.specs.Rules.{Rule}
-use Rattle.blocks.specs.declared.Thing.{Thing}
-use Rattle.blocks.specs.declared.Thing.the-variants.{Song, Instrument, Pattern, Sample, VolumeEnvelope, PanningEnvelope}
+use Rattle.blocks.specs.declared.RecordKind.{RecordKind}
+use Rattle.blocks.specs.declared.RecordKind.the-variants.{Song, Instrument, Pattern, Sample, VolumeEnvelope, PanningEnvelope}
 use Rattle.fields.specs.Fields.{songRules, instrumentRules, envelopeRules}
 
-abbrev pub rulesOfBlock : List ℕ → ℕ → Bool → Thing → ℕ → List Rule
+abbrev pub rulesOfBlock : List ℕ → ℕ → Bool → RecordKind → ℕ → List Rule
 rulesOfBlock m many signed Song = songRules m many
 rulesOfBlock m many signed Instrument = instrumentRules m many
 rulesOfBlock m many signed Pattern = λ at. []

@@ -15,7 +15,7 @@ use blocks::stored::envelope_loop_last;
 use blocks::stored::envelope_second_sustain;
 use blocks::stored::envelope_sections;
 use numbers::number16;
-use refusal::Cause;
+use refusal::Reason;
 use refusal::Verdict;
 use refusal::refuse;
 ghost use mathlib.Core.Path.{_≡_};
@@ -30,13 +30,13 @@ fn check_head(m: &[u8], at: usize, instruments: u16) -> Verdict
 {
     let instrument = envelope_instrument(m, at);
     if (instrument < 1) | (instruments < instrument) {
-        return Verdict::Refused(refuse(Cause::Reference, at));
+        return Verdict::Refused(refuse(Reason::Reference, at));
     }
     if 16 <= envelope_flags(m, at) {
-        return Verdict::Refused(refuse(Cause::FieldRange, at + ENVELOPE_FLAGS));
+        return Verdict::Refused(refuse(Reason::FieldRange, at + ENVELOPE_FLAGS));
     }
     if 31 < envelope_sections(m, at) {
-        return Verdict::Refused(refuse(Cause::FieldRange, at + ENVELOPE_SECTIONS));
+        return Verdict::Refused(refuse(Reason::FieldRange, at + ENVELOPE_SECTIONS));
     }
     Verdict::Accepted
 }
@@ -50,16 +50,16 @@ fn check_points(m: &[u8], flags: u8, sections: u8, at: usize) -> Verdict
     let start = envelope_loop_first(m, at);
     let end = envelope_loop_last(m, at);
     if (flags / 2 % 2 == 1) & (sections < envelope_first_sustain(m, at)) {
-        return Verdict::Refused(refuse(Cause::FieldRange, at + ENVELOPE_FIRST_SUSTAIN));
+        return Verdict::Refused(refuse(Reason::FieldRange, at + ENVELOPE_FIRST_SUSTAIN));
     }
     if looped & (sections < start) {
-        return Verdict::Refused(refuse(Cause::FieldRange, at + ENVELOPE_LOOP_FIRST));
+        return Verdict::Refused(refuse(Reason::FieldRange, at + ENVELOPE_LOOP_FIRST));
     }
     if looped & ((sections < end) | (end < start)) {
-        return Verdict::Refused(refuse(Cause::FieldRange, at + ENVELOPE_LOOP_LAST));
+        return Verdict::Refused(refuse(Reason::FieldRange, at + ENVELOPE_LOOP_LAST));
     }
     if (flags / 2 / 2 / 2 % 2 == 1) & (sections < envelope_second_sustain(m, at)) {
-        return Verdict::Refused(refuse(Cause::FieldRange, at + ENVELOPE_SECOND_SUSTAIN));
+        return Verdict::Refused(refuse(Reason::FieldRange, at + ENVELOPE_SECOND_SUSTAIN));
     }
     Verdict::Accepted
 }
@@ -90,7 +90,7 @@ fn check_values(m: &[u8], signed: bool, sections: u8, at: usize) -> Verdict
     let mut left = (sections as usize) + 1;
     while 0 < left {
         if !value_fits(signed, number16(m, point + POINT_VALUE)) {
-            return Verdict::Refused(refuse(Cause::FieldRange, point + POINT_VALUE));
+            return Verdict::Refused(refuse(Reason::FieldRange, point + POINT_VALUE));
         }
         point = point + 4;
         left = left - 1;

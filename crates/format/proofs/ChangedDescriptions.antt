@@ -16,14 +16,14 @@ use Rattle.numbers.specs.Numbers.{bytes32}
 use Rattle.acceptance.specs.Rules.{NeedsInfo, VolumeFits, PanningValueFits}
 use Rattle.acceptance.proofs.Holding.{false-never}
 use Rattle.format.specs.Description.{Info, Song, Instrument, Pattern, Sample, Chunk, INFO, SONG, INST, PATT, SMPL, Description}
-use Rattle.format.specs.Encoding.{identifier, contents, chunkBytes, headerBytes, encoded}
+use Rattle.format.specs.Encoding.{chunkLetters, chunkData, chunkBytes, headerBytes, encoded}
 use Rattle.format.specs.WellFormed.{Fits32, ListsFit, EnvelopesFit, In, Once, InfoFirst, WellFormed}
 use Rattle.format.proofs.ChunksIn.{in-within, within-in, every-in, once-letters, letters-once}
-use Rattle.format.proofs.ChunkKinds.{Kind, named, counted, songs, instruments, patterns, samples, volumes, pannings}
-use Rattle.format.proofs.ChunkKinds.{others, kindOf, Holding, holder, held-as}
+use Rattle.format.proofs.ChunkKinds.{ChunkKind, named, counted, songs, instruments, patterns, samples, volumes, pannings}
+use Rattle.format.proofs.ChunkKinds.{others, chunkKindOf, Holding, holder, held-as}
 
 -- Whether two kinds are the same.
-abbrev kindNumber : Kind → ℕ
+abbrev kindNumber : ChunkKind → ℕ
 kindNumber named = 0
 kindNumber counted = 1
 kindNumber songs = 2
@@ -34,18 +34,18 @@ kindNumber volumes = 6
 kindNumber pannings = 7
 kindNumber others = 8
 
-abbrev pub isKind : Kind → Kind → Bool
+abbrev pub isKind : ChunkKind → ChunkKind → Bool
 isKind kind k = eqb (kindNumber kind) (kindNumber k)
 
-abbrev pub SameLetters : (k : Kind) → Holding k → Holding k → Type 0
-SameLetters k old new = identifier (holder k new) ≡ identifier (holder k old)
+abbrev pub SameLetters : (k : ChunkKind) → Holding k → Holding k → Type 0
+SameLetters k old new = chunkLetters (holder k new) ≡ chunkLetters (holder k old)
 
--- What becomes of a chunk: it stays; or its kind is one that changes, and it holds something else and keeps its identifier.
-pub data Becomes (changes : Kind → Bool) : Chunk → Chunk → Type 0 where
+-- What becomes of a chunk: it stays; or its kind is one that changes, and it holds something else and keeps its chunkLetters.
+pub data Becomes (changes : ChunkKind → Bool) : Chunk → Chunk → Type 0 where
   stays : (c : Chunk) → Becomes changes c c
-  holds : (k : Kind) → changes k ≡ true → (old new : Holding k) → SameLetters k old new → Becomes changes (holder k old) (holder k new)
+  holds : (k : ChunkKind) → changes k ≡ true → (old new : Holding k) → SameLetters k old new → Becomes changes (holder k old) (holder k new)
 
-kind-held : (k : Kind) (h : Holding k) → kindOf (holder k h) ≡ k
+kind-held : (k : ChunkKind) (h : Holding k) → chunkKindOf (holder k h) ≡ k
 kind-held named h = refl
 kind-held counted h = refl
 kind-held songs h = refl
@@ -56,21 +56,21 @@ kind-held volumes h = refl
 kind-held pannings h = refl
 kind-held others h = refl
 
-module _ {changes : Kind → Bool} where
-  becomes-letters : {c new : Chunk} → Becomes changes c new → identifier new ≡ identifier c
+module _ {changes : ChunkKind → Bool} where
+  becomes-letters : {c new : Chunk} → Becomes changes c new → chunkLetters new ≡ chunkLetters c
   becomes-letters (stays c) = refl
   becomes-letters (holds k e old new same) = same
 
-  becomes-kind : {c new : Chunk} → Becomes changes c new → kindOf new ≡ kindOf c
+  becomes-kind : {c new : Chunk} → Becomes changes c new → chunkKindOf new ≡ chunkKindOf c
   becomes-kind (stays c) = refl
   becomes-kind (holds k e old new same) = kind-held k new ∙ sym (kind-held k old)
 
-  becomes-same : {c new : Chunk} → Becomes changes c new → changes (kindOf new) ≡ false → new ≡ c
+  becomes-same : {c new : Chunk} → Becomes changes c new → changes (chunkKindOf new) ≡ false → new ≡ c
   becomes-same (stays c) left = refl
   becomes-same (holds k e old new same) left = false-never (sym left ∙ ap changes (kind-held k new) ∙ e)
 
 -- A change of chunks.
-abbrev pub Change : (Kind → Bool) → (Chunk → Chunk) → Type 0
+abbrev pub Change : (ChunkKind → Bool) → (Chunk → Chunk) → Type 0
 Change changes f = (c : Chunk) → Becomes changes c (f c)
 
 module _ (f : Chunk → Chunk) where
@@ -78,37 +78,37 @@ module _ (f : Chunk → Chunk) where
   pub in-changed : {chunks : List Chunk} {c : Chunk} → In chunks c → In (map f chunks) (f c)
   in-changed i = within-in (within-mapped f (in-within i))
 
-  module _ {changes : Kind → Bool} (change : Change changes f) {chunks : List Chunk} where
+  module _ {changes : ChunkKind → Bool} (change : Change changes f) {chunks : List Chunk} where
     -- A chunk of a kind that does not change was there.
-    pub was-in : {c : Chunk} → changes (kindOf c) ≡ false → In (map f chunks) c → In chunks c
+    pub was-in : {c : Chunk} → changes (chunkKindOf c) ≡ false → In (map f chunks) c → In chunks c
     was-in {c} left i =
         let (one, within, same) = mapped-within f (in-within i) in
-        let stayed : f one ≡ one = becomes-same (change one) (ap (λ (new : Chunk). changes (kindOf new)) (sym same) ∙ left) in
+        let stayed : f one ≡ one = becomes-same (change one) (ap (λ (new : Chunk). changes (chunkKindOf new)) (sym same) ∙ left) in
         subst (In chunks) (sym (same ∙ stayed)) (within-in within)
 
     -- M6 and M7.
     once-changed : Once chunks → Once (map f chunks)
     once-changed once =
-        letters-once (λ letters covers. no-two-mapped f (λ (c : Chunk). identifier c ≡ letters)
+        letters-once (λ letters covers. no-two-mapped f (λ (c : Chunk). chunkLetters c ≡ letters)
         (λ c within named. sym (becomes-letters (change c)) ∙ named) (once-letters once letters covers))
 
     infoFirst-changed : InfoFirst chunks → InfoFirst (map f chunks)
     infoFirst-changed first before after c e needs =
         let s = map-split f chunks before after c e in
-        let letters : identifier c ≡ identifier (s .one) = ap identifier (s .oneIs) ∙ becomes-letters (change (s .one)) in
+        let letters : chunkLetters c ≡ chunkLetters (s .one) = ap chunkLetters (s .oneIs) ∙ becomes-letters (change (s .one)) in
         let (info, there) = first (s .front) (s .back) (s .one) (s .splits) (subst NeedsInfo letters needs) in
         let (new, is) = held-as (f (INFO info)) counted (becomes-kind (change (INFO info))) in
         (new, subst (λ (l : List Chunk). In l (INFO new)) (sym (s .frontIs)) (subst (In (map f (s .front))) is (in-changed there)))
 
 -- M5: in a module that is short enough the length of every chunk's data fits 4 bytes.
-contents-inside : (chunks : List Chunk) → Every (λ c. length (contents c) ≤ length (joined (map chunkBytes chunks))) chunks
+contents-inside : (chunks : List Chunk) → Every (λ c. length (chunkData c) ≤ length (joined (map chunkBytes chunks))) chunks
 contents-inside [] = none
 contents-inside (c ∷ chunks) =
     let all = length-append (chunkBytes c) (joined (map chunkBytes chunks)) in
-    let one = length-append (identifier c) (bytes32 (length (contents c)) ++ contents c) in
+    let one = length-append (chunkLetters c) (bytes32 (length (chunkData c)) ++ chunkData c) in
     also {x = c} (omega arith) (every-of (λ e h. omega arith) (contents-inside chunks))
 
-lengths-fit : (d : Description) → length (encoded d) ≤ 16777216 → Every (λ c. Fits32 (length (contents c))) (d .chunks)
+lengths-fit : (d : Description) → length (encoded d) ≤ 16777216 → Every (λ c. Fits32 (length (chunkData c))) (d .chunks)
 lengths-fit d limit = every-of (λ c h. omega (arith, limit)) (contents-inside (d .chunks))
 
 -- A description with its chunks changed.
@@ -139,13 +139,13 @@ pub record HeldAfter {d : Description} (w : WellFormed d) (f : Chunk → Chunk) 
   pub asMany : length (w .instruments) ≡ length instruments
 
 -- NAME, the envelopes and other chunks do not change.
-pub record LeavesRest (changes : Kind → Bool) : Type 0 where
+pub record LeavesRest (changes : ChunkKind → Bool) : Type 0 where
   pub name : changes named ≡ false
   pub volume : changes volumes ≡ false
   pub panning : changes pannings ≡ false
   pub other : changes others ≡ false
 
-module _ {d : Description} (w : WellFormed d) {f : Chunk → Chunk} {changes : Kind → Bool} (change : Change changes f) (rest : LeavesRest changes) where
+module _ {d : Description} (w : WellFormed d) {f : Chunk → Chunk} {changes : ChunkKind → Bool} (change : Change changes f) (rest : LeavesRest changes) where
   abbrev values : ℕ → Type 0
   values = PanningValueFits (d .version)
 

@@ -10,7 +10,7 @@ use borrow.Author.Tests.{ne-eqb}
 use Rattle.vocabulary.specs.Lists.{Every}
 use Rattle.vocabulary.specs.Letters.{nameLetters, infoLetters, songLetters, instLetters, pattLetters, smplLetters, venvLetters, penvLetters}
 use Rattle.numbers.specs.Numbers.{byteAt, number16, number32, bytes32}
-use Rattle.acceptance.specs.Rules.{ChunkBytes, Covered}
+use Rattle.acceptance.specs.Rules.{IsChunk, Covered}
 use Rattle.acceptance.proofs.Identifiers.{identifierOf, chunk-named}
 use Rattle.format.specs.Description.{Info, Song, Instrument, Pattern, Sample, Envelope, Chunk, NAME, INFO, SONG, INST, PATT, SMPL, VENV, PENV, Other}
 use Rattle.format.specs.Encoding.{songBytes, instrumentBytes, patternBytes, sampleBytes, chunkBytes}
@@ -19,22 +19,22 @@ use Rattle.format.proofs.Delimited.{front-same, next32, all-same, every
 use Rattle.format.proofs.Delimited.{instrument-delimited, instrument-some, pattern-delimited, pattern-some}
 use Rattle.format.proofs.Delimited.{sample-delimited, sample-some, envelopes-same}
 
-pub data Kind : Type 0 where
-  named counted songs instruments patterns samples volumes pannings others : Kind
+pub data ChunkKind : Type 0 where
+  named counted songs instruments patterns samples volumes pannings others : ChunkKind
 
-abbrev pub kindOf : Chunk → Kind
-kindOf (NAME name) = named
-kindOf (INFO info) = counted
-kindOf (SONG list) = songs
-kindOf (INST list) = instruments
-kindOf (PATT list) = patterns
-kindOf (SMPL list) = samples
-kindOf (VENV list) = volumes
-kindOf (PENV list) = pannings
-kindOf (Other letters bytes) = others
+abbrev pub chunkKindOf : Chunk → ChunkKind
+chunkKindOf (NAME name) = named
+chunkKindOf (INFO info) = counted
+chunkKindOf (SONG list) = songs
+chunkKindOf (INST list) = instruments
+chunkKindOf (PATT list) = patterns
+chunkKindOf (SMPL list) = samples
+chunkKindOf (VENV list) = volumes
+chunkKindOf (PENV list) = pannings
+chunkKindOf (Other letters bytes) = others
 
 -- What a chunk of a kind holds, and the chunk that holds it.
-abbrev pub Holding : Kind → Type 0
+abbrev pub Holding : ChunkKind → Type 0
 Holding named = List ℕ
 Holding counted = Info
 Holding songs = List Song
@@ -45,7 +45,7 @@ Holding volumes = List Envelope
 Holding pannings = List Envelope
 Holding others = List ℕ × List ℕ
 
-abbrev pub holder : (k : Kind) → Holding k → Chunk
+abbrev pub holder : (k : ChunkKind) → Holding k → Chunk
 holder named name = NAME name
 holder counted info = INFO info
 holder songs list = SONG list
@@ -56,7 +56,7 @@ holder volumes list = VENV list
 holder pannings list = PENV list
 holder others other = Other (other .0) (other .1)
 
-held : (c : Chunk) → (h : Holding (kindOf c)) × (c ≡ holder (kindOf c) h)
+held : (c : Chunk) → (h : Holding (chunkKindOf c)) × (c ≡ holder (chunkKindOf c) h)
 held (NAME name) = (name, refl)
 held (INFO info) = (info, refl)
 held (SONG list) = (list, refl)
@@ -67,24 +67,24 @@ held (VENV list) = (list, refl)
 held (PENV list) = (list, refl)
 held (Other letters bytes) = ((letters, bytes), refl)
 
-pub held-as : (c : Chunk) (k : Kind) → kindOf c ≡ k → (h : Holding k) × (c ≡ holder k h)
-held-as c k e = subst (λ (k : Kind). (h : Holding k) × (c ≡ holder k h)) e (held c)
+pub held-as : (c : Chunk) (k : ChunkKind) → chunkKindOf c ≡ k → (h : Holding k) × (c ≡ holder k h)
+held-as c k e = subst (λ (k : ChunkKind). (h : Holding k) × (c ≡ holder k h)) e (held c)
 
 -- What makes the encoding of a chunk tell its end.
-abbrev pub Told : ℕ → Chunk → Type 0
-Told tracks (NAME name) = Unit {0}
-Told tracks (INFO info) = Unit {0}
-Told tracks (SONG list) = Every (λ s. length (s .name) ≡ 44) list
-Told tracks (INST list) = Every (λ i. length (i .name) ≡ 30) list
-Told tracks (PATT list) = Every (PatternFits tracks) list
-Told tracks (SMPL list) = Unit {0}
-Told tracks (VENV list) = Every (λ e. length (e .points) ≡ 32) list
-Told tracks (PENV list) = Every (λ e. length (e .points) ≡ 32) list
-Told tracks (Other letters bytes) = OtherFits letters bytes
+abbrev pub Delimited : ℕ → Chunk → Type 0
+Delimited tracks (NAME name) = Unit {0}
+Delimited tracks (INFO info) = Unit {0}
+Delimited tracks (SONG list) = Every (λ s. length (s .name) ≡ 44) list
+Delimited tracks (INST list) = Every (λ i. length (i .name) ≡ 30) list
+Delimited tracks (PATT list) = Every (PatternFits tracks) list
+Delimited tracks (SMPL list) = Unit {0}
+Delimited tracks (VENV list) = Every (λ e. length (e .points) ≡ 32) list
+Delimited tracks (PENV list) = Every (λ e. length (e .points) ≡ 32) list
+Delimited tracks (Other letters bytes) = OtherFits letters bytes
 
 -- The kind by the identifier as one number.
-abbrev pub kindBy : ℕ → Kind
-kindBy n =
+abbrev pub chunkKindBy : ℕ → ChunkKind
+chunkKindBy n =
     cond (eqb n (identifierOf Covered.name)) named
     (cond (eqb n (identifierOf Covered.info)) counted
     (cond (eqb n (identifierOf Covered.song)) songs
@@ -94,15 +94,15 @@ kindBy n =
     (cond (eqb n (identifierOf Covered.venv)) volumes
     (cond (eqb n (identifierOf Covered.penv)) pannings others)))))))
 
-pub not-covered : (letters bytes : List ℕ) → OtherFits letters bytes → ChunkBytes (chunkBytes (Other letters bytes))
+pub not-covered : (letters bytes : List ℕ) → OtherFits letters bytes → IsChunk (chunkBytes (Other letters bytes))
     → {covering : List ℕ} (covers : Covered covering)
     → eqb (number32 (chunkBytes (Other letters bytes)) 0) (identifierOf covers) ≡ false
 not-covered letters bytes fits c {covering} covers =
     let four : take 4 (chunkBytes (Other letters bytes)) ≡ letters = take-at letters (bytes32 (length bytes) ++ bytes) 4 (fits .four) in
     ne-eqb _ _ (λ same. fits .notCovered (subst Covered (sym (chunk-named c covers .0 same) ∙ four) covers))
 
-other-read : (letters bytes : List ℕ) → OtherFits letters bytes → ChunkBytes (chunkBytes (Other letters bytes))
-    → kindBy (number32 (chunkBytes (Other letters bytes)) 0) ≡ others
+other-read : (letters bytes : List ℕ) → OtherFits letters bytes → IsChunk (chunkBytes (Other letters bytes))
+    → chunkKindBy (number32 (chunkBytes (Other letters bytes)) 0) ≡ others
 other-read letters bytes h c =
     simp (
       not-covered letters bytes h c Covered.name,
@@ -116,8 +116,8 @@ other-read letters bytes h c =
     )
 
 kind-read : (c : Chunk) → ((letters bytes : List ℕ) → c ≡ Other letters bytes → OtherFits letters bytes)
-    → ChunkBytes (chunkBytes c)
-    → kindBy (number32 (chunkBytes c) 0) ≡ kindOf c
+    → IsChunk (chunkBytes c)
+    → chunkKindBy (number32 (chunkBytes c) 0) ≡ chunkKindOf c
 unfolding number32 number16 byteAt
 kind-read (NAME name) other c = refl
 kind-read (INFO info) other c = refl
@@ -131,20 +131,22 @@ kind-read (Other letters bytes) other c = other-read letters bytes (other letter
 
 -- A chunk with covered letters is of the kind that they name.
 pub kind-covered : (c : Chunk) → ((letters bytes : List ℕ) → c ≡ Other letters bytes → OtherFits letters bytes)
-    → ChunkBytes (chunkBytes c) → {letters : List ℕ} (covers : Covered letters) → take 4 (chunkBytes c) ≡ letters
-    → kindOf c ≡ kindBy (identifierOf covers)
-kind-covered c other whole covers same = sym (kind-read c other whole) ∙ ap kindBy (chunk-named whole covers .1 same)
+    → IsChunk (chunkBytes c) → {letters : List ℕ} (covers : Covered letters) → take 4 (chunkBytes c) ≡ letters
+    → chunkKindOf c ≡ chunkKindBy (identifierOf covers)
+kind-covered c other whole covers same = sym (kind-read c other whole) ∙ ap chunkKindBy (chunk-named whole covers .1 same)
 
 -- A chunk of which the bytes tell the end, and that is whole.
 pub record Plain (tracks : ℕ) (c : Chunk) : Type 0 where
-  pub told : Told tracks c
-  pub whole : ChunkBytes (chunkBytes c)
+  pub delimited : Delimited tracks c
+  pub whole : IsChunk (chunkBytes c)
 
-pub kind-same : {tracks tracks′ : ℕ} {c other : Chunk} → Plain tracks c → Plain tracks′ other → chunkBytes c ≡ chunkBytes other → kindOf c ≡ kindOf other
+pub kind-same : {tracks tracks′ : ℕ} {c other : Chunk} → Plain tracks c → Plain tracks′ other
+    → chunkBytes c ≡ chunkBytes other
+    → chunkKindOf c ≡ chunkKindOf other
 kind-same {tracks} {tracks′} {c} {other} p q e =
-    sym (kind-read c (λ letters bytes is. subst (Told tracks) is (p .told)) (p .whole))
-    ∙ ap (λ (chunk : List ℕ). kindBy (number32 chunk 0)) e
-    ∙ kind-read other (λ letters bytes is. subst (Told tracks′) is (q .told)) (q .whole)
+    sym (kind-read c (λ letters bytes is. subst (Delimited tracks) is (p .delimited)) (p .whole))
+    ∙ ap (λ (chunk : List ℕ). chunkKindBy (number32 chunk 0)) e
+    ∙ kind-read other (λ letters bytes is. subst (Delimited tracks′) is (q .delimited)) (q .whole)
 
 -- The parts of a chunk: its identifier, and its data behind their length.
 pub parts-same : (letters letters′ bytes bytes′ : List ℕ) → length letters ≡ length letters′
@@ -155,7 +157,7 @@ parts-same letters letters′ bytes bytes′ h e =
     (first .0, next32 (length bytes) (length bytes′) (first .1) .1)
 
 -- What chunks of one kind with the same bytes hold is the same.
-holding-same : (tracks : ℕ) (k : Kind) (a b : Holding k) → Told tracks (holder k a) → Told tracks (holder k b)
+holding-same : (tracks : ℕ) (k : ChunkKind) (a b : Holding k) → Delimited tracks (holder k a) → Delimited tracks (holder k b)
     → chunkBytes (holder k a) ≡ chunkBytes (holder k b)
     → holder k a ≡ holder k b
 holding-same tracks named a b p q e = ap NAME (parts-same nameLetters nameLetters a b refl e .1)
@@ -177,8 +179,11 @@ holding-same tracks others a b p q e =
     λ i. Other (parts .0 i) (parts .1 i)
 
 pub chunk-same : (tracks : ℕ) (c other : Chunk) → Plain tracks c → Plain tracks other → chunkBytes c ≡ chunkBytes other → c ≡ other
-chunk-same tracks c other p q e = go (kindOf other) (held-as c (kindOf other) (kind-same p q e)) (held other)
+chunk-same tracks c other p q e = go (chunkKindOf other) (held-as c (chunkKindOf other) (kind-same p q e)) (held other)
   where
-    go : (k : Kind) → (a : Holding k) × (c ≡ holder k a) → (b : Holding k) × (other ≡ holder k b) → c ≡ other
+    go : (k : ChunkKind) → (a : Holding k) × (c ≡ holder k a) → (b : Holding k) × (other ≡ holder k b) → c ≡ other
     go k (a, x) (b, y) =
-        x ∙ holding-same tracks k a b (subst (Told tracks) x (p .told)) (subst (Told tracks) y (q .told)) (ap chunkBytes (sym x) ∙ e ∙ ap chunkBytes y) ∙ sym y
+        x
+        ∙ holding-same tracks k a b (subst (Delimited tracks) x (p .delimited)) (subst (Delimited tracks) y (q .delimited))
+        (ap chunkBytes (sym x) ∙ e ∙ ap chunkBytes y)
+        ∙ sym y

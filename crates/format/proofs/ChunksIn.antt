@@ -5,10 +5,10 @@ use mathlib.Core.Path.{_≡_, refl, sym, subst, _∙_}
 use mathlib.Core.List.{List, [], _∷_, _++_, map}
 use native.Mathlib.Omega.{arith}
 use Rattle.vocabulary.specs.Lists.{Every, also}
-use Rattle.vocabulary.proofs.Splits.{Within, within-front, within-behind, within-every, every-within, NoTwo, only-one}
+use Rattle.vocabulary.proofs.Splits.{Within, within-front, within-after, within-every, every-within, NoTwo, only-one}
 use Rattle.acceptance.specs.Rules.{Covered}
 use Rattle.format.specs.Description.{Chunk}
-use Rattle.format.specs.Encoding.{identifier}
+use Rattle.format.specs.Encoding.{chunkLetters}
 use Rattle.format.specs.WellFormed.{In, Once}
 
 pub in-within : {chunks : List Chunk} {c : Chunk} → In chunks c → Within chunks c
@@ -20,8 +20,8 @@ within-in w = record { before = w .before; after = w .after; splits = w .splits 
 pub in-front : (c : Chunk) (chunks : List Chunk) → In (c ∷ chunks) c
 in-front c chunks = within-in (within-front c chunks)
 
-pub in-behind : {chunks : List Chunk} {c : Chunk} (first : Chunk) → In chunks c → In (first ∷ chunks) c
-in-behind first i = within-in (within-behind first (in-within i))
+pub in-after : {chunks : List Chunk} {c : Chunk} (first : Chunk) → In chunks c → In (first ∷ chunks) c
+in-after first i = within-in (within-after first (in-within i))
 
 -- Each, and every one.
 module _ {P : Chunk → Type 0} where
@@ -33,15 +33,15 @@ module _ {P : Chunk → Type 0} where
 
 -- M6 by letters: no two chunks have the same covered ones, and so a covered chunk is the only one of its letters.
 module _ {chunks : List Chunk} where
-  pub once-letters : Once chunks → (letters : List ℕ) → Covered letters → NoTwo (λ (c : Chunk). identifier c ≡ letters) chunks
+  pub once-letters : Once chunks → (letters : List ℕ) → Covered letters → NoTwo (λ (c : Chunk). chunkLetters c ≡ letters) chunks
   once-letters once letters covers before between after one two e p q = once before between after one two e (subst Covered (sym p) covers) (p ∙ sym q)
 
-  pub letters-once : ((letters : List ℕ) → Covered letters → NoTwo (λ (c : Chunk). identifier c ≡ letters) chunks) → Once chunks
-  letters-once never before between after one two e covers same = never (identifier one) covers before between after one two e refl (sym same)
+  pub letters-once : ((letters : List ℕ) → Covered letters → NoTwo (λ (c : Chunk). chunkLetters c ≡ letters) chunks) → Once chunks
+  letters-once never before between after one two e covers same = never (chunkLetters one) covers before between after one two e refl (sym same)
 
-  pub in-once : Once chunks → {one two : Chunk} → In chunks one → In chunks two → Covered (identifier one) → identifier one ≡ identifier two → one ≡ two
+  pub in-once : Once chunks → {one two : Chunk} → In chunks one → In chunks two → Covered (chunkLetters one) → chunkLetters one ≡ chunkLetters two → one ≡ two
   in-once once {one} i j covers same =
-      only-one (λ (c : Chunk). identifier c ≡ identifier one) (once-letters once (identifier one) covers) (in-within i) (in-within j) refl (sym same)
+      only-one (λ (c : Chunk). chunkLetters c ≡ chunkLetters one) (once-letters once (chunkLetters one) covers) (in-within i) (in-within j) refl (sym same)
 
 -- Chunks of which a function gives the same, one by one.
 module _ {A : Type 0} (f : Chunk → A) where
@@ -50,7 +50,7 @@ module _ {A : Type 0} (f : Chunk → A) where
   in-other [] after [] c e = let z : _≡_ {A = ℕ} 0 1 = cc in absurd (omega arith)
   in-other [] after (x ∷ others) c e = (x, in-front x others, cc)
   in-other (b ∷ before) after [] c e = let z : _≡_ {A = ℕ} 0 1 = cc in absurd (omega arith)
-  in-other (b ∷ before) after (x ∷ others) c e = let found = in-other before after others c (cc) in (found .0, in-behind x (found .1), found .2)
+  in-other (b ∷ before) after (x ∷ others) c e = let found = in-other before after others c (cc) in (found .0, in-after x (found .1), found .2)
 
   pub each-same : {P : Chunk → Type 0} → ((c other : Chunk) → P c → P other → f c ≡ f other → c ≡ other)
       → (chunks others : List Chunk) → Every P chunks → Every P others → map f chunks ≡ map f others

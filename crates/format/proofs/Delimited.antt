@@ -12,7 +12,7 @@ use Rattle.vocabulary.specs.Lists.{joined, Every, none, also}
 use Rattle.numbers.specs.Numbers.{number16, number32, bytes16, bytes32}
 use Rattle.numbers.proofs.Stored.{bytes16-again, bytes32-again}
 use Rattle.packed_rows.specs.Entries.{streamOf}
-use Rattle.packed_rows.specs.Theorems.{StreamOf}
+use Rattle.packed_rows.specs.Theorems.{SoundStream}
 use Rattle.packed_rows.proofs.Grammar.{reads-one}
 use Rattle.format.specs.Description.{Info, Song, Instrument, Pattern, Width, eight, sixteen, thirtyTwo, Sample, Envelope}
 use Rattle.format.specs.Encoding.{infoBytes, songBytes, instrumentBytes, patternBytes, flagsOf, frameBytes, sampleBytes}
@@ -138,8 +138,8 @@ module _ (tracks : ℕ) where
       let packed = next32 (length (streamOf (p .rows))) (length (streamOf (q .rows))) (rows .1) in
       let stream = front-same (streamOf (p .rows)) (streamOf (q .rows)) (packed .0) (simp append-assoc at (packed .1)) in
       let filler = front-same (p .filler) (q .filler) (f .filler .0 ∙ ap (λ (n : ℕ). n % 2) (packed .0) ∙ sym (g .filler .0)) (stream .1) in
-      let one : StreamOf (length (q .rows)) tracks (streamOf (q .rows)) (p .rows) = record { count = rows .0; sound = f .sound; bytes = sym (stream .0) } in
-      let two : StreamOf (length (q .rows)) tracks (streamOf (q .rows)) (q .rows) = record { count = refl; sound = g .sound; bytes = refl } in
+      let one : SoundStream (length (q .rows)) tracks (streamOf (q .rows)) (p .rows) = record { count = rows .0; sound = f .sound; bytes = sym (stream .0) } in
+      let two : SoundStream (length (q .rows)) tracks (streamOf (q .rows)) (q .rows) = record { count = refl; sound = g .sound; bytes = refl } in
       let same : p .rows ≡ q .rows = reads-one (length (q .rows)) tracks (streamOf (q .rows)) (p .rows) (q .rows) one two in
       (λ i. record { rows = same i; filler = filler .0 i }, filler .1)
 

@@ -16,12 +16,12 @@ use Rattle.numbers.specs.Numbers.{byteAt, Bytes, number16, number32, eachFrom, 
 use Rattle.numbers.proofs.Parts.{bytes-part}
 use Rattle.numbers.proofs.Each.{each-length}
 use Rattle.numbers.proofs.Stored.{number16-stored, number32-stored}
-use Rattle.numbers.proofs.AllBytes.{bytes-rest, bytes-take, bytes-front, bytes-behind, number16-below, number32-below}
+use Rattle.numbers.proofs.AllBytes.{bytes-rest, bytes-take, bytes-front, bytes-after, number16-below, number32-below}
 use Rattle.acceptance.specs.Rules.{InfoRules, SongRules, InstrumentRules, PatternRules, SampleRules, EnvelopeRules}
-use Rattle.repacking.proofs.PackedBytes.{stream-bytes}
+use Rattle.repack_theorems.proofs.PackedBytes.{stream-bytes}
 use Rattle.format.specs.Description.{Info, Song, Instrument, Pattern, Width, eight, sixteen, thirtyTwo, Sample, Point, Envelope}
 use Rattle.format.specs.Encoding.{infoBytes, songBytes, instrumentBytes, patternBytes, flagsOf, frameBytes, sampleBytes, pointBytes, envelopeBytes}
-use Rattle.format.specs.WellFormed.{InfoFits, SongFits, InstrumentFits, PatternFits, FrameFits, SampleFits, EnvelopeFits, noSample, noPoint}
+use Rattle.format.specs.WellFormed.{InfoFits, SongFits, InstrumentFits, PatternFits, FrameFits, SampleFits, EnvelopeFits, emptySample, noPoint}
 use Rattle.format.proofs.ReadingBlocks.{sample-frames, envelope-value}
 
 -- A number of 1, 2 or 4 bytes, at a place.
@@ -149,11 +149,11 @@ instrumentIn block = record {
 }
 
 -- The frames that a sample's block tells are those of the sample.
-frames-told : (samples : List Sample) (i : ℕ) → number32 (getD (map sampleBytes samples) i []) 4 ≡ length (getD samples i noSample .frames)
+frames-given : (samples : List Sample) (i : ℕ) → number32 (getD (map sampleBytes samples) i []) 4 ≡ length (getD samples i emptySample .frames)
 unfolding number32 number16 byteAt
-frames-told [] i = refl
-frames-told (s ∷ samples) zero = sample-frames s
-frames-told (s ∷ samples) (suc i) = frames-told samples i
+frames-given [] i = refl
+frames-given (s ∷ samples) zero = sample-frames s
+frames-given (s ∷ samples) (suc i) = frames-given samples i
 
 module _ (samples : List Sample) (block : List ℕ) (bytes : Bytes block) (r : InstrumentRules (map sampleBytes samples) block) where
   pub instrument-again : instrumentBytes (instrumentIn block) ≡ block
@@ -178,7 +178,7 @@ module _ (samples : List Sample) (block : List ℕ) (bytes : Bytes block) (r : I
     loopLength = number-fits block bytes thirtyTwo 42;
     panning = (number-fits block bytes sixteen 46, r .panning);
     flags = r .flags;
-    loop = λ looped. (let inside = rw (frames-told samples (number16 block 30 - 1)) at (r .loop looped .1) in (r .loop looped .0, omega (arith, inside)));
+    loop = λ looped. (let inside = rw (frames-given samples (number16 block 30 - 1)) at (r .loop looped .1) in (r .loop looped .0, omega (arith, inside)));
   }
 
 -- B4: a pattern. Its rows of entries are those that the rules tell of.
@@ -194,7 +194,7 @@ module _ (tracks : ℕ) {block : List ℕ} (r : PatternRules tracks block) where
     front-bytes = bytes-front (r .front) (r .stream ++ r .filler) parts
 
     rest-bytes : Bytes (r .stream ++ r .filler)
-    rest-bytes = bytes-behind (r .front) (r .stream ++ r .filler) parts
+    rest-bytes = bytes-after (r .front) (r .stream ++ r .filler) parts
 
     front-again : bytes16 (number16 (r .front) 0) ++ bytes32 (number32 (r .front) 2) ≡ r .front
     front-again =
@@ -212,7 +212,7 @@ module _ (tracks : ℕ) {block : List ℕ} (r : PatternRules tracks block) where
       sound = r .sound .sound;
       fields = every-of (λ es. every-of (λ e h. bytes-rest (e .mask) (e .fields) (bytes-rest (e .track) (e .mask ∷ e .fields) h)))
           (stream-bytes (r .entries) .1 (subst Bytes (r .sound .bytes) (bytes-front (r .stream) (r .filler) rest-bytes)));
-      filler = (rw (← r .sound .bytes) (r .odd), bytes-behind (r .stream) (r .filler) rest-bytes);
+      filler = (rw (← r .sound .bytes) (r .odd), bytes-after (r .stream) (r .filler) rest-bytes);
     }
 
 -- B4: the patterns of blocks, one for each.
@@ -315,8 +315,8 @@ module _ (instruments : ℕ) (ValueFits : ℕ → Type 0) (block : List ℕ) (by
       (number-then block bytes eight 6 (omega (arith, r .size))
       (number-then block bytes eight 7 (omega (arith, r .size)) points-again))))))
 
-  value-told : (i : ℕ) → i < 32 → number16 block (10 + 4 * i) ≡ getD (envelopeIn block .points) i noPoint .value
-  value-told i h = ap (λ (b : List ℕ). number16 b (10 + 4 * i)) (sym envelope-again) ∙ envelope-value (envelopeIn block) refl i h
+  value-given : (i : ℕ) → i < 32 → number16 block (10 + 4 * i) ≡ getD (envelopeIn block .points) i noPoint .value
+  value-given i h = ap (λ (b : List ℕ). number16 b (10 + 4 * i)) (sym envelope-again) ∙ envelope-value (envelopeIn block) refl i h
 
   pub envelope-fits : EnvelopeFits instruments ValueFits (envelopeIn block)
   envelope-fits = record {
@@ -330,5 +330,5 @@ module _ (instruments : ℕ) (ValueFits : ℕ → Type 0) (block : List ℕ) (by
     many = refl;
     points = every-each (pointIn block) 32
         (λ i h. record { position = number-fits block bytes sixteen (8 + 4 * i); value = number-fits block bytes sixteen (10 + 4 * i) });
-    values = λ i h. subst ValueFits (value-told i (omega (arith, r .sections))) (r .values i h);
+    values = λ i h. subst ValueFits (value-given i (omega (arith, r .sections))) (r .values i h);
   }

@@ -9,11 +9,11 @@ use lib.Seq.{length-take-le, drop-at}
 use Rattle.vocabulary.specs.Lists.{joined, Every, none, also}
 use Rattle.vocabulary.proofs.EveryOne.{every-of, every-both}
 use Rattle.vocabulary.proofs.MappedLists.{every-map}
-use Rattle.cells.specs.Cells.{blocksOf}
+use Rattle.cells.specs.Cells.{groupsOf}
 use Rattle.numbers.specs.Numbers.{Bytes, number16, number32, bytes16, bytes32}
 use Rattle.numbers.proofs.AllBytes.{bytes-drop, bytes-joined}
 use Rattle.packed_rows.proofs.Shapes.{none as no-block, one as one-block, Blocks, blocks-joined}
-use Rattle.acceptance.specs.Rules.{ChunkBytes, Filled, EnvelopeRules, EnvelopesRules}
+use Rattle.acceptance.specs.Rules.{IsChunk, Filled, EnvelopeRules, EnvelopesRules}
 use Rattle.format.specs.Description.{sixteen, thirtyTwo, Envelope}
 use Rattle.format.specs.Encoding.{envelopeBytes, envelopesBytes}
 use Rattle.format.specs.WellFormed.{EnvelopeFits, EnvelopesFit, Fits32}
@@ -26,11 +26,11 @@ map-again f g (also p e) = rw (p, map-again f g e)
 
 -- The data of a chunk behind its front.
 module _ {front : ℕ} {chunk : List ℕ} {count : ℕ} {blocks : List (List ℕ)} (filled : Filled front chunk count blocks) where
-  pub behind-front : joined blocks ≡ drop front chunk
-  behind-front = sym (ap (drop front) (filled .bytes) ∙ drop-at (take front chunk) (joined blocks) front (length-take-le front chunk (filled .fronts)))
+  pub after-front : joined blocks ≡ drop front chunk
+  after-front = sym (ap (drop front) (filled .bytes) ∙ drop-at (take front chunk) (joined blocks) front (length-take-le front chunk (filled .fronts)))
 
   pub blocks-bytes : Bytes chunk → Every Bytes blocks
-  blocks-bytes bytes = bytes-joined blocks .1 (subst Bytes (sym behind-front) (bytes-drop front chunk bytes))
+  blocks-bytes bytes = bytes-joined blocks .1 (subst Bytes (sym after-front) (bytes-drop front chunk bytes))
 
 -- Blocks of one kind, each of which is read by a function: encoded again they are the blocks, and well formed.
 module _ {A : Type 0} (read : List ℕ → A) {R : List ℕ → Type 0} {blocks : List (List ℕ)} (bytes : Every Bytes blocks) (rules : Every R blocks) where
@@ -42,7 +42,7 @@ module _ {A : Type 0} (read : List ℕ → A) {R : List ℕ → Type 0} {blocks 
 
 -- B6: the envelopes of a chunk.
 abbrev pub envelopesIn : List ℕ → List Envelope
-envelopesIn chunk = map envelopeIn (blocksOf (number16 chunk 8) 136 (drop 10 chunk))
+envelopesIn chunk = map envelopeIn (groupsOf (number16 chunk 8) 136 (drop 10 chunk))
 
 every-sized : {size : ℕ} {P : List ℕ → Type 0} → ((block : List ℕ) → P block → length block ≡ size) → {blocks : List (List ℕ)}
     → Every P blocks
@@ -51,10 +51,10 @@ every-sized h none = no-block
 every-sized h (also {x = block} p e) = one-block (h block p) (every-sized h e)
 
 module _ (instruments : ℕ) (ValueFits : ℕ → Type 0) (chunk : List ℕ) (bytes : Bytes chunk) (r : EnvelopesRules instruments ValueFits chunk) where
-  envelope-blocks : blocksOf (number16 chunk 8) 136 (drop 10 chunk) ≡ r .envelopes
+  envelope-blocks : groupsOf (number16 chunk 8) 136 (drop 10 chunk) ≡ r .envelopes
   envelope-blocks =
       let blocks = every-sized (λ block (e : EnvelopeRules instruments ValueFits block). e .size) (r .rules) in
-      rw (← behind-front (r .filled), ← r .filled .number) (blocks-joined 136 blocks)
+      rw (← after-front (r .filled), ← r .filled .number) (blocks-joined 136 blocks)
 
   envelopes-are : envelopesIn chunk ≡ map envelopeIn (r .envelopes)
   envelopes-are = ap (map envelopeIn) envelope-blocks
@@ -69,7 +69,7 @@ module _ (instruments : ℕ) (ValueFits : ℕ → Type 0) (chunk : List ℕ) (by
   rest-again =
       ap (λ (es : List Envelope). joined (map envelopeBytes es)) envelopes-are
       ∙ ap joined (all-again envelopeIn below (r .rules) envelopeBytes (envelope-again instruments ValueFits))
-      ∙ behind-front (r .filled)
+      ∙ after-front (r .filled)
 
   pub envelopes-again : envelopesBytes (envelopesIn chunk) ≡ drop 8 chunk
   envelopes-again =
@@ -82,7 +82,7 @@ module _ (instruments : ℕ) (ValueFits : ℕ → Type 0) (chunk : List ℕ) (by
   }
 
 -- M5: a chunk is its letters, its length and its data.
-module _ (chunk : List ℕ) (bytes : Bytes chunk) (c : ChunkBytes chunk) where
+module _ (chunk : List ℕ) (bytes : Bytes chunk) (c : IsChunk chunk) where
   data-length : length (drop 8 chunk) ≡ number32 chunk 4
   data-length = length-drop 8 chunk ∙ omega (arith, c .size)
 

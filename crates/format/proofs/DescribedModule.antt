@@ -16,24 +16,24 @@ use Rattle.vocabulary.proofs.Splits.{Within, within-every, every-within, within
 use Rattle.refusal.specs.declared.Verdict.the-variants.{Accepted}
 use Rattle.numbers.specs.Numbers.{byteAt, Bytes, number16, number32, bytes16}
 use Rattle.numbers.proofs.Parts.{bytes-part}
-use Rattle.numbers.proofs.AllBytes.{bytes-drop, bytes-front, bytes-behind, bytes-joined}
+use Rattle.numbers.proofs.AllBytes.{bytes-drop, bytes-front, bytes-after, bytes-joined}
 use Rattle.layout.specs.Chunks.{covered}
 use Rattle.module.specs.Verdicts.{moduleVerdict}
-use Rattle.acceptance.specs.Rules.{ChunkBytes, Among, Covered, Filled, ChunkRules, Content, InstrumentRules, VolumeFits, PanningValueFits, Rules}
+use Rattle.acceptance.specs.Rules.{IsChunk, Among, Covered, Filled, ChunkRules, Content, InstrumentRules, VolumeFits, PanningValueFits, Rules}
 use Rattle.acceptance.proofs.Holding.{false-never}
 use Rattle.acceptance.proofs.Identifiers.{identifierOf, chunk-named, covered-holds, covered-letters}
 use Rattle.acceptance.proofs.Acceptance.{accepted-exactly}
 use Rattle.acceptance.proofs.Recorded.{among-within}
 use Rattle.format.specs.Description.{Info, Song, Instrument, Pattern, eight, sixteen, Sample, Chunk, NAME, INFO, SONG}
 use Rattle.format.specs.Description.{INST, PATT, SMPL, VENV, PENV, Other, Description}
-use Rattle.format.specs.Encoding.{songBytes, instrumentBytes, patternBytes, sampleBytes, identifier, contents, chunkBytes, headerBytes, encoded}
+use Rattle.format.specs.Encoding.{songBytes, instrumentBytes, patternBytes, sampleBytes, chunkLetters, chunkData, chunkBytes, headerBytes, encoded}
 use Rattle.format.specs.WellFormed.{ManyBytes, EnvelopesFit, OtherFits, In, Once, InfoFirst, WellFormed}
 use Rattle.format.proofs.DescribedBlocks.{every-each, number-then, number-fits, infoIn, info-again, info-fits, songIn}
 use Rattle.format.proofs.DescribedBlocks.{song-again, song-fits, instrumentIn, instrument-again, instrument-fits}
 use Rattle.format.proofs.DescribedBlocks.{patternsIn, patterns-again, patterns-fit, sampleIn, sample-again}
 use Rattle.format.proofs.DescribedBlocks.{sample-fits}
 use Rattle.format.proofs.ChunksIn.{in-within, within-in, letters-once}
-use Rattle.format.proofs.DescribedChunks.{map-again, behind-front, blocks-bytes, all-again, all-fit, envelopesIn}
+use Rattle.format.proofs.DescribedChunks.{map-again, after-front, blocks-bytes, all-again, all-fit, envelopesIn}
 use Rattle.format.proofs.DescribedChunks.{envelopes-again, envelopes-fit, data-fits, chunk-again}
 
 module _ (m : List ℕ) (bytes : Bytes m) (r : Rules m) where
@@ -48,13 +48,13 @@ module _ (m : List ℕ) (bytes : Bytes m) (r : Rules m) where
   header-bytes = bytes-front (r .header) (joined (r .chunks)) (subst Bytes (rules .bytes) bytes)
 
   chunks-bytes : Every Bytes (r .chunks)
-  chunks-bytes = bytes-joined (r .chunks) .1 (bytes-behind (r .header) (joined (r .chunks)) (subst Bytes (rules .bytes) bytes))
+  chunks-bytes = bytes-joined (r .chunks) .1 (bytes-after (r .header) (joined (r .chunks)) (subst Bytes (rules .bytes) bytes))
 
   module _ {letters chunk : List ℕ} (a : Among (r .chunks) letters chunk) where
     among-bytes : Bytes chunk
     among-bytes = within-every chunks-bytes (among-within a)
 
-    among-whole : ChunkBytes chunk
+    among-whole : IsChunk chunk
     among-whole = within-every (rules .whole) (among-within a)
 
   -- M6: a covered chunk is the only one of its letters.
@@ -160,15 +160,15 @@ module _ (m : List ℕ) (bytes : Bytes m) (r : Rules m) where
   Held (Other letters held) = OtherFits letters held
 
   record Described (chunk : List ℕ) (c : Chunk) : Type 0 where
-    letters : identifier c ≡ take 4 chunk
-    holds : contents c ≡ drop 8 chunk
+    letters : chunkLetters c ≡ take 4 chunk
+    holds : chunkData c ≡ drop 8 chunk
     held : Held c
 
   blocks-hold : {letters : List ℕ} (covers : Covered letters) {one chunk : List ℕ} → Among (r .chunks) letters one
       → Among (r .chunks) letters chunk → {count : ℕ} {blocks again : List (List ℕ)} → Filled 8 one count blocks
       → again ≡ blocks
       → joined again ≡ drop 8 chunk
-  blocks-hold covers there a filled e = ap joined e ∙ behind-front filled ∙ ap (drop 8) (only-chunk covers there a)
+  blocks-hold covers there a filled e = ap joined e ∙ after-front filled ∙ ap (drop 8) (only-chunk covers there a)
 
   covered-described : {letters : List ℕ} (covers : Covered letters) {chunk : List ℕ} → Among (r .chunks) letters chunk
       → Described chunk (coveredAs covers chunk)
@@ -209,7 +209,7 @@ module _ (m : List ℕ) (bytes : Bytes m) (r : Rules m) where
       let envelopes = content .panningEnvelopes chunk a in
       record { letters = sym (a .named); holds = envelopes-again _ _ chunk (among-bytes a) envelopes; held = envelopes-fit _ _ chunk (among-bytes a) envelopes }
 
-  other-fits : (chunk : List ℕ) → Bytes chunk → ChunkBytes chunk → covered (number32 chunk 0) ≡ false → OtherFits (take 4 chunk) (drop 8 chunk)
+  other-fits : (chunk : List ℕ) → Bytes chunk → IsChunk chunk → covered (number32 chunk 0) ≡ false → OtherFits (take 4 chunk) (drop 8 chunk)
   other-fits chunk below c e = record {
     four = length-take-le 4 chunk (omega (arith, c .size));
     capitals = subst (Every (λ letter. (65 ≤ letter) × (letter ≤ 90))) (bytes-part chunk 4 0 (omega (arith, c .size)))
@@ -266,7 +266,7 @@ module _ (m : List ℕ) (bytes : Bytes m) (r : Rules m) where
   all-held : Every Held (description .chunks)
   all-held = every-map describe (r .chunks) .1 (every-of (λ chunk d. d .held) all-described)
 
-  all-named : Every (λ c. take 4 (chunkBytes c) ≡ identifier c) (description .chunks)
+  all-named : Every (λ c. take 4 (chunkBytes c) ≡ chunkLetters c) (description .chunks)
   all-named = every-map describe (r .chunks) .1 (every-of (λ chunk h. ap (take 4) (h .0) ∙ sym (h .1 .letters)) (every-both chunks-again all-described))
 
   all-back : Every (λ c. describe (chunkBytes c) ≡ c) (description .chunks)
@@ -283,18 +283,18 @@ module _ (m : List ℕ) (bytes : Bytes m) (r : Rules m) where
   -- M6.
   chunks-once : Once (description .chunks)
   chunks-once =
-      letters-once (λ letters covers. no-two-mapped describe (λ (c : Chunk). identifier c ≡ letters)
+      letters-once (λ letters covers. no-two-mapped describe (λ (c : Chunk). chunkLetters c ≡ letters)
       (λ chunk within named. sym (within-every all-described within .letters) ∙ named) (rules .once letters covers))
 
   -- M7.
   info-first : InfoFirst (description .chunks)
   info-first before after c e needs = (info, in-before)
     where
-      named : take 4 (chunkBytes c) ≡ identifier c
+      named : take 4 (chunkBytes c) ≡ chunkLetters c
       named = within-every all-named (record { before = before; after = after; splits = e })
 
       found : (first : List ℕ) × Among (map chunkBytes before) infoLetters first
-      found = rules .behindInfo (identifier c) needs (map chunkBytes before) (map chunkBytes after) (chunkBytes c) (chunks-split before after c e) named
+      found = rules .afterInfo (chunkLetters c) needs (map chunkBytes before) (map chunkBytes after) (chunkBytes c) (chunks-split before after c e) named
 
       back : map describe (map chunkBytes before) ≡ before
       back = map-again chunkBytes describe (every-append before (c ∷ after) .0 (rw e at all-back) .0)

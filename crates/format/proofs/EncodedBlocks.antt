@@ -17,17 +17,17 @@ use Rattle.numbers.proofs.Stored.{bytes16-again, bytes32-again}
 use Rattle.numbers.proofs.AllBytes.{bytes-nil, bytes-cons, bytes-append, bytes-joined, bytes16-bytes, bytes32-bytes}
 use Rattle.packed_rows.specs.Entries.{Entry, soundEntry, streamOf}
 use Rattle.packed_rows.specs.Theorems.{every, allSound}
-use Rattle.packed_rows.proofs.Reading.{both-true}
+use Rattle.packed_rows.proofs.Reading.{and-true}
 use Rattle.packed_rows.proofs.Shapes.{getD-mapped}
 use Rattle.packed_rows.proofs.Soundness.{sound-facts}
 use Rattle.acceptance.specs.Rules.{Filled, InfoRules, SongRules, InstrumentRules, PatternRules, SampleRules, EnvelopeRules, EnvelopesRules}
 use Rattle.acceptance.proofs.Locating.{bytes16-number}
-use Rattle.repacking.proofs.PackedBytes.{EntriesBytes, stream-bytes}
+use Rattle.repack_theorems.proofs.PackedBytes.{EntriesBytes, stream-bytes}
 use Rattle.format.specs.Description.{Info, Song, Instrument, Pattern, Width, eight, sixteen, thirtyTwo, Sample, Point, Envelope, INFO}
 use Rattle.format.specs.Encoding.{infoBytes, songBytes, instrumentBytes, patternBytes, flagsOf, frameBytes, sampleBytes}
 use Rattle.format.specs.Encoding.{pointBytes, envelopeBytes, envelopesBytes, chunkBytes}
 use Rattle.format.specs.WellFormed.{InfoFits, SongFits, InstrumentFits, PatternFits, FrameFits, SampleFits, PointFits}
-use Rattle.format.specs.WellFormed.{EnvelopeFits, EnvelopesFit, noSample, framesOf}
+use Rattle.format.specs.WellFormed.{EnvelopeFits, EnvelopesFit, emptySample, framesOf}
 use Rattle.format.proofs.Stored.{number16-past}
 use Rattle.format.proofs.ReadingBlocks.{info-read, song-size, song-length, song-entry, instrument-size}
 use Rattle.format.proofs.ReadingBlocks.{instrument-sample, instrument-volume, instrument-loop-start}
@@ -124,15 +124,15 @@ module _ (samples : List Sample) (i : Instrument) (fits : InstrumentFits samples
 
       frames-there : i .sample - 1 < length samples → number32 (getD (map sampleBytes samples) (i .sample - 1) []) 4 ≡ framesOf samples (i .sample)
       frames-there there =
-          ap (λ (block : List ℕ). number32 block 4) (getD-mapped sampleBytes samples (i .sample - 1) [] noSample there)
-          ∙ sample-frames (getD samples (i .sample - 1) noSample)
+          ap (λ (block : List ℕ). number32 block 4) (getD-mapped sampleBytes samples (i .sample - 1) [] emptySample there)
+          ∙ sample-frames (getD samples (i .sample - 1) emptySample)
 
 -- B4, V7.
 module _ (tracks : ℕ) where
   entries-bytes : tracks ≤ 254 → (es : List Entry) → every (soundEntry tracks) es ≡ true → Every (λ e. Bytes (e .fields)) es → EntriesBytes es
   entries-bytes few [] sound fields = none
   entries-bytes few (e ∷ es) sound (also field fields) =
-      let parts = both-true _ _ sound in
+      let parts = and-true _ _ sound in
       let one = sound-facts tracks e (parts .0) in
       also (bytes-cons (e .track) (e .mask ∷ e .fields) (omega (arith, one .high)) (bytes-cons (e .mask) (e .fields) (omega (arith, one .small)) field))
       (entries-bytes few es (parts .1) fields)
@@ -140,7 +140,7 @@ module _ (tracks : ℕ) where
   rows-bytes : tracks ≤ 254 → (rows : List (List Entry)) → allSound tracks rows ≡ true → Every (Every (λ e. Bytes (e .fields))) rows → Every EntriesBytes rows
   rows-bytes few [] sound fields = none
   rows-bytes few (es ∷ rows) sound (also field fields) =
-      let parts = both-true _ _ sound in
+      let parts = and-true _ _ sound in
       also (entries-bytes few es (parts .0) field) (rows-bytes few rows (parts .1) fields)
 
   module _ (p : Pattern) (fits : PatternFits tracks p) where

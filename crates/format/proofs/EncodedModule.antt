@@ -17,9 +17,9 @@ use Rattle.refusal.specs.declared.Verdict.the-variants.{Accepted}
 use Rattle.numbers.proofs.AllBytes.{bytes-nil, bytes-cons, bytes-append, bytes-every, bytes-joined, bytes16-bytes, bytes32-bytes}
 use Rattle.numbers.specs.Numbers.{byteAt, Bytes, number32, bytes32}
 use Rattle.packed_rows.specs.Theorems.{every}
-use Rattle.packed_rows.proofs.Reading.{both-true}
+use Rattle.packed_rows.proofs.Reading.{and-true}
 use Rattle.module.specs.Verdicts.{moduleVerdict}
-use Rattle.acceptance.specs.Rules.{ChunkBytes, Covered, NeedsInfo, Among, AtMostOnce, BehindInfo, InfoRules, Filled}
+use Rattle.acceptance.specs.Rules.{IsChunk, Covered, NeedsInfo, Among, AtMostOnce, AfterInfo, InfoRules, Filled}
 use Rattle.acceptance.specs.Rules.{EnvelopesRules, VolumeFits, PanningValueFits, Content, ChunkRules, Rules}
 use Rattle.acceptance.proofs.Locating.{byteAt-front, bytes32-number}
 use Rattle.acceptance.proofs.Holding.{leb-says, and-says}
@@ -27,17 +27,17 @@ use Rattle.acceptance.proofs.Identifiers.{identifierOf}
 use Rattle.acceptance.proofs.Acceptance.{accepted-exactly}
 use Rattle.acceptance.proofs.Recorded.{among-within, within-among}
 use Rattle.format.specs.Description.{Chunk, NAME, INFO, SONG, INST, PATT, SMPL, VENV, PENV, Other, Description}
-use Rattle.format.specs.Encoding.{songBytes, instrumentBytes, patternBytes, sampleBytes, envelopesBytes, identifier}
-use Rattle.format.specs.Encoding.{contents, chunkBytes, headerBytes, encoded}
+use Rattle.format.specs.Encoding.{songBytes, instrumentBytes, patternBytes, sampleBytes, envelopesBytes, chunkLetters}
+use Rattle.format.specs.Encoding.{chunkData, chunkBytes, headerBytes, encoded}
 use Rattle.format.specs.WellFormed.{In, Fits32, WellFormed}
 use Rattle.format.proofs.ReadingBlocks.{info-read}
 use Rattle.format.proofs.ChunksIn.{in-within, within-in, every-in, in-every, once-letters, in-once}
-use Rattle.format.proofs.ChunkKinds.{holder, held-as, kindBy, kind-covered}
+use Rattle.format.proofs.ChunkKinds.{holder, held-as, chunkKindBy, kind-covered}
 use Rattle.format.proofs.EncodedBlocks.{all-bytes, filled-by, info-at, info-bytes, info-rules, song-bytes, song-rules}
 use Rattle.format.proofs.EncodedBlocks.{instrument-bytes, instrument-rules, pattern-bytes, pattern-rules, sample-bytes}
 use Rattle.format.proofs.EncodedBlocks.{sample-rules, envelopes-bytes, envelopes-rules}
 
--- M5: an identifier is four letters A to Z.
+-- M5: an chunkLetters is four letters A to Z.
 pub record Capitals (letters : List ℕ) : Type 0 where
   pub four : length letters ≡ 4
   pub each : Every (λ letter. (65 ≤ letter) × (letter ≤ 90)) letters
@@ -52,39 +52,39 @@ capitals letters four h = record { four = four; each = go letters h }
     go : (ls : List ℕ) → every capital ls ≡ true → Every (λ letter. (65 ≤ letter) × (letter ≤ 90)) ls
     go [] e = none
     go (l ∷ ls) e =
-        let parts = both-true (capital l) (every capital ls) e in
+        let parts = and-true (capital l) (every capital ls) e in
         let one = and-says (leb 65 l) (leb l 90) .0 (parts .0) in
         also (leb-says 65 l .0 (one .0), leb-says l 90 .0 (one .1)) (go ls (parts .1))
 
 -- M5: a chunk is bytes of its own length.
-module _ (c : Chunk) (letters : Capitals (identifier c)) where
-  pub chunk-named : take 4 (chunkBytes c) ≡ identifier c
-  chunk-named = take-at (identifier c) _ 4 (letters .four)
+module _ (c : Chunk) (letters : Capitals (chunkLetters c)) where
+  pub chunk-named : take 4 (chunkBytes c) ≡ chunkLetters c
+  chunk-named = take-at (chunkLetters c) _ 4 (letters .four)
 
-  chunk-length : number32 (chunkBytes c) 4 ≡ length (contents c)
-  chunk-length = ap (number32 (chunkBytes c)) (sym (letters .four)) ∙ bytes32-number (length (contents c)) (identifier c) (contents c)
+  chunk-length : number32 (chunkBytes c) 4 ≡ length (chunkData c)
+  chunk-length = ap (number32 (chunkBytes c)) (sym (letters .four)) ∙ bytes32-number (length (chunkData c)) (chunkLetters c) (chunkData c)
 
-  chunk-whole : ChunkBytes (chunkBytes c)
+  chunk-whole : IsChunk (chunkBytes c)
   unfolding byteAt
   chunk-whole = record {
-    size = omega (arith, chunk-length, letters .four, length-append (identifier c) (bytes32 (length (contents c)) ++ contents c));
+    size = omega (arith, chunk-length, letters .four, length-append (chunkLetters c) (bytes32 (length (chunkData c)) ++ chunkData c));
     letters = λ i h.
-        rw (byteAt-front (identifier c) (bytes32 (length (contents c)) ++ contents c) i (omega (arith, letters .four)))
+        rw (byteAt-front (chunkLetters c) (bytes32 (length (chunkData c)) ++ chunkData c) i (omega (arith, letters .four)))
         (every-at i 0 (omega (arith, letters .four)) (letters .each));
   }
 
-  chunk-bytes : Fits32 (length (contents c)) → Bytes (contents c) → Bytes (chunkBytes c)
+  chunk-bytes : Fits32 (length (chunkData c)) → Bytes (chunkData c) → Bytes (chunkBytes c)
   chunk-bytes long held =
-      bytes-append (identifier c) _ (bytes-every (identifier c) .1 (every-of (λ letter h. omega (arith, h .1)) (letters .each)))
-      (bytes-append (bytes32 (length (contents c))) (contents c) (bytes32-bytes _ long) held)
+      bytes-append (chunkLetters c) _ (bytes-every (chunkLetters c) .1 (every-of (λ letter h. omega (arith, h .1)) (letters .each)))
+      (bytes-append (bytes32 (length (chunkData c))) (chunkData c) (bytes32-bytes _ long) held)
 
--- A chunk of the description stands among the encodings. Its identifier has four letters: of a covered chunk that is so by computing.
-pub in-among : (chunks : List Chunk) (c : Chunk) → In chunks c → length (identifier c) ≡ 4 → Among (map chunkBytes chunks) (identifier c) (chunkBytes c)
-in-among chunks c i four = within-among (within-mapped chunkBytes (in-within i)) (take-at (identifier c) _ 4 four)
+-- A chunk of the description stands among the encodings. Its chunkLetters has four letters: of a covered chunk that is so by computing.
+pub in-among : (chunks : List Chunk) (c : Chunk) → In chunks c → length (chunkLetters c) ≡ 4 → Among (map chunkBytes chunks) (chunkLetters c) (chunkBytes c)
+in-among chunks c i four = within-among (within-mapped chunkBytes (in-within i)) (take-at (chunkLetters c) _ 4 four)
 
 module _ (d : Description) (w : WellFormed d) where
-  -- M5: the identifier of each is of four letters.
-  chunk-letters : (c : Chunk) → In (d .chunks) c → Capitals (identifier c)
+  -- M5: the chunkLetters of each is of four letters.
+  chunk-letters : (c : Chunk) → In (d .chunks) c → Capitals (chunkLetters c)
   chunk-letters (NAME held) i = capitals nameLetters refl refl
   chunk-letters (INFO held) i = capitals infoLetters refl refl
   chunk-letters (SONG held) i = capitals songLetters refl refl
@@ -106,12 +106,12 @@ module _ (d : Description) (w : WellFormed d) where
   few-instruments = omega (arith, w .lists .instrumentCount, w .lists .infoFits .instruments)
 
   -- What a chunk holds is bytes: of the mandatory ones, which are there once, what the description has of them.
-  same-bytes : {c e : Chunk} → In (d .chunks) c → In (d .chunks) e → Covered (identifier c) → identifier c ≡ identifier e
-      → Bytes (contents e)
-      → Bytes (contents c)
-  same-bytes i j covers letters = subst (λ (c : Chunk). Bytes (contents c)) (sym (in-once (w .once) i j covers letters))
+  same-bytes : {c e : Chunk} → In (d .chunks) c → In (d .chunks) e → Covered (chunkLetters c) → chunkLetters c ≡ chunkLetters e
+      → Bytes (chunkData e)
+      → Bytes (chunkData c)
+  same-bytes i j covers letters = subst (λ (c : Chunk). Bytes (chunkData c)) (sym (in-once (w .once) i j covers letters))
 
-  held-bytes : (c : Chunk) → In (d .chunks) c → Bytes (contents c)
+  held-bytes : (c : Chunk) → In (d .chunks) c → Bytes (chunkData c)
   held-bytes (NAME held) i = w .name held i .1
   held-bytes (INFO held) i = same-bytes i (w .infoThere) Covered.info refl (info-bytes (w .info) (w .lists .infoFits))
   held-bytes (SONG held) i =
@@ -148,11 +148,11 @@ module _ (d : Description) (w : WellFormed d) where
       (every-map chunkBytes (d .chunks) .1 (every-in (d .chunks) (λ c i. chunk-bytes c (chunk-letters c i) (in-every (w .lengths) i) (held-bytes c i)))))
 
   -- A chunk of the encoding is that of a chunk of the description, which has the same letters.
-  letters-of : (c : Chunk) → In (d .chunks) c → {chunk letters : List ℕ} → chunk ≡ chunkBytes c → take 4 chunk ≡ letters → identifier c ≡ letters
+  letters-of : (c : Chunk) → In (d .chunks) c → {chunk letters : List ℕ} → chunk ≡ chunkBytes c → take 4 chunk ≡ letters → chunkLetters c ≡ letters
   letters-of c i same named = sym (chunk-named c (chunk-letters c i)) ∙ ap (take 4) (sym same) ∙ named
 
   pub among-in : (letters chunk : List ℕ) → Among (map chunkBytes (d .chunks)) letters chunk
-      → (c : Chunk) × In (d .chunks) c × (identifier c ≡ letters) × (chunk ≡ chunkBytes c)
+      → (c : Chunk) × In (d .chunks) c × (chunkLetters c ≡ letters) × (chunk ≡ chunkBytes c)
   among-in letters chunk a =
       let (c, within, same) = mapped-within chunkBytes (among-within a) in
       (c, within-in within, letters-of c (within-in within) same (a .named), same)
@@ -164,12 +164,12 @@ module _ (d : Description) (w : WellFormed d) where
   -- So a chunk with covered letters is what they name.
   pub among-held : {letters : List ℕ} (covers : Covered letters) (chunk : List ℕ)
       → Among (map chunkBytes (d .chunks)) letters chunk
-      → Encodes (holder (kindBy (identifierOf covers))) chunk
+      → Encodes (holder (chunkKindBy (identifierOf covers))) chunk
   among-held {letters} covers chunk a =
       let (c, i, letters-are, same) = among-in letters chunk a in
       let whole = chunk-whole c (chunk-letters c i) in
       let kind = kind-covered c (λ other bytes is. w .others other bytes (subst (In (d .chunks)) is i)) whole covers (ap (take 4) (sym same) ∙ a .named) in
-      let (held, is) = held-as c (kindBy (identifierOf covers)) kind in
+      let (held, is) = held-as c (chunkKindBy (identifierOf covers)) kind in
       (held, subst (In (d .chunks)) is i, same ∙ ap chunkBytes is)
 
   encoded-once : (letters : List ℕ) → Covered letters → AtMostOnce (map chunkBytes (d .chunks)) letters
@@ -177,8 +177,8 @@ module _ (d : Description) (w : WellFormed d) where
       no-two-mapped chunkBytes (λ (chunk : List ℕ). take 4 chunk ≡ letters)
       (λ c within named. letters-of c (within-in within) refl named) (once-letters (w .once) letters covers)
 
-  encoded-behind : (letters : List ℕ) → NeedsInfo letters → BehindInfo (map chunkBytes (d .chunks)) letters
-  encoded-behind letters needs before after chunk e named =
+  encoded-after : (letters : List ℕ) → NeedsInfo letters → AfterInfo (map chunkBytes (d .chunks)) letters
+  encoded-after letters needs before after chunk e named =
       let s = map-split chunkBytes (d .chunks) before after chunk e in
       let i : In (d .chunks) (s .one) = record { before = s .front; after = s .back; splits = s .splits } in
       let found = w .infoFirst (s .front) (s .back) (s .one) (s .splits) (subst NeedsInfo (sym (letters-of (s .one) i (s .oneIs) named)) needs) in
@@ -196,7 +196,7 @@ module _ (d : Description) (w : WellFormed d) where
     revision = w .revision;
     whole = every-map chunkBytes (d .chunks) .1 (every-in (d .chunks) (λ c i. chunk-whole c (chunk-letters c i)));
     once = encoded-once;
-    behindInfo = encoded-behind;
+    afterInfo = encoded-after;
     name = λ chunk a. (
         let (held, i, same) = among-held Covered.name chunk a in
         ap length same ∙ omega (arith, w .name held i .0)

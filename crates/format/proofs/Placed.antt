@@ -15,17 +15,17 @@ use Rattle.packed_rows.proofs.Shapes.{getD-mapped}
 use Rattle.layout.specs.declared.Layout.{Layout}
 use Rattle.layout.specs.declared.Outline.the-variants.{Found as Opened}
 use Rattle.blocks.specs.Sizes.{firstBlock, blockAt}
-use Rattle.blocks.specs.Things.{kindOf, chunkOf, countOf}
-use Rattle.blocks.specs.declared.Thing.{Thing}
+use Rattle.blocks.specs.RecordKinds.{blockKindOf, chunkOf, countOf}
+use Rattle.blocks.specs.declared.RecordKind.{RecordKind}
 use Rattle.module.specs.Verdicts.{opened}
 use Rattle.queries.specs.Finding.{firstOf, blockOf, foundIf, found}
 use Rattle.queries.specs.declared.Found.{Found}
 use Rattle.queries.specs.declared.Found.the-variants.{At, Refused}
-use Rattle.acceptance.proofs.Standing.{Stands, LayoutOf}
+use Rattle.acceptance.proofs.Spans.{SpanHolds, LayoutOf}
 use Rattle.acceptance.proofs.Locating.{PartAt}
 use Rattle.acceptance.proofs.Holding.{and-says, ltb-says}
 use Rattle.acceptance.proofs.Cutting.{Sized, part-rest, block-there}
-use Rattle.acceptance.proofs.ChunkHalf.{Mandatory, stands-part, chunks-outline}
+use Rattle.acceptance.proofs.ChunkHalf.{Mandatory, span-part, chunks-outline}
 use Rattle.acceptance.proofs.OpenModules.{accepted-opens, module-opens}
 use Rattle.format.specs.Description.{Info, INFO, SONG, INST, PATT, SMPL, Description}
 use Rattle.format.specs.Encoding.{infoBytes, chunkBytes, headerBytes, encoded}
@@ -36,48 +36,48 @@ use Rattle.format.proofs.ReadingBlocks.{info-read}
 use Rattle.format.proofs.EncodedModule.{in-among, encoded-chunks, encoded-accepted}
 
 -- The records of a list, which all fit, are those that are asked for: so many are counted, and each stands at its place.
-pub record Listed (m : List ℕ) (l : Layout) (thing : Thing) {A : Type 0} (bytes : A → List ℕ) (Fits : A → Type 0) (xs : List A) : Type 0 where
+pub record Listed (m : List ℕ) (l : Layout) (kind : RecordKind) {A : Type 0} (bytes : A → List ℕ) (Fits : A → Type 0) (xs : List A) : Type 0 where
   pub fits : Every Fits xs
-  pub count : countOf m l thing ≡ length xs
-  pub block : (i : ℕ) (other : A) → i < length xs → PartAt m (blockAt m (kindOf thing) (chunkOf l thing) i) (bytes (getD xs i other))
+  pub count : countOf m l kind ≡ length xs
+  pub block : (i : ℕ) (other : A) → i < length xs → PartAt m (blockAt m (blockKindOf kind) (chunkOf l kind) i) (bytes (getD xs i other))
 
 -- So do the records of a chunk that stands in the module: behind its front, one behind the other.
-module _ {m : List ℕ} {l : Layout} (thing : Thing) {A : Type 0} (bytes : A → List ℕ) {Fits : A → Type 0}
-    (sized : (x : A) → Fits x → Sized (kindOf thing) (bytes x)) where
-  pub chunk-listed : (front : List ℕ) (xs : List A) → Stands m (chunkOf l thing) (front ++ joined (map bytes xs))
-      → firstBlock (kindOf thing) (chunkOf l thing) ≡ chunkOf l thing .at + length front → countOf m l thing ≡ length xs
+module _ {m : List ℕ} {l : Layout} (kind : RecordKind) {A : Type 0} (bytes : A → List ℕ) {Fits : A → Type 0}
+    (sized : (x : A) → Fits x → Sized (blockKindOf kind) (bytes x)) where
+  pub chunk-listed : (front : List ℕ) (xs : List A) → SpanHolds m (chunkOf l kind) (front ++ joined (map bytes xs))
+      → firstBlock (blockKindOf kind) (chunkOf l kind) ≡ chunkOf l kind .at + length front → countOf m l kind ≡ length xs
       → Every Fits xs
-      → Listed m l thing bytes Fits xs
+      → Listed m l kind bytes Fits xs
   chunk-listed front xs s first count fits = record {
     fits = fits;
     count = count;
     block = λ i other h. (
-        let rest : PartAt m (firstBlock (kindOf thing) (chunkOf l thing)) (joined (map bytes xs)) =
-        rw first (part-rest front (joined (map bytes xs)) (stands-part s)) in
+        let rest : PartAt m (firstBlock (blockKindOf kind) (chunkOf l kind)) (joined (map bytes xs)) =
+        rw first (part-rest front (joined (map bytes xs)) (span-part s)) in
         rw (sym (getD-mapped bytes xs i [] other h))
-        (block-there (kindOf thing) (map bytes xs) i (rw length-map h) rest (every-map bytes xs .1 (every-of sized fits)))
+        (block-there (blockKindOf kind) (map bytes xs) i (rw length-map h) rest (every-map bytes xs .1 (every-of sized fits)))
         );
   }
 
 -- What a query answers by a number: what is shown of the record of that number, or the refusal.
-module _ {m : List ℕ} {l : Layout} (opens : opened m ≡ Opened l) {thing : Thing} {A : Type 0} {bytes : A → List ℕ}
-    {Fits : A → Type 0} {xs : List A} (s : Listed m l thing bytes Fits xs) {R : Type 0} (answer : Found → R) (show : A → R)
+module _ {m : List ℕ} {l : Layout} (opens : opened m ≡ Opened l) {kind : RecordKind} {A : Type 0} {bytes : A → List ℕ}
+    {Fits : A → Type 0} {xs : List A} (s : Listed m l kind bytes Fits xs) {R : Type 0} (answer : Found → R) (show : A → R)
     (other : A) where
   pub by-number : ((x : A) → Fits x → (at : ℕ) → PartAt m at (bytes x) → answer (At (record { at = at; version = l .version; tracks = l .tracks })) ≡ show x)
       → (number : ℕ)
-      → answer (found m thing number) ≡ listed show (answer (Refused notThere)) other (firstOf thing) xs number
+      → answer (found m kind number) ≡ listed show (answer (Refused notThere)) other (firstOf kind) xs number
   by-number shown number =
-      ap (λ o. answer (foundIf m thing number o)) opens ∙ rw (s .count) (go (leb (firstOf thing) number && ltb (number - firstOf thing) (length xs)) refl)
+      ap (λ o. answer (foundIf m kind number o)) opens ∙ rw (s .count) (go (leb (firstOf kind) number && ltb (number - firstOf kind) (length xs)) refl)
     where
       i : ℕ
-      i = number - firstOf thing
+      i = number - firstOf kind
 
-      go : (t : Bool) → leb (firstOf thing) number && ltb (number - firstOf thing) (length xs) ≡ t
-          → answer (cond t (At (blockOf m l thing number)) (Refused notThere))
-          ≡ cond t (show (getD xs (number - firstOf thing) other)) (answer (Refused notThere))
+      go : (t : Bool) → leb (firstOf kind) number && ltb (number - firstOf kind) (length xs) ≡ t
+          → answer (cond t (At (blockOf m l kind number)) (Refused notThere))
+          ≡ cond t (show (getD xs (number - firstOf kind) other)) (answer (Refused notThere))
       go true e =
-          let h : i < length xs = ltb-says i (length xs) .0 (and-says (leb (firstOf thing) number) (ltb i (length xs)) .0 e .1) in
-          shown (getD xs i other) (every-at i other h (s .fits)) (blockAt m (kindOf thing) (chunkOf l thing) i) (s .block i other h)
+          let h : i < length xs = ltb-says i (length xs) .0 (and-says (leb (firstOf kind) number) (ltb i (length xs)) .0 e .1) in
+          shown (getD xs i other) (every-at i other h (s .fits)) (blockAt m (blockKindOf kind) (chunkOf l kind) i) (s .block i other h)
       go false e = refl
 
 module _ (d : Description) (w : WellFormed d) where

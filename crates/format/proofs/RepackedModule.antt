@@ -12,19 +12,19 @@ use Rattle.vocabulary.proofs.MappedLists.{every-map, map-same}
 use Rattle.numbers.specs.Numbers.{byteAt, number16, number32, bytes32}
 use Rattle.layout.specs.declared.Layout.{Layout}
 use Rattle.blocks.specs.Sizes.{sizeOf, placesFrom}
-use Rattle.blocks.specs.declared.Kind.the-variants.{Pattern as PatternKind}
-use Rattle.acceptance.specs.Rules.{ChunkBytes, Covered}
-use Rattle.acceptance.proofs.Standing.{LayoutOf}
+use Rattle.blocks.specs.declared.BlockKind.the-variants.{Pattern as PatternBlock}
+use Rattle.acceptance.specs.Rules.{IsChunk, Covered}
+use Rattle.acceptance.proofs.Spans.{LayoutOf}
 use Rattle.acceptance.proofs.Locating.{PartAt}
 use Rattle.acceptance.proofs.Cutting.{Sized, part-rest}
-use Rattle.acceptance.proofs.ChunkHalf.{stands-part}
+use Rattle.acceptance.proofs.ChunkHalf.{span-part}
 use Rattle.acceptance.proofs.ChangedData.{withData}
 use Rattle.acceptance.proofs.BlockStreams.{pattern-sized}
 use Rattle.repack.specs.Repacked.{repackedBlock, repackedPatterns, repacked}
-use Rattle.repack.proofs.ChunksAnew.{chunkAnew, module-anew}
-use Rattle.repacking.proofs.BlockAnew.{blockAnew, blocks-anew}
-use Rattle.repacking.proofs.Opening.{repacked-opened}
-use Rattle.repacking.proofs.Theorems.{repacked-no-longer}
+use Rattle.repack.proofs.RewrittenChunks.{rewrittenChunk, module-rewritten}
+use Rattle.repack_theorems.proofs.RewrittenBlock.{rewrittenBlock, blocks-rewritten}
+use Rattle.repack_theorems.proofs.Opening.{repacked-opened}
+use Rattle.repack_theorems.proofs.Theorems.{repacked-no-longer}
 use Rattle.format.specs.Description.{Pattern, Chunk, NAME, INFO, SONG, INST, PATT, SMPL, VENV, PENV, Other, Description}
 use Rattle.format.specs.Encoding.{patternBytes, chunkBytes, headerBytes, encoded}
 use Rattle.format.specs.WellFormed.{In, WellFormed}
@@ -33,49 +33,49 @@ use Rattle.format.proofs.EncodedBlocks.{pattern-rules}
 use Rattle.format.proofs.EncodedModule.{in-among, encoded-bytes, encoded-chunks, encoded-accepted}
 use Rattle.format.proofs.Placed.{encoded-opens, info-numbers}
 use Rattle.format.proofs.ChunksIn.{in-every, in-once}
-use Rattle.format.proofs.ChunkKinds.{Kind, patterns, not-covered}
+use Rattle.format.proofs.ChunkKinds.{ChunkKind, patterns, not-covered}
 use Rattle.format.proofs.ChangedDescriptions.{isKind, stays, holds, Change, encoded-changed, changed-well-formed}
-use Rattle.format.proofs.RepackedPatterns.{pattern-anew, pattern-fits}
+use Rattle.format.proofs.RepackedPatterns.{pattern-rewritten, pattern-fits}
 
 -- X1, X2: chunk by chunk.
 module _ (d : Description) (w : WellFormed d) where
   abbrev tracks : ℕ
   tracks = w .info .tracks
 
-  abbrev anew : Description
-  anew = repackedDescription tracks d
+  abbrev rewritten : Description
+  rewritten = repackedDescription tracks d
 
   abbrev content : List ℕ
   content = joined (map patternBytes (map (repackedPattern tracks) (w .patterns)))
 
   -- PATT gets the data anew, every other chunk stays.
-  chunk-anew : (c : Chunk) → In (d .chunks) c → ChunkBytes (chunkBytes c) → chunkAnew content (chunkBytes c) ≡ chunkBytes (repackedChunk tracks c)
+  chunk-rewritten : (c : Chunk) → In (d .chunks) c → IsChunk (chunkBytes c) → rewrittenChunk content (chunkBytes c) ≡ chunkBytes (repackedChunk tracks c)
   unfolding number32 number16 byteAt
-  chunk-anew (NAME name) i c = refl
-  chunk-anew (INFO info) i c = refl
-  chunk-anew (SONG list) i c = refl
-  chunk-anew (INST list) i c = refl
-  chunk-anew (PATT list) i c =
+  chunk-rewritten (NAME name) i c = refl
+  chunk-rewritten (INFO info) i c = refl
+  chunk-rewritten (SONG list) i c = refl
+  chunk-rewritten (INST list) i c = refl
+  chunk-rewritten (PATT list) i c =
       let same : w .patterns ≡ list = cc (in-once (w .once) (w .patternsThere) i Covered.patt refl) in
       ap (λ (ps : List Pattern).
       pattLetters
       ++ (bytes32 (length (joined (map patternBytes (map (repackedPattern tracks) ps)))) ++ joined (map patternBytes (map (repackedPattern tracks) ps))))
       same
-  chunk-anew (SMPL list) i c = refl
-  chunk-anew (VENV list) i c = refl
-  chunk-anew (PENV list) i c = refl
-  chunk-anew (Other letters bytes) i c =
+  chunk-rewritten (SMPL list) i c = refl
+  chunk-rewritten (VENV list) i c = refl
+  chunk-rewritten (PENV list) i c = refl
+  chunk-rewritten (Other letters bytes) i c =
       ap (λ (b : Bool). cond b (withData content (chunkBytes (Other letters bytes))) (chunkBytes (Other letters bytes)))
       (not-covered letters bytes (w .others letters bytes i) c Covered.patt)
 
   -- X3: PATT's data anew are the patterns repacked.
   module _ (l : Layout) (layout : LayoutOf (encoded d) (headerBytes d) (map chunkBytes (d .chunks)) l) where
-    patterns-there : PartAt (encoded d) (l .places .patt .at + 8) (joined (map patternBytes (w .patterns)))
+    patterns-there : PartAt (encoded d) (l .spans .patt .at + 8) (joined (map patternBytes (w .patterns)))
     patterns-there =
         part-rest (pattLetters ++ bytes32 (length (joined (map patternBytes (w .patterns))))) (joined (map patternBytes (w .patterns)))
-        (stands-part (layout .patt .stands (chunkBytes (PATT (w .patterns))) (in-among (d .chunks) (PATT (w .patterns)) (w .patternsThere) refl)))
+        (span-part (layout .patt .holds (chunkBytes (PATT (w .patterns))) (in-among (d .chunks) (PATT (w .patterns)) (w .patternsThere) refl)))
 
-    blocks-sized : Every (Sized PatternKind) (map patternBytes (w .patterns))
+    blocks-sized : Every (Sized PatternBlock) (map patternBytes (w .patterns))
     blocks-sized =
         every-map patternBytes (w .patterns) .1
         (every-of (λ p f. pattern-sized tracks (patternBytes p) (pattern-rules tracks p f)) (w .lists .patternsFit))
@@ -84,18 +84,18 @@ module _ (d : Description) (w : WellFormed d) where
     content-is =
         let numbers = info-numbers d w layout (w .info) (w .infoThere) in
         let many : length (map patternBytes (w .patterns)) ≡ l .patterns = length-map (w .patterns) patternBytes ∙ w .lists .patternCount ∙ sym (numbers .3) in
-        let at : ℕ = l .places .patt .at + 8 in
-        let blocks : map (repackedBlock (encoded d) tracks) (placesFrom (sizeOf PatternKind (encoded d)) (length (map patternBytes (w .patterns))) at)
-        ≡ map (blockAnew tracks) (map patternBytes (w .patterns)) =
-        blocks-anew tracks at (map patternBytes (w .patterns)) patterns-there blocks-sized in
-        let same : map (blockAnew tracks) (map patternBytes (w .patterns))
+        let at : ℕ = l .spans .patt .at + 8 in
+        let blocks : map (repackedBlock (encoded d) tracks) (placesFrom (sizeOf PatternBlock (encoded d)) (length (map patternBytes (w .patterns))) at)
+        ≡ map (rewrittenBlock tracks) (map patternBytes (w .patterns)) =
+        blocks-rewritten tracks at (map patternBytes (w .patterns)) patterns-there blocks-sized in
+        let same : map (rewrittenBlock tracks) (map patternBytes (w .patterns))
         ≡ map patternBytes (map (repackedPattern tracks) (w .patterns)) =
-        map-map (blockAnew tracks) patternBytes (w .patterns)
-        ∙ map-same (λ p. blockAnew tracks (patternBytes p)) (λ p. patternBytes (repackedPattern tracks p))
-        (every-of (pattern-anew tracks) (w .lists .patternsFit))
+        map-map (rewrittenBlock tracks) patternBytes (w .patterns)
+        ∙ map-same (λ p. rewrittenBlock tracks (patternBytes p)) (λ p. patternBytes (repackedPattern tracks p))
+        (every-of (pattern-rewritten tracks) (w .lists .patternsFit))
         ∙ sym (map-map patternBytes (repackedPattern tracks) (w .patterns)) in
-        ap (λ (n : ℕ). joined (map (repackedBlock (encoded d) n) (placesFrom (sizeOf PatternKind (encoded d)) (l .patterns) at))) (numbers .4)
-        ∙ ap (λ (n : ℕ). joined (map (repackedBlock (encoded d) tracks) (placesFrom (sizeOf PatternKind (encoded d)) n at))) (sym many)
+        ap (λ (n : ℕ). joined (map (repackedBlock (encoded d) n) (placesFrom (sizeOf PatternBlock (encoded d)) (l .patterns) at))) (numbers .4)
+        ∙ ap (λ (n : ℕ). joined (map (repackedBlock (encoded d) tracks) (placesFrom (sizeOf PatternBlock (encoded d)) n at))) (sym many)
         ∙ ap joined (blocks ∙ same)
 
   pub repacked-encoded : repacked (encoded d) ≡ encoded (repackedDescription (w .info .tracks) d)
@@ -103,12 +103,12 @@ module _ (d : Description) (w : WellFormed d) where
       let (l, opens, layout) = encoded-opens d w in
       let whole = every-map chunkBytes (d .chunks) .0 (encoded-chunks d w .whole) in
       repacked-opened (encoded d) l opens
-      ∙ module-anew (encoded-chunks d w) l
-      ∙ ap (λ (patt : List ℕ). headerBytes d ++ joined (map (chunkAnew patt) (map chunkBytes (d .chunks)))) (content-is l layout)
-      ∙ encoded-changed d (repackedChunk tracks) (chunkAnew content) (λ c i. chunk-anew c i (in-every whole i))
+      ∙ module-rewritten (encoded-chunks d w) l
+      ∙ ap (λ (patt : List ℕ). headerBytes d ++ joined (map (rewrittenChunk patt) (map chunkBytes (d .chunks)))) (content-is l layout)
+      ∙ encoded-changed d (repackedChunk tracks) (rewrittenChunk content) (λ c i. chunk-rewritten c i (in-every whole i))
 
 -- Chunks of patterns change, and no others.
-abbrev patternsOnly : Kind → Bool
+abbrev patternsOnly : ChunkKind → Bool
 patternsOnly k = isKind k patterns
 
 patterns-change : (tracks : ℕ) → Change patternsOnly (repackedChunk tracks)
@@ -123,7 +123,7 @@ patterns-change tracks (PENV list) = stays (PENV list)
 patterns-change tracks (Other letters bytes) = stays (Other letters bytes)
 
 module _ (d : Description) (w : WellFormed d) where
-  shorter : length (encoded (anew d w)) ≤ 16777216
+  shorter : length (encoded (rewritten d w)) ≤ 16777216
   shorter = omega (arith, ap length (repacked-encoded d w), repacked-no-longer (encoded d) (encoded-bytes d w) (encoded-accepted d w), w .limit)
 
   many : length (map (repackedPattern (tracks d w)) (w .patterns)) ≡ length (w .patterns)

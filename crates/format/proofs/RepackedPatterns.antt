@@ -8,12 +8,12 @@ use lib.ListN.{length, length-map, length-replicate}
 use Rattle.vocabulary.specs.Lists.{Every}
 use Rattle.vocabulary.proofs.EveryOne.{every-of}
 use Rattle.numbers.specs.Numbers.{number16, partOf, bytes16, bytes32}
-use Rattle.numbers.proofs.AllBytes.{bytes-rest, bytes-front, bytes-behind, bytes-replicate}
+use Rattle.numbers.proofs.AllBytes.{bytes-rest, bytes-front, bytes-after, bytes-replicate}
 use Rattle.packed_rows.specs.Entries.{Entry, rowFrom, rowsFrom, streamOf}
 use Rattle.packed_rows.specs.Stream.{whole, readStream, entriesRead, AcceptedAs}
 use Rattle.packed_rows.specs.Packer.{packedEntries, packedStream, packedLength}
 use Rattle.packed_rows.specs.Theorems.{allSound}
-use Rattle.packed_rows.proofs.Reading.{true-both}
+use Rattle.packed_rows.proofs.Reading.{true-and}
 use Rattle.packed_rows.proofs.Shapes.{row-from-shaped}
 use Rattle.packed_rows.proofs.PackedRow.{packs}
 use Rattle.packed_rows.proofs.Soundness.{entries-sound}
@@ -22,8 +22,8 @@ use Rattle.packed_rows.proofs.Accepted.{accepted-rows}
 use Rattle.packed_rows.proofs.Theorems.{none-shorter, reads-exactly}
 use Rattle.blocks.specs.StoredFields.{packedBytes}
 use Rattle.repack.specs.Repacked.{packed}
-use Rattle.repacking.proofs.PackedBytes.{EntriesBytes, stream-bytes, repacked-bytes}
-use Rattle.repacking.proofs.BlockAnew.{blockAnew}
+use Rattle.repack_theorems.proofs.PackedBytes.{EntriesBytes, stream-bytes, repacked-bytes}
+use Rattle.repack_theorems.proofs.RewrittenBlock.{rewrittenBlock}
 use Rattle.format.specs.Description.{Pattern}
 use Rattle.format.specs.Encoding.{patternBytes}
 use Rattle.format.specs.WellFormed.{PatternFits}
@@ -39,27 +39,27 @@ rows-many tracks rows = length-map (rowsFrom tracks rows) packedEntries ∙ leng
 rows-sound : (tracks : ℕ) (rows : List (List Entry)) → allSound tracks (map packedEntries (rowsFrom tracks rows)) ≡ true
 rows-sound tracks [] = refl
 rows-sound tracks (es ∷ rows) =
-    true-both (entries-sound tracks (packs 1 (rowFrom tracks es)) (row-from-shaped tracks es) (omega arith) (omega arith))
+    true-and (entries-sound tracks (packs 1 (rowFrom tracks es)) (row-from-shaped tracks es) (omega arith) (omega arith))
     (rows-sound tracks rows)
 
 module _ (tracks : ℕ) (p : Pattern) (fits : PatternFits tracks p) where
-  abbrev anew : List (List Entry)
-  anew = map packedEntries (rowsFrom tracks (p .rows))
+  abbrev rewritten : List (List Entry)
+  rewritten = map packedEntries (rowsFrom tracks (p .rows))
 
   -- The stream is read as the rows.
   reads : readStream (length (p .rows)) tracks (streamOf (p .rows)) ≡ whole (p .rows)
   reads = reads-exactly (length (p .rows)) tracks (streamOf (p .rows)) (p .rows) .1 (record { count = refl; sound = fits .sound; bytes = refl })
 
-  pub pattern-anew : blockAnew tracks (patternBytes p) ≡ patternBytes (repackedPattern tracks p)
-  pattern-anew =
+  pub pattern-rewritten : rewrittenBlock tracks (patternBytes p) ≡ patternBytes (repackedPattern tracks p)
+  pattern-rewritten =
       let stream : packedBytes (patternBytes p) 0 ≡ streamOf (p .rows) = ap (partOf (patternBytes p) 6) (pattern-packed p) ∙ pattern-stream p in
       let read : entriesRead (readStream (number16 (patternBytes p) 0) tracks (packedBytes (patternBytes p) 0)) ≡ p .rows =
       rw (pattern-rows p, stream, reads) refl in
       ap (λ (entries : List (List Entry)). bytes16 (length (p .rows)) ++ packed (packedStream (rowsFrom tracks entries))) read
-      ∙ ap (λ (n : ℕ). bytes16 n ++ packed (streamOf anew)) (sym (rows-many tracks (p .rows)))
+      ∙ ap (λ (n : ℕ). bytes16 n ++ packed (streamOf rewritten)) (sym (rows-many tracks (p .rows)))
 
   -- No longer.
-  shorter : length (streamOf anew) ≤ length (streamOf (p .rows))
+  shorter : length (streamOf rewritten) ≤ length (streamOf (p .rows))
   shorter =
       let accepted : AcceptedAs (length (p .rows)) tracks (streamOf (p .rows)) _ = record { entries = p .rows; read = reads; gives = refl } in
       omega (
@@ -73,7 +73,7 @@ module _ (tracks : ℕ) (p : Pattern) (fits : PatternFits tracks p) where
   entries-are-bytes few =
       stream-bytes (p .rows) .1
       (bytes-front (streamOf (p .rows)) (p .filler)
-      (bytes-behind (bytes16 (length (p .rows)) ++ bytes32 (length (streamOf (p .rows)))) (streamOf (p .rows) ++ p .filler) (pattern-bytes tracks p fits few)))
+      (bytes-after (bytes16 (length (p .rows)) ++ bytes32 (length (streamOf (p .rows)))) (streamOf (p .rows) ++ p .filler) (pattern-bytes tracks p fits few)))
 
   pub pattern-fits : tracks ≤ 254 → PatternFits tracks (repackedPattern tracks p)
   pattern-fits few = record {
@@ -82,5 +82,5 @@ module _ (tracks : ℕ) (p : Pattern) (fits : PatternFits tracks p) where
     sound = rows-sound tracks (p .rows);
     fields = every-of (λ es h. every-of (λ e b. bytes-rest (e .mask) (e .fields) (bytes-rest (e .track) (e .mask ∷ e .fields) b)) h)
         (repacked-bytes tracks few (p .rows) (entries-are-bytes few));
-    filler = (length-replicate (length (streamOf anew) % 2) 0, bytes-replicate (length (streamOf anew) % 2));
+    filler = (length-replicate (length (streamOf rewritten) % 2) 0, bytes-replicate (length (streamOf rewritten) % 2));
   }

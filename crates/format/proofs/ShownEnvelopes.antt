@@ -11,16 +11,16 @@ use lib.IntN.{pos}
 use Rattle.numbers.specs.Numbers.{byteAt, eachFrom}
 use Rattle.blocks.specs.StoredFields.{envelopePosition, envelopeValue}
 use Rattle.blocks.specs.Sizes.{sizeOf}
-use Rattle.blocks.specs.declared.Kind.the-variants.{Envelope as EnvelopeBlock}
+use Rattle.blocks.specs.declared.BlockKind.the-variants.{Envelope as EnvelopeBlock}
 use Rattle.acceptance.proofs.Locating.{PartAt, byteAt-at, number16-at, number16-start}
 use Rattle.acceptance.proofs.Cutting.{Sized}
 use Rattle.envelopes.specs.Shown.{positionShown, valueOf, valueShown, shownEnvelope}
 use Rattle.envelopes.specs.declared.EnvelopeKind.{EnvelopeKind}
-use Rattle.showing.proofs.SameBytes.{each-same, same-if}
+use Rattle.showing_theorems.proofs.SameBytes.{each-same, same-if}
 use Rattle.format.specs.Description.{Envelope}
 use Rattle.format.specs.Encoding.{envelopeBytes}
 use Rattle.format.specs.WellFormed.{noPoint, EnvelopeFits}
-use Rattle.format.specs.Shown.{envelopeRecord}
+use Rattle.format.specs.Shown.{describedEnvelope}
 use Rattle.format.proofs.ReadingBlocks.{envelope-size, envelope-instrument, envelope-flags, envelope-sections}
 use Rattle.format.proofs.ReadingBlocks.{envelope-first-sustain, envelope-loop-first, envelope-loop-last}
 use Rattle.format.proofs.ReadingBlocks.{envelope-second-sustain, envelope-position, envelope-value}
@@ -58,7 +58,7 @@ module _ {instruments : ℕ} {ValueFits : ℕ → Type 0} (e : Envelope) (f : En
         (λ point. cond (leb point (e .sections)) (valueOf kind version (getD (e .points) point noPoint .value)) (pos 0)) 32 0 0
         (λ i h. same-if (leb (0 + i) (e .sections)) (pos 0) (λ used. ap (valueOf kind version) (value (0 + i) (omega arith))))
 
-    pub envelope-shown : (kind : EnvelopeKind) (version : ℕ) → shownEnvelope m kind version at ≡ envelopeRecord kind version e
+    pub envelope-shown : (kind : EnvelopeKind) (version : ℕ) → shownEnvelope m kind version at ≡ describedEnvelope kind version e
     envelope-shown kind version =
         rw (
           number16-start p (omega (arith, size)) ∙ envelope-instrument e (f .many),

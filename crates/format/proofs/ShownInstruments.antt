@@ -6,14 +6,14 @@ use native.Mathlib.Omega.{arith}
 use lib.ListN.{length}
 use Rattle.numbers.specs.Numbers.{number16, number32, bytesFrom}
 use Rattle.blocks.specs.Sizes.{sizeOf}
-use Rattle.blocks.specs.declared.Kind.the-variants.{Instrument as InstrumentKind}
+use Rattle.blocks.specs.declared.BlockKind.the-variants.{Instrument as InstrumentBlock}
 use Rattle.acceptance.proofs.Locating.{PartAt, number16-at, number32-at}
 use Rattle.acceptance.proofs.Cutting.{Sized, part-first}
 use Rattle.instruments.specs.Shown.{shownInstrument}
 use Rattle.format.specs.Description.{Instrument, Sample}
 use Rattle.format.specs.Encoding.{instrumentBytes}
 use Rattle.format.specs.WellFormed.{InstrumentFits}
-use Rattle.format.specs.Shown.{instrumentRecord}
+use Rattle.format.specs.Shown.{describedInstrument}
 use Rattle.format.proofs.ReadingBlocks.{instrument-size, instrument-sample, instrument-volume, instrument-rate}
 use Rattle.format.proofs.ReadingBlocks.{instrument-loop-start, instrument-loop-length, instrument-panning}
 use Rattle.format.proofs.ReadingBlocks.{instrument-flags}
@@ -23,7 +23,7 @@ module _ {samples : List Sample} (i : Instrument) (f : InstrumentFits samples i)
   size : length (instrumentBytes i) ≡ 50
   size = instrument-size i (f .name .0)
 
-  pub instrument-sized : Sized InstrumentKind (instrumentBytes i)
+  pub instrument-sized : Sized InstrumentBlock (instrumentBytes i)
   unfolding sizeOf
   instrument-sized = size
 
@@ -37,7 +37,7 @@ module _ {samples : List Sample} (i : Instrument) (f : InstrumentFits samples i)
     name : bytesFrom m at 30 ≡ i .name
     name = bytes-at (part-first (i .name) _ p) 30 (f .name .0)
 
-    pub instrument-shown : shownInstrument m at ≡ instrumentRecord i
+    pub instrument-shown : shownInstrument m at ≡ describedInstrument i
     instrument-shown =
         rw (
           name,

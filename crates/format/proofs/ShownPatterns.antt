@@ -9,7 +9,7 @@ use lib.ListN.{length, getD, drop}
 use lib.Dec.{ltb}
 use borrow.Author.Tests.{le-leb, eq-eqb}
 use Rattle.refusal.specs.Numbers.{refusal}
-use Rattle.refusal.specs.declared.Cause.the-variants.{Room}
+use Rattle.refusal.specs.declared.Reason.the-variants.{Room}
 use Rattle.refusal.specs.Lengths.{refusedLength, writtenLength, lengthIf, outputIf}
 use Rattle.cells.specs.Cells.{sizesFit, cellBytes, bytesOf, emptyCell}
 use Rattle.cells.specs.Shown.{shownCell}
@@ -24,15 +24,15 @@ use Rattle.packed_rows.proofs.Shapes.{rows-from-shaped, length-bytes}
 use Rattle.packed_rows.proofs.Theorems.{reads-exactly}
 use Rattle.blocks.specs.StoredFields.{packedBytes}
 use Rattle.blocks.specs.Sizes.{sizeOf}
-use Rattle.blocks.specs.declared.Kind.the-variants.{Pattern as PatternKind}
+use Rattle.blocks.specs.declared.BlockKind.the-variants.{Pattern as PatternBlock}
 use Rattle.acceptance.proofs.Locating.{PartAt, number16-start}
 use Rattle.acceptance.proofs.Cutting.{Sized}
 use Rattle.acceptance.proofs.BlockStreams.{TracksFit, stream-same}
-use Rattle.patterns.specs.Shown.{lengthOf}
+use Rattle.patterns.specs.Shown.{lengthOfUnpacking}
 use Rattle.format.specs.Description.{Pattern}
 use Rattle.format.specs.Encoding.{patternBytes}
 use Rattle.format.specs.WellFormed.{PatternFits}
-use Rattle.format.specs.Shown.{notThere, cellRecord, cellsLength, cellsWritten}
+use Rattle.format.specs.Shown.{notThere, describedCell, cellsLength, cellsWritten}
 use Rattle.format.proofs.ReadingBlocks.{pattern-size, pattern-rows, pattern-packed}
 
 -- What is answered of a stream that is read whole.
@@ -47,11 +47,11 @@ module _ (rows tracks : ℕ) (stream : List ℕ) (entries : List (List Entry)) (
       go true shown refused = refl
       go false shown refused = refl
 
-  length-read : (room : ℕ) → lengthOf (streamAnswer stream rows tracks room) ≡ lengthIf (cellBytes rows tracks) room
+  length-read : (room : ℕ) → lengthOfUnpacking (streamAnswer stream rows tracks room) ≡ lengthIf (cellBytes rows tracks) room
   length-read room = simp (fits, reads) (go (ltb room (cellBytes rows tracks)))
     where
       go : (lacks : Bool)
-          → lengthOf (cond lacks (UnpackingRefused (refusal Room (cellBytes rows tracks))) (Unpacked (cellBytes rows tracks)))
+          → lengthOfUnpacking (cond lacks (UnpackingRefused (refusal Room (cellBytes rows tracks))) (Unpacked (cellBytes rows tracks)))
           ≡ cond lacks (refusedLength (refusal Room (cellBytes rows tracks))) (writtenLength (cellBytes rows tracks))
       go true = refl
       go false = refl
@@ -70,7 +70,7 @@ module _ (rows tracks : ℕ) (stream : List ℕ) (entries : List (List Entry)) (
       go false = ap (λ (n : ℕ). cells ++ drop n out) (sym size)
 
 module _ {tracks : ℕ} (p : Pattern) (f : PatternFits tracks p) where
-  pub pattern-sized : Sized PatternKind (patternBytes p)
+  pub pattern-sized : Sized PatternBlock (patternBytes p)
   unfolding sizeOf
   pattern-sized = rw (pattern-packed p) (pattern-size p ∙ ap (λ (n : ℕ). 6 + length (streamOf (p .rows)) + n) (f .filler .0))
 
@@ -94,10 +94,10 @@ module _ {tracks : ℕ} (p : Pattern) (f : PatternFits tracks p) where
       fits : sizesFit (length (p .rows)) tracks ≡ true
       fits = rw (le-leb (length (p .rows)) 65535 (omega (arith, f .many)), le-leb 4 tracks (t .0), le-leb tracks 254 (t .1), eq-eqb (tracks % 2) 0 (t .2))
 
-      pub cell-shown : (row track : ℕ) → cellOf (packedBytes m at) (number16 m at) tracks row track ≡ cellRecord tracks row track p
+      pub cell-shown : (row track : ℕ) → cellOf (packedBytes m at) (number16 m at) tracks row track ≡ describedCell tracks row track p
       cell-shown row track = rw rows-shown (cell-read (length (p .rows)) tracks (packedBytes m at) (p .rows) fits reads row track)
 
-      pub cells-shown : (room : ℕ) → lengthOf (streamAnswer (packedBytes m at) (number16 m at) tracks room) ≡ cellsLength tracks room p
+      pub cells-shown : (room : ℕ) → lengthOfUnpacking (streamAnswer (packedBytes m at) (number16 m at) tracks room) ≡ cellsLength tracks room p
       cells-shown room = rw rows-shown (length-read (length (p .rows)) tracks (packedBytes m at) (p .rows) fits reads room)
 
       pub cells-written : (out : List ℕ) → streamOutput (packedBytes m at) (number16 m at) tracks out ≡ cellsWritten tracks out p

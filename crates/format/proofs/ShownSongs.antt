@@ -12,20 +12,20 @@ use Rattle.refusal.specs.Lengths.{lengthIf, outputOf}
 use Rattle.numbers.specs.Numbers.{bytesFrom, bytes16}
 use Rattle.blocks.specs.StoredFields.{songLength, songEntry}
 use Rattle.blocks.specs.Sizes.{sizeOf}
-use Rattle.blocks.specs.declared.Kind.the-variants.{Song as SongKind}
+use Rattle.blocks.specs.declared.BlockKind.the-variants.{Song as SongBlock}
 use Rattle.acceptance.proofs.Locating.{PartAt, number16-at}
 use Rattle.acceptance.proofs.Cutting.{Sized, part-first, part-rest}
 use Rattle.songs.specs.Shown.{shownSong, entryIn, playlistBytes, playlistSize}
-use Rattle.showing.proofs.SameBytes.{same-if}
+use Rattle.showing_theorems.proofs.SameBytes.{same-if}
 use Rattle.format.specs.Description.{Song}
 use Rattle.format.specs.Encoding.{songBytes}
 use Rattle.format.specs.WellFormed.{SongFits}
-use Rattle.format.specs.Shown.{songRecord, entryRecord, playlistLength, playlistWritten}
+use Rattle.format.specs.Shown.{describedSong, describedEntry, playlistLength, playlistWritten}
 use Rattle.format.proofs.ReadingBlocks.{song-size, song-length, song-entry}
 use Rattle.format.proofs.ShownBlocks.{bytes-at}
 
 module _ {patterns : ℕ} (s : Song) (f : SongFits patterns s) where
-  pub song-sized : Sized SongKind (songBytes s)
+  pub song-sized : Sized SongBlock (songBytes s)
   unfolding sizeOf
   song-sized = rw (song-length s (f .name .0)) (song-size s (f .name .0))
 
@@ -36,13 +36,13 @@ module _ {patterns : ℕ} (s : Song) (f : SongFits patterns s) where
     name : bytesFrom m at 44 ≡ s .name
     name = bytes-at (part-first (s .name) (bytes16 (length (s .playlist)) ++ joined (map bytes16 (s .playlist))) p) 44 (f .name .0)
 
-    pub song-shown : shownSong m at ≡ songRecord s
+    pub song-shown : shownSong m at ≡ describedSong s
     song-shown = rw (name, count)
 
     pattern : (entry : ℕ) → entry < length (s .playlist) → songEntry m at entry ≡ getD (s .playlist) entry 0
     pattern entry h = simp add-assoc (number16-at p (46 + 2 * entry) (omega (arith, song-size s (f .name .0))) ∙ song-entry s (f .name .0) entry h)
 
-    pub entry-shown : (entry : ℕ) → entryIn m at entry ≡ entryRecord entry s
+    pub entry-shown : (entry : ℕ) → entryIn m at entry ≡ describedEntry entry s
     entry-shown entry = rw count (same-if (ltb entry (length (s .playlist))) _ (λ h. rw (pattern entry (ltb-true entry _ h))))
 
     playlist : playlistBytes m at ≡ joined (map bytes16 (s .playlist))

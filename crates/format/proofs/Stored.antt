@@ -7,16 +7,16 @@ use native.Mathlib.Nat.{suc-mul}
 use lib.ListN.{length, getD, length-append}
 use Rattle.vocabulary.specs.Lists.{joined}
 use Rattle.numbers.specs.Numbers.{number16, number32}
-use Rattle.acceptance.proofs.Locating.{PartAt, number16-behind, number32-behind}
+use Rattle.acceptance.proofs.Locating.{PartAt, number16-after, number32-after}
 use Rattle.acceptance.proofs.Cutting.{part-first, part-rest}
 
 -- What stands behind a front of so many bytes.
 module _ (front rest : List ℕ) (at : ℕ) (long : length front ≡ at) where
   pub number16-past : (k : ℕ) → number16 (front ++ rest) (at + k) ≡ number16 rest k
-  number16-past k = rw (← long) (number16-behind front rest k)
+  number16-past k = rw (← long) (number16-after front rest k)
 
   pub number32-past : (k : ℕ) → number32 (front ++ rest) (at + k) ≡ number32 rest k
-  number32-past k = rw (← long) (number32-behind front rest k)
+  number32-past k = rw (← long) (number32-after front rest k)
 
   pub part-past : PartAt (front ++ rest) at rest
   part-past = record { before = front; after = []; bytes = rw append-nil refl; starts = long }

@@ -10,7 +10,7 @@ use Rattle.vocabulary.specs.Letters.{infoLetters}
 use Rattle.vocabulary.proofs.EveryOne.{every-of}
 use Rattle.vocabulary.proofs.MappedLists.{every-map}
 use Rattle.numbers.specs.Numbers.{number32}
-use Rattle.acceptance.specs.Rules.{ChunkBytes, Covered}
+use Rattle.acceptance.specs.Rules.{IsChunk, Covered}
 use Rattle.acceptance.proofs.Locating.{number32-front}
 use Rattle.format.specs.Description.{Info, Chunk, NAME, INFO, SONG, INST, PATT, SMPL, VENV, PENV, Other, Description}
 use Rattle.format.specs.Encoding.{infoBytes, chunkBytes, headerBytes, encoded}
@@ -18,10 +18,10 @@ use Rattle.format.specs.WellFormed.{PatternFits, In, WellFormed}
 use Rattle.format.proofs.EncodedModule.{encoded-chunks}
 use Rattle.format.proofs.Delimited.{front-same, next16, info-same}
 use Rattle.format.proofs.ChunksIn.{every-in, in-every, in-once, in-other, each-same}
-use Rattle.format.proofs.ChunkKinds.{counted, held-as, Told, Plain, kind-same, parts-same, chunk-same}
+use Rattle.format.proofs.ChunkKinds.{counted, held-as, Delimited, Plain, kind-same, parts-same, chunk-same}
 
 -- Chunks that are whole, one behind the other: their bytes cut in one way only.
-chunks-same : (xs ys : List (List ℕ)) → Every ChunkBytes xs → Every ChunkBytes ys → joined xs ≡ joined ys → xs ≡ ys
+chunks-same : (xs ys : List (List ℕ)) → Every IsChunk xs → Every IsChunk ys → joined xs ≡ joined ys → xs ≡ ys
 chunks-same [] [] p q e = refl
 chunks-same [] (y ∷ ys) p (also q qs) e = absurd (omega (arith, q .size, ap length e, length-append y (joined ys)))
 chunks-same (x ∷ xs) [] (also p ps) q e = absurd (omega (arith, p .size, ap length e, length-append x (joined xs)))
@@ -36,30 +36,30 @@ chunks-same (x ∷ xs) (y ∷ ys) (also p ps) (also q qs) e =
 
 -- The chunks of a well-formed description tell their end.
 module _ (d : Description) (w : WellFormed d) where
-  chunk-told : (c : Chunk) → In (d .chunks) c → Told (w .info .tracks) c
-  chunk-told (NAME name) i = tt
-  chunk-told (INFO info) i = tt
-  chunk-told (SONG list) i =
+  chunk-delimited : (c : Chunk) → In (d .chunks) c → Delimited (w .info .tracks) c
+  chunk-delimited (NAME name) i = tt
+  chunk-delimited (INFO info) i = tt
+  chunk-delimited (SONG list) i =
       let same : w .songs ≡ list = cc (in-once (w .once) (w .songsThere) i Covered.song refl) in
       subst (Every (λ s. length (s .name) ≡ 44)) same (every-of (λ s f. f .name .0) (w .lists .songsFit))
-  chunk-told (INST list) i =
+  chunk-delimited (INST list) i =
       let same : w .instruments ≡ list = cc (in-once (w .once) (w .instrumentsThere) i Covered.inst refl) in
       subst (Every (λ s. length (s .name) ≡ 30)) same (every-of (λ s f. f .name .0) (w .lists .instrumentsFit))
-  chunk-told (PATT list) i =
+  chunk-delimited (PATT list) i =
       let same : w .patterns ≡ list = cc (in-once (w .once) (w .patternsThere) i Covered.patt refl) in
       subst (Every (PatternFits (w .info .tracks))) same (w .lists .patternsFit)
-  chunk-told (SMPL list) i = tt
-  chunk-told (VENV list) i = every-of (λ e f. f .many) (w .volumeEnvelopes list i .each)
-  chunk-told (PENV list) i = every-of (λ e f. f .many) (w .panningEnvelopes list i .each)
-  chunk-told (Other letters bytes) i = w .others letters bytes i
+  chunk-delimited (SMPL list) i = tt
+  chunk-delimited (VENV list) i = every-of (λ e f. f .many) (w .volumeEnvelopes list i .each)
+  chunk-delimited (PENV list) i = every-of (λ e f. f .many) (w .panningEnvelopes list i .each)
+  chunk-delimited (Other letters bytes) i = w .others letters bytes i
 
-  whole : Every ChunkBytes (map chunkBytes (d .chunks))
+  whole : Every IsChunk (map chunkBytes (d .chunks))
   whole = encoded-chunks d w .whole
 
   plain : Every (Plain (w .info .tracks)) (d .chunks)
   plain =
       let each = every-map chunkBytes (d .chunks) .0 whole in
-      every-in (d .chunks) (λ c i. record { told = chunk-told c i; whole = in-every each i })
+      every-in (d .chunks) (λ c i. record { delimited = chunk-delimited c i; whole = in-every each i })
 
 module _ (d e : Description) (w : WellFormed d) (v : WellFormed e) (same : encoded d ≡ encoded e) where
   halves : (headerBytes d ≡ headerBytes e) × (joined (map chunkBytes (d .chunks)) ≡ joined (map chunkBytes (e .chunks)))

@@ -61,32 +61,32 @@ envelopeBytes e =
 abbrev pub envelopesBytes : List Envelope → List ℕ
 envelopesBytes es = bytes16 (length es) ++ joined (map envelopeBytes es)
 
--- M5: the identifier of a chunk, and its data.
-abbrev pub identifier : Chunk → List ℕ
-identifier (NAME name) = nameLetters
-identifier (INFO info) = infoLetters
-identifier (SONG songs) = songLetters
-identifier (INST instruments) = instLetters
-identifier (PATT patterns) = pattLetters
-identifier (SMPL samples) = smplLetters
-identifier (VENV envelopes) = venvLetters
-identifier (PENV envelopes) = penvLetters
-identifier (Other letters bytes) = letters
+-- M5: the chunkLetters of a chunk, and its data.
+abbrev pub chunkLetters : Chunk → List ℕ
+chunkLetters (NAME name) = nameLetters
+chunkLetters (INFO info) = infoLetters
+chunkLetters (SONG songs) = songLetters
+chunkLetters (INST instruments) = instLetters
+chunkLetters (PATT patterns) = pattLetters
+chunkLetters (SMPL samples) = smplLetters
+chunkLetters (VENV envelopes) = venvLetters
+chunkLetters (PENV envelopes) = penvLetters
+chunkLetters (Other letters bytes) = letters
 
-abbrev pub contents : Chunk → List ℕ
-contents (NAME name) = name
-contents (INFO info) = infoBytes info
-contents (SONG songs) = joined (map songBytes songs)
-contents (INST instruments) = joined (map instrumentBytes instruments)
-contents (PATT patterns) = joined (map patternBytes patterns)
-contents (SMPL samples) = joined (map sampleBytes samples)
-contents (VENV envelopes) = envelopesBytes envelopes
-contents (PENV envelopes) = envelopesBytes envelopes
-contents (Other letters bytes) = bytes
+abbrev pub chunkData : Chunk → List ℕ
+chunkData (NAME name) = name
+chunkData (INFO info) = infoBytes info
+chunkData (SONG songs) = joined (map songBytes songs)
+chunkData (INST instruments) = joined (map instrumentBytes instruments)
+chunkData (PATT patterns) = joined (map patternBytes patterns)
+chunkData (SMPL samples) = joined (map sampleBytes samples)
+chunkData (VENV envelopes) = envelopesBytes envelopes
+chunkData (PENV envelopes) = envelopesBytes envelopes
+chunkData (Other letters bytes) = bytes
 
--- M5: identifier 4, length 4, and the data.
+-- M5: chunkLetters 4, length 4, and the data.
 abbrev pub chunkBytes : Chunk → List ℕ
-chunkBytes c = identifier c ++ (bytes32 (length (contents c)) ++ contents c)
+chunkBytes c = chunkLetters c ++ (bytes32 (length (chunkData c)) ++ chunkData c)
 
 -- M3: D B M 0, version, revision, the word that is not examined.
 abbrev pub headerBytes : Description → List ℕ

@@ -10,7 +10,7 @@ use lib.Dec.{leb, ltb}
 use lib.IntN.{ℤ, pos, _*ℤ_}
 use Rattle.vocabulary.specs.Lists.{joined}
 use Rattle.refusal.specs.Numbers.{refusal, noRefusal, refusedOutcome}
-use Rattle.refusal.specs.declared.Cause.the-variants.{NotThere}
+use Rattle.refusal.specs.declared.Reason.the-variants.{NotThere}
 use Rattle.refusal.specs.declared.Refusal.{Refusal}
 use Rattle.refusal.specs.Lengths.{refusedLength, lengthIf, outputIf}
 use Rattle.refusal.specs.declared.LengthAnswer.{LengthAnswer}
@@ -29,7 +29,7 @@ use Rattle.envelopes.specs.declared.CountAnswer.{CountAnswer}
 use Rattle.envelopes.specs.declared.EnvelopeAnswer.{EnvelopeAnswer}
 use Rattle.envelopes.specs.declared.EnvelopeKind.{EnvelopeKind}
 use Rattle.envelopes.specs.declared.EnvelopeKind.the-variants.{Volume, Panning}
-use Rattle.patterns.specs.Shown.{noRows, rowsAnswer, cellAnswer, unpackAnswer, unpackOutput}
+use Rattle.patterns.specs.Shown.{noRows, rowsAnswer, cellAnswer, cellsAnswer, cellsOutput}
 use Rattle.patterns.specs.declared.RowsAnswer.{RowsAnswer}
 use Rattle.songs.specs.Shown.{noSong, songAnswer, noEntry, entryAnswer, playlistAnswer, playlistOutput}
 use Rattle.songs.specs.declared.SongAnswer.{SongAnswer}
@@ -43,7 +43,7 @@ use Rattle.instruments.specs.declared.InstrumentAnswer.{InstrumentAnswer}
 use Rattle.format.specs.Description.{Info, Song, Instrument, Pattern, Width, eight, sixteen, thirtyTwo, Sample}
 use Rattle.format.specs.Description.{Envelope, Chunk, NAME, INFO, SONG, INST, PATT, SMPL, VENV, PENV, Description}
 use Rattle.format.specs.Encoding.{flagsOf, frameBytes}
-use Rattle.format.specs.WellFormed.{noSample as emptySample, noPoint, In}
+use Rattle.format.specs.WellFormed.{emptySample, noPoint, In}
 
 -- Q1: 18.
 abbrev pub notThere : Refusal
@@ -55,19 +55,26 @@ listed show refused other first xs number =
     cond (leb first number && ltb (number - first) (length xs)) (show (getD xs (number - first) other)) refused
 
 -- Q4.
-abbrev pub versionRecord : Description → VersionAnswer
-versionRecord d = record { outcome = noRefusal; version = d .version; revision = d .revision }
+abbrev pub describedVersion : Description → VersionAnswer
+describedVersion d = record { outcome = noRefusal; version = d .version; revision = d .revision }
 
 -- Q5: the name, and 44 zeros where there is none.
-abbrev pub Named : List Chunk → List ℕ → Type 0
-Named chunks name = In chunks (NAME name) ⊎ ((name ≡ replicate 44 0) × ((other : List ℕ) → In chunks (NAME other) → ⊥))
+abbrev pub HasName : List Chunk → List ℕ → Type 0
+HasName chunks name = In chunks (NAME name) ⊎ ((name ≡ replicate 44 0) × ((other : List ℕ) → In chunks (NAME other) → ⊥))
 
-abbrev pub nameRecord : List ℕ → NameAnswer
-nameRecord name = record { outcome = noRefusal; name = name }
+abbrev pub describedName : List ℕ → NameAnswer
+describedName name = record { outcome = noRefusal; name = name }
 
 -- Q6.
-abbrev pub infoRecord : Info → InfoAnswer
-infoRecord i = record { outcome = noRefusal; instruments = i .instruments; samples = i .samples; songs = i .songs; patterns = i .patterns; tracks = i .tracks }
+abbrev pub describedInfo : Info → InfoAnswer
+describedInfo i = record {
+  outcome = noRefusal;
+  instruments = i .instruments;
+  samples = i .samples;
+  songs = i .songs;
+  patterns = i .patterns;
+  tracks = i .tracks;
+}
 
 -- Q7: a song, an entry of its playlist, and the playlist.
 abbrev pub emptySong : Song
@@ -76,11 +83,11 @@ emptySong = record { name = []; playlist = [] }
 abbrev pub ofSong : {R : Type 0} → (Song → R) → R → List Song → ℕ → R
 ofSong show refused songs number = listed show refused emptySong 0 songs number
 
-abbrev pub songRecord : Song → SongAnswer
-songRecord s = record { outcome = noRefusal; name = s .name; length = length (s .playlist) }
+abbrev pub describedSong : Song → SongAnswer
+describedSong s = record { outcome = noRefusal; name = s .name; length = length (s .playlist) }
 
-abbrev pub entryRecord : ℕ → Song → EntryAnswer
-entryRecord entry s = cond (ltb entry (length (s .playlist))) (record { outcome = noRefusal; pattern = getD (s .playlist) entry 0 }) (noEntry notThere)
+abbrev pub describedEntry : ℕ → Song → EntryAnswer
+describedEntry entry s = cond (ltb entry (length (s .playlist))) (record { outcome = noRefusal; pattern = getD (s .playlist) entry 0 }) (noEntry notThere)
 
 abbrev pub playlistLength : ℕ → Song → LengthAnswer
 playlistLength room s = lengthIf (2 * length (s .playlist)) room
@@ -92,8 +99,8 @@ playlistWritten out s = outputIf (playlistLength (length out) s) (joined (map by
 abbrev pub emptyInstrument : Instrument
 emptyInstrument = record { name = []; sample = 0; volume = 0; rate = 0; loopStart = 0; loopLength = 0; panning = 0; flags = 0 }
 
-abbrev pub instrumentRecord : Instrument → InstrumentAnswer
-instrumentRecord i = record {
+abbrev pub describedInstrument : Instrument → InstrumentAnswer
+describedInstrument i = record {
   outcome = noRefusal;
   name = i .name;
   sample = i .sample;
@@ -113,16 +120,16 @@ envelopeChunk Panning es = PENV es
 abbrev pub Envelopes : List Chunk → EnvelopeKind → List Envelope → Type 0
 Envelopes chunks kind es = In chunks (envelopeChunk kind es) ⊎ ((es ≡ []) × ((others : List Envelope) → In chunks (envelopeChunk kind others) → ⊥))
 
-abbrev pub countRecord : List Envelope → CountAnswer
-countRecord es = record { outcome = noRefusal; count = length es }
+abbrev pub describedCount : List Envelope → CountAnswer
+describedCount es = record { outcome = noRefusal; count = length es }
 
 abbrev pub emptyEnvelope : Envelope
 emptyEnvelope = record { instrument = 0; flags = 0; sections = 0; firstSustain = 0; loopFirst = 0; loopLast = 0; secondSustain = 0; points = [] }
 
 -- Q9: the points in use are sections + 1, so the last of them has the number of the sections; the others are zeros. A value is as `valueOf`
 -- says: in version 2 a value v of panning is 4v − 128.
-abbrev pub envelopeRecord : EnvelopeKind → ℕ → Envelope → EnvelopeAnswer
-envelopeRecord kind version e = record {
+abbrev pub describedEnvelope : EnvelopeKind → ℕ → Envelope → EnvelopeAnswer
+describedEnvelope kind version e = record {
   outcome = noRefusal;
   instrument = e .instrument;
   flags = e .flags;
@@ -142,11 +149,11 @@ emptyPattern = record { rows = []; filler = [] }
 abbrev pub ofPattern : {R : Type 0} → (Pattern → R) → R → List Pattern → ℕ → R
 ofPattern show refused patterns number = listed show refused emptyPattern 0 patterns number
 
-abbrev pub rowsRecord : Pattern → RowsAnswer
-rowsRecord p = record { outcome = noRefusal; rows = length (p .rows) }
+abbrev pub describedRows : Pattern → RowsAnswer
+describedRows p = record { outcome = noRefusal; rows = length (p .rows) }
 
-abbrev pub cellRecord : ℕ → ℕ → ℕ → Pattern → CellAnswer
-cellRecord tracks row track p =
+abbrev pub describedCell : ℕ → ℕ → ℕ → Pattern → CellAnswer
+describedCell tracks row track p =
     cond (cellThere (length (p .rows)) tracks row track)
     (Found (shownCell (getD (getD (rowsFrom tracks (p .rows)) row []) (track - 1) emptyCell)))
     (Refused notThere)
@@ -161,28 +168,28 @@ cellsWritten tracks out p = outputIf (cellsLength tracks (length out) p) (bytesO
 abbrev pub ofSample : {R : Type 0} → (Sample → R) → R → List Sample → ℕ → R
 ofSample show refused samples number = listed show refused emptySample 1 samples number
 
-abbrev pub sampleRecord : Sample → SampleAnswer
-sampleRecord s = record { outcome = noRefusal; width = 8 * flagsOf (s .width); frames = length (s .frames) }
+abbrev pub describedSample : Sample → SampleAnswer
+describedSample s = record { outcome = noRefusal; width = 8 * flagsOf (s .width); frames = length (s .frames) }
 
 abbrev pub storedFrames : Sample → List ℕ
 storedFrames s = joined (map (frameBytes (s .width)) (s .frames))
 
-abbrev pub frame16 : Width → ℕ → ℤ
-frame16 eight f = signedBy 128 f *ℤ pos 256
-frame16 sixteen f = signed16 f
-frame16 thirtyTwo f = dividedDown (signedBy 2147483648 f)
+abbrev pub at16Bits : Width → ℕ → ℤ
+at16Bits eight f = signedBy 128 f *ℤ pos 256
+at16Bits sixteen f = signed16 f
+at16Bits thirtyTwo f = dividedDown (signedBy 2147483648 f)
 
-abbrev pub frameRecord : ℕ → Sample → FrameAnswer
-frameRecord frame s =
+abbrev pub describedFrame : ℕ → Sample → FrameAnswer
+describedFrame frame s =
     cond (ltb frame (length (s .frames)))
-    (record { outcome = noRefusal; frame = frame16 (s .width) (getD (s .frames) frame 0) })
+    (record { outcome = noRefusal; frame = at16Bits (s .width) (getD (s .frames) frame 0) })
     (noFrame notThere)
 
 abbrev pub framesLength : ℕ → Sample → LengthAnswer
 framesLength room s = lengthIf (2 * length (s .frames)) room
 
 abbrev pub framesWritten : List ℕ → Sample → List ℕ
-framesWritten out s = outputIf (framesLength (length out) s) (joined (map (λ f. bytes16 (unsigned16 (frame16 (s .width) f))) (s .frames))) out
+framesWritten out s = outputIf (framesLength (length out) s) (joined (map (λ f. bytes16 (unsigned16 (at16Bits (s .width) f))) (s .frames))) out
 
 -- Q12: the frames, as a part of the module: the refusal or none, the length, and the bytes. Where the part stands is the module's own.
 pub record ShowsFrames (m : List ℕ) (samples : List Sample) (sample : ℕ) : Type 0 where
@@ -192,37 +199,37 @@ pub record ShowsFrames (m : List ℕ) (samples : List Sample) (sample : ℕ) : T
 
 -- A module shows what a description says, whatever is asked for.
 pub record Shows (m : List ℕ) (d : Description) : Type 0 where
-  pub version : versionAnswer m ≡ versionRecord d
-  pub name : (name : List ℕ) → Named (d .chunks) name → nameAnswer m ≡ nameRecord name
-  pub info : (info : Info) → In (d .chunks) (INFO info) → infoAnswer m ≡ infoRecord info
-  pub song : (songs : List Song) → In (d .chunks) (SONG songs) → (number : ℕ) → songAnswer m number ≡ ofSong songRecord (noSong notThere) songs number
+  pub version : versionAnswer m ≡ describedVersion d
+  pub name : (name : List ℕ) → HasName (d .chunks) name → nameAnswer m ≡ describedName name
+  pub info : (info : Info) → In (d .chunks) (INFO info) → infoAnswer m ≡ describedInfo info
+  pub song : (songs : List Song) → In (d .chunks) (SONG songs) → (number : ℕ) → songAnswer m number ≡ ofSong describedSong (noSong notThere) songs number
   pub entry : (songs : List Song) → In (d .chunks) (SONG songs) → (number entry : ℕ)
-      → entryAnswer m number entry ≡ ofSong (entryRecord entry) (noEntry notThere) songs number
+      → entryAnswer m number entry ≡ ofSong (describedEntry entry) (noEntry notThere) songs number
   pub playlist : (songs : List Song) → In (d .chunks) (SONG songs) → (number room : ℕ)
       → playlistAnswer m number room ≡ ofSong (playlistLength room) (refusedLength notThere) songs number
   pub playlistOut : (songs : List Song) → In (d .chunks) (SONG songs) → (number : ℕ) (out : List ℕ)
       → playlistOutput m number out ≡ ofSong (playlistWritten out) out songs number
   pub instrument : (instruments : List Instrument) → In (d .chunks) (INST instruments) → (number : ℕ)
-      → instrumentAnswer m number ≡ listed instrumentRecord (noInstrument notThere) emptyInstrument 1 instruments number
-  pub envelopes : (kind : EnvelopeKind) (es : List Envelope) → Envelopes (d .chunks) kind es → countAnswer m kind ≡ countRecord es
+      → instrumentAnswer m number ≡ listed describedInstrument (noInstrument notThere) emptyInstrument 1 instruments number
+  pub envelopes : (kind : EnvelopeKind) (es : List Envelope) → Envelopes (d .chunks) kind es → countAnswer m kind ≡ describedCount es
   pub envelope : (kind : EnvelopeKind) (es : List Envelope) → Envelopes (d .chunks) kind es → (number : ℕ)
-      → envelopeAnswer m kind number ≡ listed (envelopeRecord kind (d .version)) (noEnvelope notThere) emptyEnvelope 0 es number
+      → envelopeAnswer m kind number ≡ listed (describedEnvelope kind (d .version)) (noEnvelope notThere) emptyEnvelope 0 es number
   pub rows : (patterns : List Pattern) → In (d .chunks) (PATT patterns) → (number : ℕ)
-      → rowsAnswer m number ≡ ofPattern rowsRecord (noRows notThere) patterns number
+      → rowsAnswer m number ≡ ofPattern describedRows (noRows notThere) patterns number
   pub cell : (info : Info) (patterns : List Pattern) → In (d .chunks) (INFO info) → In (d .chunks) (PATT patterns)
       → (number row track : ℕ)
-      → cellAnswer m number row track ≡ ofPattern (cellRecord (info .tracks) row track) (Refused notThere) patterns number
+      → cellAnswer m number row track ≡ ofPattern (describedCell (info .tracks) row track) (Refused notThere) patterns number
   pub cells : (info : Info) (patterns : List Pattern) → In (d .chunks) (INFO info) → In (d .chunks) (PATT patterns)
       → (number room : ℕ)
-      → unpackAnswer m number room ≡ ofPattern (cellsLength (info .tracks) room) (refusedLength notThere) patterns number
+      → cellsAnswer m number room ≡ ofPattern (cellsLength (info .tracks) room) (refusedLength notThere) patterns number
   pub cellsOut : (info : Info) (patterns : List Pattern) → In (d .chunks) (INFO info) → In (d .chunks) (PATT patterns)
       → (number : ℕ) (out : List ℕ)
-      → unpackOutput m number out ≡ ofPattern (cellsWritten (info .tracks) out) out patterns number
+      → cellsOutput m number out ≡ ofPattern (cellsWritten (info .tracks) out) out patterns number
   pub sample : (samples : List Sample) → In (d .chunks) (SMPL samples) → (number : ℕ)
-      → sampleAnswer m number ≡ ofSample sampleRecord (noSample notThere) samples number
+      → sampleAnswer m number ≡ ofSample describedSample (noSample notThere) samples number
   pub frames : (samples : List Sample) → In (d .chunks) (SMPL samples) → (number : ℕ) → ShowsFrames m samples number
   pub frame : (samples : List Sample) → In (d .chunks) (SMPL samples) → (number frame : ℕ)
-      → frameAnswer m number frame ≡ ofSample (frameRecord frame) (noFrame notThere) samples number
+      → frameAnswer m number frame ≡ ofSample (describedFrame frame) (noFrame notThere) samples number
   pub allFrames : (samples : List Sample) → In (d .chunks) (SMPL samples) → (number room : ℕ)
       → allFramesAnswer m number room ≡ ofSample (framesLength room) (refusedLength notThere) samples number
   pub allFramesOut : (samples : List Sample) → In (d .chunks) (SMPL samples) → (number : ℕ) (out : List ℕ)

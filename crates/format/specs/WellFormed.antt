@@ -13,7 +13,7 @@ use Rattle.acceptance.specs.Rules.{Covered, NeedsInfo, PanningFits, VolumeFits,
 use Rattle.format.specs.Description.{Info, Song, Instrument, Pattern, Width, eight, sixteen, thirtyTwo, Sample, Point}
 use Rattle.format.specs.Description.{Envelope, Chunk, NAME, INFO, SONG, INST, PATT, SMPL, VENV, PENV, Other}
 use Rattle.format.specs.Description.{Description}
-use Rattle.format.specs.Encoding.{identifier, contents, encoded}
+use Rattle.format.specs.Encoding.{chunkLetters, chunkData, encoded}
 
 -- So many bytes.
 abbrev pub ManyBytes : ℕ → List ℕ → Type 0
@@ -48,12 +48,12 @@ abbrev pub Looped : Instrument → Type 0
 Looped i = (1 ≤ i .loopLength) × ((i .flags % 2 ≡ 1) ⊎ (i .flags / 2 % 2 ≡ 1))
 
 -- A sample of no frames, which stands for one that is not there.
-abbrev pub noSample : Sample
-noSample = record { width = eight; frames = [] }
+abbrev pub emptySample : Sample
+emptySample = record { width = eight; frames = [] }
 
 -- V6: how many frames a sample has, counted from 1.
 abbrev pub framesOf : List Sample → ℕ → ℕ
-framesOf samples number = length (getD samples (number - 1) noSample .frames)
+framesOf samples number = length (getD samples (number - 1) emptySample .frames)
 
 -- B3, V2, V6.
 pub record InstrumentFits (samples : List Sample) (i : Instrument) : Type 0 where
@@ -111,7 +111,7 @@ pub record EnvelopesFit (instruments : ℕ) (ValueFits : ℕ → Type 0) (es : L
   pub many : Fits16 (length es)
   pub each : Every (EnvelopeFits instruments ValueFits) es
 
--- M5, M6: the identifier of another chunk is four letters A to Z, and none of the eight; its data are bytes.
+-- M5, M6: the chunkLetters of another chunk is four letters A to Z, and none of the eight; its data are bytes.
 pub record OtherFits (letters held : List ℕ) : Type 0 where
   pub four : length letters ≡ 4
   pub capitals : Every (λ letter. (65 ≤ letter) × (letter ≤ 90)) letters
@@ -129,12 +129,12 @@ abbrev pub Once : List Chunk → Type 0
 Once chunks =
     (before between after : List Chunk) (one two : Chunk)
     → chunks ≡ before ++ (one ∷ (between ++ (two ∷ after)))
-    → Covered (identifier one) → identifier one ≡ identifier two
+    → Covered (chunkLetters one) → chunkLetters one ≡ chunkLetters two
     → ⊥
 
 -- M7: INFO stands before SONG, INST, PATT and SMPL.
 abbrev pub InfoFirst : List Chunk → Type 0
-InfoFirst chunks = (before after : List Chunk) (c : Chunk) → chunks ≡ before ++ (c ∷ after) → NeedsInfo (identifier c) → (info : Info) × In before (INFO info)
+InfoFirst chunks = (before after : List Chunk) (c : Chunk) → chunks ≡ before ++ (c ∷ after) → NeedsInfo (chunkLetters c) → (info : Info) × In before (INFO info)
 
 -- What the mandatory chunks hold.
 pub record ListsFit (info : Info) (songs : List Song) (instruments : List Instrument) (patterns : List Pattern) (samples : List Sample) : Type 0 where
@@ -159,7 +159,7 @@ pub record WellFormed (d : Description) : Type 0 where
   pub revision : (d .revision / 16 ≤ 9) × (d .revision % 16 ≤ 9)
   pub reserved : Fits16 (d .reserved)
   -- M5 to M7: the chunks.
-  pub lengths : Every (λ c. Fits32 (length (contents c))) (d .chunks)
+  pub lengths : Every (λ c. Fits32 (length (chunkData c))) (d .chunks)
   pub once : Once (d .chunks)
   pub infoFirst : InfoFirst (d .chunks)
   pub others : (letters bytes : List ℕ) → In (d .chunks) (Other letters bytes) → OtherFits letters bytes

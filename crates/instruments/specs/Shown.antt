@@ -9,7 +9,7 @@ use Rattle.refusal.specs.declared.Refusal.{Refusal}
 use Rattle.numbers.specs.Numbers.{signed16}
 use Rattle.blocks.specs.StoredFields.{instrumentName, instrumentSample, instrumentVolume, instrumentRate}
 use Rattle.blocks.specs.StoredFields.{instrumentLoopStart, instrumentLoopLength, instrumentPanning, instrumentFlags}
-use Rattle.blocks.specs.declared.Thing.the-variants.{Instrument}
+use Rattle.blocks.specs.declared.RecordKind.the-variants.{Instrument}
 use Rattle.queries.specs.Finding.{found}
 use Rattle.queries.specs.declared.Found.{Found}
 use Rattle.queries.specs.declared.Found.the-variants.{At, Refused}

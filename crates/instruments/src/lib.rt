@@ -1,5 +1,5 @@
 // Instruments, all fields as stored. The query gives the module's own refusal, then 18.
-use blocks::Thing;
+use blocks::RecordKind;
 use blocks::stored::instrument_flags;
 use blocks::stored::instrument_loop_length;
 use blocks::stored::instrument_loop_start;
@@ -79,7 +79,7 @@ fn instrument_at(m: &[u8], at: usize) -> InstrumentAnswer
 pub fn instrument(m: &[u8], instrument: usize) -> InstrumentAnswer
     ensures { λ r. ⌜ r ≡ instrumentAnswer (now (m .entry)) instrument ⌝ }
 {
-    match find(m, Thing::Instrument, instrument) {
+    match find(m, RecordKind::Instrument, instrument) {
         Found::At(b) => instrument_at(m, b.at),
         Found::Refused(r) => no_instrument(r),
     }

@@ -8,65 +8,73 @@ use lib.Dec.{eqb}
 use borrow.Author.Tests.{eqb-true}
 use Rattle.refusal.specs.Rules.{firstBroken}
 use Rattle.numbers.specs.Numbers.{number32}
-use Rattle.layout.specs.Chunks.{NAME, INFO, SONG, INST, PATT, SMPL, VENV, PENV, Chunk, covered, occurs, chunkRules}
-use Rattle.layout.specs.Outlines.{standing, placeOf, placesOf, mandatoryThere}
-use Rattle.layout.specs.declared.Place.{Place}
+use Rattle.layout.specs.Chunks.{nameIdentifier, infoIdentifier, songIdentifier, instIdentifier, pattIdentifier, smplIdentifier, venvIdentifier}
+use Rattle.layout.specs.Chunks.{penvIdentifier, ChunkHeader, covered, occurs, chunkRules}
+use Rattle.layout.specs.Outlines.{standing, spanOf, spansOf, mandatoryThere}
+use Rattle.layout.specs.declared.ChunkSpan.{ChunkSpan}
 use Rattle.layout.specs.Steps.{presentIn, putIn, placedRules, allPresent}
 
 -- A chunk has a place where it occurs.
-pub present-of : (k : ℕ) (cs : List Chunk) → (placeOf k cs) .present ≡ occurs k cs
+pub present-of : (k : ℕ) (cs : List ChunkHeader) → (spanOf k cs) .present ≡ occurs k cs
 present-of k [] = refl
 present-of k (c ∷ cs) = go (eqb (c .identifier) k) refl (present-of k cs)
   where
-    go : (b : Bool) → eqb (c .identifier) k ≡ b → (placeOf k cs) .present ≡ occurs k cs → (placeOf k (c ∷ cs)) .present ≡ occurs k (c ∷ cs)
+    go : (b : Bool) → eqb (c .identifier) k ≡ b → (spanOf k cs) .present ≡ occurs k cs → (spanOf k (c ∷ cs)) .present ≡ occurs k (c ∷ cs)
     go true t more = simp t
     go false t more = simp t more
 
-pub present-all : (cs : List Chunk) → allPresent (placesOf cs) ≡ mandatoryThere cs
-present-all cs = simp (present-of INFO cs, present-of SONG cs, present-of INST cs, present-of PATT cs, present-of SMPL cs)
+pub present-all : (cs : List ChunkHeader) → allPresent (spansOf cs) ≡ mandatoryThere cs
+present-all cs =
+    simp (
+      present-of infoIdentifier cs,
+      present-of songIdentifier cs,
+      present-of instIdentifier cs,
+      present-of pattIdentifier cs,
+      present-of smplIdentifier cs,
+    )
 
-module _ (cs : List Chunk) (identifier : ℕ) where
+module _ (cs : List ChunkHeader) (identifier : ℕ) where
   -- Of a test for one identifier, and what occurs under it.
-  present-one : (k : ℕ) → (eqb identifier k && (placeOf k cs) .present) ≡ (eqb identifier k && occurs identifier cs)
+  present-one : (k : ℕ) → (eqb identifier k && (spanOf k cs) .present) ≡ (eqb identifier k && occurs identifier cs)
   present-one k = go (eqb identifier k) refl
     where
-      go : (b : Bool) → eqb identifier k ≡ b → (eqb identifier k && (placeOf k cs) .present) ≡ (eqb identifier k && occurs identifier cs)
+      go : (b : Bool) → eqb identifier k ≡ b → (eqb identifier k && (spanOf k cs) .present) ≡ (eqb identifier k && occurs identifier cs)
       go true t = simp t (present-of k cs ∙ ap (λ (i : ℕ). occurs i cs) (sym (eqb-true identifier k t)))
       go false t = simp t
 
-  pub present-in : presentIn (placesOf cs) identifier ≡ (covered identifier && occurs identifier cs)
+  pub present-in : presentIn (spansOf cs) identifier ≡ (covered identifier && occurs identifier cs)
   present-in =
       simp (
-        present-one NAME,
-        present-one INFO,
-        present-one SONG,
-        present-one INST,
-        present-one PATT,
-        present-one SMPL,
-        present-one VENV,
-        present-one PENV,
+        present-one nameIdentifier,
+        present-one infoIdentifier,
+        present-one songIdentifier,
+        present-one instIdentifier,
+        present-one pattIdentifier,
+        present-one smplIdentifier,
+        present-one venvIdentifier,
+        present-one penvIdentifier,
         or-assoc,
         and-or-distrib-right,
       )
 
-pub rules-placed : (m : List ℕ) (cs : List Chunk) (at : ℕ) → firstBroken (placedRules m at (placesOf cs)) ≡ firstBroken (chunkRules m cs at)
-rules-placed m cs at = rw (present-in cs (number32 m at), present-of INFO cs)
+pub rules-placed : (m : List ℕ) (cs : List ChunkHeader) (at : ℕ) → firstBroken (placedRules m at (spansOf cs)) ≡ firstBroken (chunkRules m cs at)
+rules-placed m cs at = rw (present-in cs (number32 m at), present-of infoIdentifier cs)
 
 -- One chunk more, behind those that do not have its identifier.
-behind : (a b o : Bool) (x y z z′ : Place) → (b && (a || o)) ≡ false → ((b && o) ≡ false → z′ ≡ cond b y z) → cond a x z′ ≡ cond b y (cond a x z)
+behind : (a b o : Bool) (x y z z′ : ChunkSpan) → (b && (a || o)) ≡ false → ((b && o) ≡ false → z′ ≡ cond b y z) → cond a x z′ ≡ cond b y (cond a x z)
 behind true true o x y z z′ h more = absurd (true≢false h)
 behind true false o x y z z′ h more = refl
 behind false true o x y z z′ h more = more h
 behind false false o x y z z′ h more = more refl
 
-more-of : (k : ℕ) (c : Chunk) (cs : List Chunk) → (eqb (c .identifier) k && occurs k cs) ≡ false
-    → placeOf k (cs ++ (c ∷ [])) ≡ cond (eqb (c .identifier) k) (standing c) (placeOf k cs)
+more-of : (k : ℕ) (c : ChunkHeader) (cs : List ChunkHeader) → (eqb (c .identifier) k && occurs k cs) ≡ false
+    → spanOf k (cs ++ (c ∷ [])) ≡ cond (eqb (c .identifier) k) (standing c) (spanOf k cs)
 more-of k c [] h = refl
 more-of k c (d ∷ ds) h =
-    behind (eqb (d .identifier) k) (eqb (c .identifier) k) (occurs k ds) (standing d) (standing c) (placeOf k ds)
-    (placeOf k (ds ++ (c ∷ []))) h (more-of k c ds)
+    behind (eqb (d .identifier) k) (eqb (c .identifier) k) (occurs k ds) (standing d) (standing c) (spanOf k ds)
+    (spanOf k (ds ++ (c ∷ []))) h (more-of k c ds)
 
-module _ (c : Chunk) (cs : List Chunk) (new : (covered (c .identifier) && occurs (c .identifier) cs) ≡ false) where
+module _ (c : ChunkHeader) (cs : List ChunkHeader) (new : (covered (c .identifier) && occurs (c .identifier) cs) ≡ false) where
   not-before : (k : ℕ) → covered k ≡ true → (eqb (c .identifier) k && occurs k cs) ≡ false
   not-before k is = go (eqb (c .identifier) k) refl
     where
@@ -77,18 +85,18 @@ module _ (c : Chunk) (cs : List Chunk) (new : (covered (c .identifier) && occurs
           simp t (ap (λ (b : Bool). b && occurs k cs) (sym is) ∙ new-k)
       go false t = simp t
 
-  more-places : (k : ℕ) → covered k ≡ true → placeOf k (cs ++ (c ∷ [])) ≡ cond (eqb (c .identifier) k) (standing c) (placeOf k cs)
+  more-places : (k : ℕ) → covered k ≡ true → spanOf k (cs ++ (c ∷ [])) ≡ cond (eqb (c .identifier) k) (standing c) (spanOf k cs)
   more-places k is = more-of k c cs (not-before k is)
 
-  pub put-more : putIn (placesOf cs) (c .identifier) (standing c) ≡ placesOf (cs ++ (c ∷ []))
+  pub put-more : putIn (spansOf cs) (c .identifier) (standing c) ≡ spansOf (cs ++ (c ∷ []))
   put-more =
       simp (
-        more-places NAME refl,
-        more-places INFO refl,
-        more-places SONG refl,
-        more-places INST refl,
-        more-places PATT refl,
-        more-places SMPL refl,
-        more-places VENV refl,
-        more-places PENV refl,
+        more-places nameIdentifier refl,
+        more-places infoIdentifier refl,
+        more-places songIdentifier refl,
+        more-places instIdentifier refl,
+        more-places pattIdentifier refl,
+        more-places smplIdentifier refl,
+        more-places venvIdentifier refl,
+        more-places penvIdentifier refl,
       )

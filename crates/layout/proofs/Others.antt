@@ -9,9 +9,10 @@ use borrow.Author.Tests.{leb-true}
 use Rattle.refusal.specs.Rules.{firstBroken}
 use Rattle.refusal.specs.declared.Verdict.the-variants.{Accepted}
 use Rattle.numbers.specs.Numbers.{number32}
-use Rattle.layout.specs.Chunks.{NAME, INFO, SONG, INST, PATT, SMPL, VENV, PENV, needsInfo, covered, fourLetters}
-use Rattle.layout.specs.declared.Place.{Place}
-use Rattle.layout.specs.declared.Places.{Places}
+use Rattle.layout.specs.Chunks.{nameIdentifier, infoIdentifier, songIdentifier, instIdentifier, pattIdentifier, smplIdentifier, venvIdentifier}
+use Rattle.layout.specs.Chunks.{penvIdentifier, needsInfo, covered, fourLetters}
+use Rattle.layout.specs.declared.ChunkSpan.{ChunkSpan}
+use Rattle.layout.specs.declared.ChunkSpans.{ChunkSpans}
 use Rattle.layout.specs.Steps.{putIn, isOther, OthersTo, placedRules}
 
 and-left : (a b : Bool) → (a && b) ≡ true → a ≡ true
@@ -38,72 +39,73 @@ module _ (m : List ℕ) (at : ℕ) (is : isOther m at ≡ true) where
   header : leb (at + 8) (length m) ≡ true
   header = and-left (leb (at + 8) (length m)) _ is
 
-  behind-header : (leb (at + 8 + number32 m (at + 4)) (length m) && (fourLetters m at && not (covered (number32 m at)))) ≡ true
-  behind-header = and-right (leb (at + 8) (length m)) _ is
+  after-header : (leb (at + 8 + number32 m (at + 4)) (length m) && (fourLetters m at && not (covered (number32 m at)))) ≡ true
+  after-header = and-right (leb (at + 8) (length m)) _ is
 
   room : leb (at + 8 + number32 m (at + 4)) (length m) ≡ true
-  room = and-left (leb (at + 8 + number32 m (at + 4)) (length m)) _ behind-header
+  room = and-left (leb (at + 8 + number32 m (at + 4)) (length m)) _ after-header
 
-  behind-room : (fourLetters m at && not (covered (number32 m at))) ≡ true
-  behind-room = and-right (leb (at + 8 + number32 m (at + 4)) (length m)) _ behind-header
+  after-room : (fourLetters m at && not (covered (number32 m at))) ≡ true
+  after-room = and-right (leb (at + 8 + number32 m (at + 4)) (length m)) _ after-header
 
   letters : fourLetters m at ≡ true
-  letters = and-left (fourLetters m at) _ behind-room
+  letters = and-left (fourLetters m at) _ after-room
 
   uncovered : covered (number32 m at) ≡ false
-  uncovered = not-holds _ (and-right (fourLetters m at) _ behind-room)
+  uncovered = not-holds _ (and-right (fourLetters m at) _ after-room)
 
   pub other-end : at + 8 + number32 m (at + 4) ≤ length m
   other-end = leb-true _ _ room
 
   -- It has none of the eight identifiers.
-  n1 : eqb (number32 m at) NAME ≡ false
-  n1 = or-left (eqb (number32 m at) NAME) _ uncovered
+  n1 : eqb (number32 m at) nameIdentifier ≡ false
+  n1 = or-left (eqb (number32 m at) nameIdentifier) _ uncovered
 
-  past-name : (eqb (number32 m at) INFO || (needsInfo (number32 m at) || (eqb (number32 m at) VENV || eqb (number32 m at) PENV))) ≡ false
-  past-name = or-right (eqb (number32 m at) NAME) _ uncovered
+  past-name : (eqb (number32 m at) infoIdentifier || (needsInfo (number32 m at) || (eqb (number32 m at) venvIdentifier || eqb (number32 m at) penvIdentifier)))
+      ≡ false
+  past-name = or-right (eqb (number32 m at) nameIdentifier) _ uncovered
 
-  n2 : eqb (number32 m at) INFO ≡ false
-  n2 = or-left (eqb (number32 m at) INFO) _ past-name
+  n2 : eqb (number32 m at) infoIdentifier ≡ false
+  n2 = or-left (eqb (number32 m at) infoIdentifier) _ past-name
 
-  past-info : (needsInfo (number32 m at) || (eqb (number32 m at) VENV || eqb (number32 m at) PENV)) ≡ false
-  past-info = or-right (eqb (number32 m at) INFO) _ past-name
+  past-info : (needsInfo (number32 m at) || (eqb (number32 m at) venvIdentifier || eqb (number32 m at) penvIdentifier)) ≡ false
+  past-info = or-right (eqb (number32 m at) infoIdentifier) _ past-name
 
   needs : needsInfo (number32 m at) ≡ false
   needs = or-left (needsInfo (number32 m at)) _ past-info
 
-  envelopes : (eqb (number32 m at) VENV || eqb (number32 m at) PENV) ≡ false
+  envelopes : (eqb (number32 m at) venvIdentifier || eqb (number32 m at) penvIdentifier) ≡ false
   envelopes = or-right (needsInfo (number32 m at)) _ past-info
 
-  n7 : eqb (number32 m at) VENV ≡ false
-  n7 = or-left (eqb (number32 m at) VENV) _ envelopes
+  n7 : eqb (number32 m at) venvIdentifier ≡ false
+  n7 = or-left (eqb (number32 m at) venvIdentifier) _ envelopes
 
-  n8 : eqb (number32 m at) PENV ≡ false
-  n8 = or-right (eqb (number32 m at) VENV) _ envelopes
+  n8 : eqb (number32 m at) penvIdentifier ≡ false
+  n8 = or-right (eqb (number32 m at) venvIdentifier) _ envelopes
 
-  n3 : eqb (number32 m at) SONG ≡ false
-  n3 = or-left (eqb (number32 m at) SONG) _ needs
+  n3 : eqb (number32 m at) songIdentifier ≡ false
+  n3 = or-left (eqb (number32 m at) songIdentifier) _ needs
 
-  past-song : (eqb (number32 m at) INST || (eqb (number32 m at) PATT || eqb (number32 m at) SMPL)) ≡ false
-  past-song = or-right (eqb (number32 m at) SONG) _ needs
+  past-song : (eqb (number32 m at) instIdentifier || (eqb (number32 m at) pattIdentifier || eqb (number32 m at) smplIdentifier)) ≡ false
+  past-song = or-right (eqb (number32 m at) songIdentifier) _ needs
 
-  n4 : eqb (number32 m at) INST ≡ false
-  n4 = or-left (eqb (number32 m at) INST) _ past-song
+  n4 : eqb (number32 m at) instIdentifier ≡ false
+  n4 = or-left (eqb (number32 m at) instIdentifier) _ past-song
 
-  past-inst : (eqb (number32 m at) PATT || eqb (number32 m at) SMPL) ≡ false
-  past-inst = or-right (eqb (number32 m at) INST) _ past-song
+  past-inst : (eqb (number32 m at) pattIdentifier || eqb (number32 m at) smplIdentifier) ≡ false
+  past-inst = or-right (eqb (number32 m at) instIdentifier) _ past-song
 
-  n5 : eqb (number32 m at) PATT ≡ false
-  n5 = or-left (eqb (number32 m at) PATT) _ past-inst
+  n5 : eqb (number32 m at) pattIdentifier ≡ false
+  n5 = or-left (eqb (number32 m at) pattIdentifier) _ past-inst
 
-  n6 : eqb (number32 m at) SMPL ≡ false
-  n6 = or-right (eqb (number32 m at) PATT) _ past-inst
+  n6 : eqb (number32 m at) smplIdentifier ≡ false
+  n6 = or-right (eqb (number32 m at) pattIdentifier) _ past-inst
 
-  pub other-holds : (p : Places) → firstBroken (placedRules m at p) ≡ Accepted
+  pub other-holds : (p : ChunkSpans) → firstBroken (placedRules m at p) ≡ Accepted
   other-holds p = simp (header, letters, room, n1, n2, n3, n4, n5, n6, n7, n8)
 
-  pub other-stays : (p : Places) (place : Place) → p ≡ putIn p (number32 m at) place
-  other-stays p place = simp (n1, n2, n3, n4, n5, n6, n7, n8)
+  pub other-stays : (p : ChunkSpans) (span : ChunkSpan) → p ≡ putIn p (number32 m at) span
+  other-stays p span = simp (n1, n2, n3, n4, n5, n6, n7, n8)
 
 -- One more of them.
 pub others-more : (m : List ℕ) (n at end : ℕ) → OthersTo m n at end → isOther m end ≡ true → OthersTo m (suc n) at (end + 8 + number32 m (end + 4))

@@ -5,48 +5,48 @@ use mathlib.Core.Bool.{Bool, false, cond, not, _&&_, _||_}
 use lib.ListN.{length}
 use lib.Dec.{eqb, leb}
 use Rattle.refusal.specs.Rules.{Rule, rule, firstBroken}
-use Rattle.refusal.specs.declared.Cause.the-variants.{ChunkCut, Identifier, Repeated, BeforeInfo, FixedLength, InfoRange}
+use Rattle.refusal.specs.declared.Reason.the-variants.{ChunkCut, Identifier, Repeated, BeforeInfo, FixedLength, InfoRange}
 use Rattle.refusal.specs.declared.Refusal.{Refusal}
 use Rattle.refusal.specs.declared.Verdict.{Verdict}
 use Rattle.refusal.specs.declared.Verdict.the-variants.{Accepted, Refused}
 use Rattle.numbers.specs.Numbers.{byteAt, number16, number32}
 
 -- M6: the identifiers of the covered chunks. An identifier is its four letters, as one number.
-abbrev pub NAME : ℕ
-NAME = 0x4E414D45
+abbrev pub nameIdentifier : ℕ
+nameIdentifier = 0x4E414D45
 
-abbrev pub INFO : ℕ
-INFO = 0x494E464F
+abbrev pub infoIdentifier : ℕ
+infoIdentifier = 0x494E464F
 
-abbrev pub SONG : ℕ
-SONG = 0x534F4E47
+abbrev pub songIdentifier : ℕ
+songIdentifier = 0x534F4E47
 
-abbrev pub INST : ℕ
-INST = 0x494E5354
+abbrev pub instIdentifier : ℕ
+instIdentifier = 0x494E5354
 
-abbrev pub PATT : ℕ
-PATT = 0x50415454
+abbrev pub pattIdentifier : ℕ
+pattIdentifier = 0x50415454
 
-abbrev pub SMPL : ℕ
-SMPL = 0x534D504C
+abbrev pub smplIdentifier : ℕ
+smplIdentifier = 0x534D504C
 
-abbrev pub VENV : ℕ
-VENV = 0x56454E56
+abbrev pub venvIdentifier : ℕ
+venvIdentifier = 0x56454E56
 
-abbrev pub PENV : ℕ
-PENV = 0x50454E56
+abbrev pub penvIdentifier : ℕ
+penvIdentifier = 0x50454E56
 
 -- M5: a chunk: its identifier, the place of its header, and the length of its data.
-pub record Chunk : Type 0 where
+pub record ChunkHeader : Type 0 where
   pub identifier : ℕ
   pub at : ℕ
   pub length : ℕ
 
-abbrev pub chunkAt : List ℕ → ℕ → Chunk
+abbrev pub chunkAt : List ℕ → ℕ → ChunkHeader
 chunkAt m at = record { identifier = number32 m at; at = at; length = number32 m (at + 4) }
 
 -- M5: the place behind a chunk: its header has 8 bytes, and no padding follows the data.
-abbrev pub chunkEnd : Chunk → ℕ
+abbrev pub chunkEnd : ChunkHeader → ℕ
 chunkEnd c = c .at + 8 + c .length
 
 -- M5: a letter A to Z, and the four letters of an identifier.
@@ -56,28 +56,30 @@ isLetter byte = leb 65 byte && leb byte 90
 abbrev pub fourLetters : List ℕ → ℕ → Bool
 fourLetters m at = isLetter (byteAt m at) && (isLetter (byteAt m (at + 1)) && (isLetter (byteAt m (at + 2)) && isLetter (byteAt m (at + 3))))
 
--- M7: the four that INFO stands before.
+-- M7: the four that infoIdentifier stands before.
 abbrev pub needsInfo : ℕ → Bool
-needsInfo identifier = eqb identifier SONG || (eqb identifier INST || (eqb identifier PATT || eqb identifier SMPL))
+needsInfo identifier = eqb identifier songIdentifier || (eqb identifier instIdentifier || (eqb identifier pattIdentifier || eqb identifier smplIdentifier))
 
 -- M6: the covered chunks.
 abbrev pub covered : ℕ → Bool
-covered identifier = eqb identifier NAME || (eqb identifier INFO || (needsInfo identifier || (eqb identifier VENV || eqb identifier PENV)))
+covered identifier =
+    eqb identifier nameIdentifier
+    || (eqb identifier infoIdentifier || (needsInfo identifier || (eqb identifier venvIdentifier || eqb identifier penvIdentifier)))
 
 -- Whether a chunk with this identifier is among these.
-abbrev pub occurs : ℕ → List Chunk → Bool
+abbrev pub occurs : ℕ → List ChunkHeader → Bool
 occurs identifier [] = false
 occurs identifier (c ∷ cs) = eqb (c .identifier) identifier || occurs identifier cs
 
--- M8, M9: NAME has 44 bytes, INFO 10.
-abbrev pub lengthFits : Chunk → Bool
-lengthFits c = (not (eqb (c .identifier) NAME) || eqb (c .length) 44) && (not (eqb (c .identifier) INFO) || eqb (c .length) 10)
+-- M8, M9: nameIdentifier has 44 bytes, infoIdentifier 10.
+abbrev pub lengthFits : ChunkHeader → Bool
+lengthFits c = (not (eqb (c .identifier) nameIdentifier) || eqb (c .length) 44) && (not (eqb (c .identifier) infoIdentifier) || eqb (c .length) 10)
 
 -- M9: an even number of tracks, from 4 to 254.
 abbrev pub tracksFit : ℕ → Bool
 tracksFit tracks = leb 4 tracks && (leb tracks 254 && eqb (tracks % 2) 0)
 
--- M9: the five numbers of INFO, whose data begin here. (Source document 001 allows other tracks and samples; 000 stands.)
+-- M9: the five numbers of infoIdentifier, whose data begin here. (Source document 001 allows other tracks and samples; 000 stands.)
 abbrev pub infoRules : List ℕ → ℕ → List Rule
 infoRules m start =
     rule (leb (number16 m start) 255) InfoRange start
@@ -88,32 +90,32 @@ infoRules m start =
     ∷ []
 
 -- F12: the rules of the chunk at a place, by the chunks before it: 4, 5, 4, 6, 7, 9, 10.
-abbrev pub chunkRules : List ℕ → List Chunk → ℕ → List Rule
+abbrev pub chunkRules : List ℕ → List ChunkHeader → ℕ → List Rule
 chunkRules m before at =
     rule (leb (at + 8) (length m)) ChunkCut at
     ∷ rule (fourLetters m at) Identifier at
     ∷ rule (leb (chunkEnd (chunkAt m at)) (length m)) ChunkCut at
     ∷ rule (not (covered (number32 m at) && occurs (number32 m at) before)) Repeated at
-    ∷ rule (not (needsInfo (number32 m at)) || occurs INFO before) BeforeInfo at
+    ∷ rule (not (needsInfo (number32 m at)) || occurs infoIdentifier before) BeforeInfo at
     ∷ rule (lengthFits (chunkAt m at)) FixedLength at
-    ∷ cond (eqb (number32 m at) INFO) (infoRules m (at + 8)) []
+    ∷ cond (eqb (number32 m at) infoIdentifier) (infoRules m (at + 8)) []
 
 -- What reading the chunks gives: all of them, or the first refusal.
 pub data Walk : Type 0 where
-  whole : List Chunk → Walk
+  complete : List ChunkHeader → Walk
   stopped : Refusal → Walk
 
 -- Reading goes on behind a chunk that is accepted.
-abbrev pub goOn : Verdict → Walk → Walk
-goOn Accepted after = after
-goOn (Refused r) after = stopped r
+abbrev pub walkOn : Verdict → Walk → Walk
+walkOn Accepted after = after
+walkOn (Refused r) after = stopped r
 
 -- M5: the chunks from a place on, behind those before it. The first number bounds the steps: a chunk has 8 bytes at least.
-unfoldable pub chunksFrom : ℕ → List ℕ → List Chunk → ℕ → Walk
-chunksFrom zero m before at = whole before
+unfoldable pub chunksFrom : ℕ → List ℕ → List ChunkHeader → ℕ → Walk
+chunksFrom zero m before at = complete before
 chunksFrom (suc steps) m before at =
-    cond (leb (length m) at) (whole before)
-    (goOn (firstBroken (chunkRules m before at)) (chunksFrom steps m (before ++ (chunkAt m at ∷ [])) (chunkEnd (chunkAt m at))))
+    cond (leb (length m) at) (complete before)
+    (walkOn (firstBroken (chunkRules m before at)) (chunksFrom steps m (before ++ (chunkAt m at ∷ [])) (chunkEnd (chunkAt m at))))
 
 -- M5: the chunks of a module stand behind its header.
 unfoldable pub chunks : List ℕ → Walk

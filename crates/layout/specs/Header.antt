@@ -5,7 +5,7 @@ use mathlib.Core.Bool.{Bool, _&&_, _||_}
 use lib.ListN.{length}
 use lib.Dec.{eqb, leb}
 use Rattle.refusal.specs.Rules.{Rule, rule}
-use Rattle.refusal.specs.declared.Cause.the-variants.{TooLong, NotAModule, Version}
+use Rattle.refusal.specs.declared.Reason.the-variants.{TooLong, NotAModule, Version}
 use Rattle.numbers.specs.Numbers.{byteAt, number32}
 
 -- M3: at least 8 bytes, which begin with DBM0.

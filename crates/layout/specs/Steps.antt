@@ -7,59 +7,60 @@ use lib.ListN.{length}
 use lib.Dec.{eqb, leb}
 use Rattle.refusal.specs.Numbers.{refusal}
 use Rattle.refusal.specs.Rules.{Rule, rule}
-use Rattle.refusal.specs.declared.Cause.the-variants.{ChunkCut, Identifier, Repeated, BeforeInfo, Missing, FixedLength}
+use Rattle.refusal.specs.declared.Reason.the-variants.{ChunkCut, Identifier, Repeated, BeforeInfo, Missing, FixedLength}
 use Rattle.numbers.specs.Numbers.{number32}
-use Rattle.layout.specs.Chunks.{NAME, INFO, SONG, INST, PATT, SMPL, VENV, PENV, needsInfo, covered, fourLetters, infoRules, Walk, whole, stopped}
-use Rattle.layout.specs.Outlines.{placesOf, layoutWith}
+use Rattle.layout.specs.Chunks.{nameIdentifier, infoIdentifier, songIdentifier, instIdentifier, pattIdentifier, smplIdentifier, venvIdentifier}
+use Rattle.layout.specs.Chunks.{penvIdentifier, needsInfo, covered, fourLetters, infoRules, Walk, complete, stopped}
+use Rattle.layout.specs.Outlines.{spansOf, layoutWith}
 use Rattle.layout.specs.declared.Outline.{Outline}
 use Rattle.layout.specs.declared.Outline.the-variants.{Found, Refused as OutlineRefused}
-use Rattle.layout.specs.declared.Place.{Place}
-use Rattle.layout.specs.declared.Places.{Places}
+use Rattle.layout.specs.declared.ChunkSpan.{ChunkSpan}
+use Rattle.layout.specs.declared.ChunkSpans.{ChunkSpans}
 use Rattle.layout.specs.declared.walk.Walked.{Walked}
 use Rattle.layout.specs.declared.walk.Walked.the-variants.{Whole, Refused}
 
-abbrev pub presentIn : Places → ℕ → Bool
+abbrev pub presentIn : ChunkSpans → ℕ → Bool
 presentIn p identifier =
-    (eqb identifier NAME && p .name .present)
-    || ((eqb identifier INFO && p .info .present)
-    || ((eqb identifier SONG && p .song .present)
-    || ((eqb identifier INST && p .inst .present)
-    || ((eqb identifier PATT && p .patt .present)
-    || ((eqb identifier SMPL && p .smpl .present)
-    || ((eqb identifier VENV && p .venv .present)
-    || (eqb identifier PENV && p .penv .present)))))))
+    (eqb identifier nameIdentifier && p .name .present)
+    || ((eqb identifier infoIdentifier && p .info .present)
+    || ((eqb identifier songIdentifier && p .song .present)
+    || ((eqb identifier instIdentifier && p .inst .present)
+    || ((eqb identifier pattIdentifier && p .patt .present)
+    || ((eqb identifier smplIdentifier && p .smpl .present)
+    || ((eqb identifier venvIdentifier && p .venv .present)
+    || (eqb identifier penvIdentifier && p .penv .present)))))))
 
-abbrev pub putIn : Places → ℕ → Place → Places
-putIn p identifier place = record {
-  name = cond (eqb identifier NAME) place (p .name);
-  info = cond (eqb identifier INFO) place (p .info);
-  song = cond (eqb identifier SONG) place (p .song);
-  inst = cond (eqb identifier INST) place (p .inst);
-  patt = cond (eqb identifier PATT) place (p .patt);
-  smpl = cond (eqb identifier SMPL) place (p .smpl);
-  venv = cond (eqb identifier VENV) place (p .venv);
-  penv = cond (eqb identifier PENV) place (p .penv);
+abbrev pub putIn : ChunkSpans → ℕ → ChunkSpan → ChunkSpans
+putIn p identifier span = record {
+  name = cond (eqb identifier nameIdentifier) span (p .name);
+  info = cond (eqb identifier infoIdentifier) span (p .info);
+  song = cond (eqb identifier songIdentifier) span (p .song);
+  inst = cond (eqb identifier instIdentifier) span (p .inst);
+  patt = cond (eqb identifier pattIdentifier) span (p .patt);
+  smpl = cond (eqb identifier smplIdentifier) span (p .smpl);
+  venv = cond (eqb identifier venvIdentifier) span (p .venv);
+  penv = cond (eqb identifier penvIdentifier) span (p .penv);
 }
 
-abbrev pub lengthOf : ℕ → ℕ → Bool
-lengthOf identifier length = (not (eqb identifier NAME) || eqb length 44) && (not (eqb identifier INFO) || eqb length 10)
+abbrev pub fixedLengthFits : ℕ → ℕ → Bool
+fixedLengthFits identifier length = (not (eqb identifier nameIdentifier) || eqb length 44) && (not (eqb identifier infoIdentifier) || eqb length 10)
 
 -- The rules of chunkRules from the fourth on, and all of them, by where the covered chunks before the place stand.
-abbrev pub metRules : List ℕ → ℕ → ℕ → ℕ → Places → List Rule
+abbrev pub metRules : List ℕ → ℕ → ℕ → ℕ → ChunkSpans → List Rule
 metRules m at identifier length p =
     rule (not (presentIn p identifier)) Repeated at
     ∷ rule (not (needsInfo identifier) || p .info .present) BeforeInfo at
-    ∷ rule (lengthOf identifier length) FixedLength at
-    ∷ cond (eqb identifier INFO) (infoRules m (at + 8)) []
+    ∷ rule (fixedLengthFits identifier length) FixedLength at
+    ∷ cond (eqb identifier infoIdentifier) (infoRules m (at + 8)) []
 
-abbrev pub placedRules : List ℕ → ℕ → Places → List Rule
+abbrev pub placedRules : List ℕ → ℕ → ChunkSpans → List Rule
 placedRules m at p =
     rule (leb (at + 8) (length m)) ChunkCut at
     ∷ rule (fourLetters m at) Identifier at
     ∷ rule (leb (at + 8 + number32 m (at + 4)) (length m)) ChunkCut at
     ∷ metRules m at (number32 m at) (number32 m (at + 4)) p
 
--- Whether a whole chunk that is stepped over begins at a place; and so many of them, from one place to another.
+-- Whether a complete chunk that is stepped over begins at a place; and so many of them, from one place to another.
 abbrev pub isOther : List ℕ → ℕ → Bool
 isOther m at = leb (at + 8) (length m) && (leb (at + 8 + number32 m (at + 4)) (length m) && (fourLetters m at && not (covered (number32 m at))))
 
@@ -69,12 +70,12 @@ OthersTo m (suc n) at end = (isOther m at ≡ true) × OthersTo m n (at + 8 + nu
 
 -- What the walk over the chunks gives.
 abbrev pub walked : Walk → Walked
-walked (whole cs) = Whole (placesOf cs)
+walked (complete cs) = Whole (spansOf cs)
 walked (stopped r) = Refused r
 
 -- What follows once the chunks are read, by where the covered ones stand.
-abbrev pub allPresent : Places → Bool
+abbrev pub allPresent : ChunkSpans → Bool
 allPresent p = p .info .present && (p .song .present && (p .inst .present && (p .patt .present && p .smpl .present)))
 
-abbrev pub outlineWith : List ℕ → Places → Outline
+abbrev pub outlineWith : List ℕ → ChunkSpans → Outline
 outlineWith m p = cond (allPresent p) (Found (layoutWith m p)) (OutlineRefused (refusal Missing (length m)))

@@ -1,7 +1,7 @@
 // The size of a module and its header: refusals 1, 2, 3.
 use numbers::byte;
 use numbers::number32;
-use refusal::Cause;
+use refusal::Reason;
 use refusal::Verdict;
 use refusal::refuse;
 ghost use mathlib.Core.Path.{_≡_};
@@ -27,13 +27,13 @@ pub fn check_header(m: &[u8]) -> Verdict
     ensures { λ r. ⌜ r ≡ firstBroken (headerRules (now (m .entry))) ⌝ }
 {
     if 16777216 < m.len() {
-        return Verdict::Refused(refuse(Cause::TooLong, 0));
+        return Verdict::Refused(refuse(Reason::TooLong, 0));
     }
     if !header_fits(m) {
-        return Verdict::Refused(refuse(Cause::NotAModule, 0));
+        return Verdict::Refused(refuse(Reason::NotAModule, 0));
     }
     if !version_fits(byte(m, 4), byte(m, 5)) {
-        return Verdict::Refused(refuse(Cause::Version, 4));
+        return Verdict::Refused(refuse(Reason::Version, 4));
     }
     Verdict::Accepted
 }

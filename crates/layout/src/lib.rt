@@ -7,7 +7,7 @@ use crate::walk::Walked;
 use crate::walk::walk_chunks;
 use numbers::byte;
 use numbers::number16;
-use refusal::Cause;
+use refusal::Reason;
 use refusal::Refusal;
 use refusal::Verdict;
 use refusal::refuse;
@@ -17,22 +17,22 @@ ghost use Rattle.layout.specs.Outlines.{layoutWith, outline, outlineNumb
 ghost use Rattle.layout.specs.Steps.{allPresent, outlineWith};
 
 // Where a chunk stands: its header's place and the length of its data. All 0 where there is none.
-pub struct Place {
+pub struct ChunkSpan {
     pub present: bool,
     pub at: u32,
     pub length: u32,
 }
 
 // Where the covered chunks stand.
-pub struct Places {
-    pub name: Place,
-    pub info: Place,
-    pub song: Place,
-    pub inst: Place,
-    pub patt: Place,
-    pub smpl: Place,
-    pub venv: Place,
-    pub penv: Place,
+pub struct ChunkSpans {
+    pub name: ChunkSpan,
+    pub info: ChunkSpan,
+    pub song: ChunkSpan,
+    pub inst: ChunkSpan,
+    pub patt: ChunkSpan,
+    pub smpl: ChunkSpan,
+    pub venv: ChunkSpan,
+    pub penv: ChunkSpan,
 }
 
 // What is known of a module once its chunks are read: header, INFO's numbers, and the chunks' places.
@@ -44,7 +44,7 @@ pub struct Layout {
     pub songs: u16,
     pub patterns: u16,
     pub tracks: u16,
-    pub places: Places,
+    pub spans: ChunkSpans,
 }
 
 // The layout of a module, or a refusal.
@@ -54,14 +54,14 @@ pub enum Outline {
 }
 
 // Whether the mandatory chunks are there.
-fn all_present(p: Places) -> bool
+fn all_present(p: ChunkSpans) -> bool
     ensures { λ r. ⌜ r ≡ allPresent p ⌝ }
 {
     p.info.present & (p.song.present & (p.inst.present & (p.patt.present & p.smpl.present)))
 }
 
 // The layout, from the places of the chunks.
-fn layout_with(m: &[u8], p: Places) -> Layout
+fn layout_with(m: &[u8], p: ChunkSpans) -> Layout
     ensures { λ r. ⌜ r ≡ layoutWith (now (m .entry)) p ⌝ }
 {
     let info = p.info.at as usize;
@@ -73,16 +73,16 @@ fn layout_with(m: &[u8], p: Places) -> Layout
         songs: number16(m, info + 12),
         patterns: number16(m, info + 14),
         tracks: number16(m, info + 16),
-        places: p,
+        spans: p,
     }
 }
 
 // Once the chunks are read: 8.
-fn with_mandatory(m: &[u8], p: Places) -> Outline
+fn with_mandatory(m: &[u8], p: ChunkSpans) -> Outline
     ensures { λ r. ⌜ r ≡ outlineWith (now (m .entry)) p ⌝ }
 {
     if !all_present(p) {
-        return Outline::Refused(refuse(Cause::Missing, m.len()));
+        return Outline::Refused(refuse(Reason::Missing, m.len()));
     }
     Outline::Found(layout_with(m, p))
 }

@@ -1,10 +1,10 @@
 // The walk over the chunks, from the front: refusals 4, 5, 4, 6, 7, 9, 10 for each.
-use crate::Place;
-use crate::Places;
+use crate::ChunkSpan;
+use crate::ChunkSpans;
 use numbers::byte;
 use numbers::number16;
 use numbers::number32;
-use refusal::Cause;
+use refusal::Reason;
 use refusal::Refusal;
 use refusal::Verdict;
 use refusal::refuse;
@@ -16,8 +16,8 @@ ghost use lib.ListN.{length};
 ghost use Rattle.refusal.specs.Rules.{firstBroken};
 ghost use Rattle.numbers.specs.Numbers.{SmallPlace};
 ghost use Rattle.layout.specs.Chunks.{isLetter, fourLetters, needsInfo, covered, tracksFit, infoRules, chunks};
-ghost use Rattle.layout.specs.Outlines.{absent as absentPlace, placesOf};
-ghost use Rattle.layout.specs.Steps.{presentIn, putIn, lengthOf, isOther, OthersTo, metRules, placedRules, walked};
+ghost use Rattle.layout.specs.Outlines.{absent as absentSpan, spansOf};
+ghost use Rattle.layout.specs.Steps.{presentIn, putIn, fixedLengthFits, isOther, OthersTo, metRules, placedRules, walked};
 
 const NAME: u32 = 0x4E414D45;
 
@@ -37,7 +37,7 @@ const PENV: u32 = 0x50454E56;
 
 // What the walk gives: where the covered chunks stand, or a refusal.
 pub enum Walked {
-    Whole(Places),
+    Whole(ChunkSpans),
     Refused(Refusal),
 }
 
@@ -64,7 +64,7 @@ fn needs_info(identifier: u32) -> bool
 }
 
 // Whether a covered chunk with this identifier has been met.
-fn is_present(p: Places, identifier: u32) -> bool
+fn is_present(p: ChunkSpans, identifier: u32) -> bool
     ensures { λ r. ⌜ r ≡ presentIn p identifier ⌝ }
 {
     ((identifier == NAME) & p.name.present)
@@ -79,12 +79,12 @@ fn is_present(p: Places, identifier: u32) -> bool
 
 // Whether the chunk's length is the one that NAME or INFO has; others have any.
 fn length_fits(identifier: u32, length: u32) -> bool
-    ensures { λ r. ⌜ r ≡ lengthOf identifier length ⌝ }
+    ensures { λ r. ⌜ r ≡ fixedLengthFits identifier length ⌝ }
 {
     ((identifier != NAME) | (length == 44)) & ((identifier != INFO) | (length == 10))
 }
 
-fn choose(test: bool, new: Place, old: Place) -> Place
+fn choose(test: bool, new: ChunkSpan, old: ChunkSpan) -> ChunkSpan
     ensures { λ r. ⌜ r ≡ cond test new old ⌝ }
 {
     if test {
@@ -94,18 +94,18 @@ fn choose(test: bool, new: Place, old: Place) -> Place
 }
 
 // The places with that of one more chunk.
-fn put(p: Places, identifier: u32, place: Place) -> Places
-    ensures { λ r. ⌜ r ≡ putIn p identifier place ⌝ }
+fn put(p: ChunkSpans, identifier: u32, span: ChunkSpan) -> ChunkSpans
+    ensures { λ r. ⌜ r ≡ putIn p identifier span ⌝ }
 {
-    Places {
-        name: choose(identifier == NAME, place, p.name),
-        info: choose(identifier == INFO, place, p.info),
-        song: choose(identifier == SONG, place, p.song),
-        inst: choose(identifier == INST, place, p.inst),
-        patt: choose(identifier == PATT, place, p.patt),
-        smpl: choose(identifier == SMPL, place, p.smpl),
-        venv: choose(identifier == VENV, place, p.venv),
-        penv: choose(identifier == PENV, place, p.penv),
+    ChunkSpans {
+        name: choose(identifier == NAME, span, p.name),
+        info: choose(identifier == INFO, span, p.info),
+        song: choose(identifier == SONG, span, p.song),
+        inst: choose(identifier == INST, span, p.inst),
+        patt: choose(identifier == PATT, span, p.patt),
+        smpl: choose(identifier == SMPL, span, p.smpl),
+        venv: choose(identifier == VENV, span, p.venv),
+        penv: choose(identifier == PENV, span, p.penv),
     }
 }
 
@@ -121,36 +121,36 @@ fn check_info(m: &[u8], start: usize) -> Verdict
     ensures { λ r. ⌜ r ≡ firstBroken (infoRules (now (m .entry)) start) ⌝ }
 {
     if 255 < number16(m, start) {
-        return Verdict::Refused(refuse(Cause::InfoRange, start));
+        return Verdict::Refused(refuse(Reason::InfoRange, start));
     }
     if 255 < number16(m, start + 2) {
-        return Verdict::Refused(refuse(Cause::InfoRange, start + 2));
+        return Verdict::Refused(refuse(Reason::InfoRange, start + 2));
     }
     if 32767 < number16(m, start + 4) {
-        return Verdict::Refused(refuse(Cause::InfoRange, start + 4));
+        return Verdict::Refused(refuse(Reason::InfoRange, start + 4));
     }
     if 1024 < number16(m, start + 6) {
-        return Verdict::Refused(refuse(Cause::InfoRange, start + 6));
+        return Verdict::Refused(refuse(Reason::InfoRange, start + 6));
     }
     if !tracks_fit(number16(m, start + 8)) {
-        return Verdict::Refused(refuse(Cause::InfoRange, start + 8));
+        return Verdict::Refused(refuse(Reason::InfoRange, start + 8));
     }
     Verdict::Accepted
 }
 
 // Checks a chunk whose header and data are whole: 6, 7, 9, 10.
-fn check_met(m: &[u8], at: usize, identifier: u32, length: u32, p: Places) -> Verdict
+fn check_met(m: &[u8], at: usize, identifier: u32, length: u32, p: ChunkSpans) -> Verdict
     requires { ⌜ at < 0x80000000 ⌝ }
     ensures { λ r. ⌜ r ≡ firstBroken (metRules (now (m .entry)) at identifier length p) ⌝ }
 {
     if is_present(p, identifier) {
-        return Verdict::Refused(refuse(Cause::Repeated, at));
+        return Verdict::Refused(refuse(Reason::Repeated, at));
     }
     if needs_info(identifier) & !p.info.present {
-        return Verdict::Refused(refuse(Cause::BeforeInfo, at));
+        return Verdict::Refused(refuse(Reason::BeforeInfo, at));
     }
     if !length_fits(identifier, length) {
-        return Verdict::Refused(refuse(Cause::FixedLength, at));
+        return Verdict::Refused(refuse(Reason::FixedLength, at));
     }
     if identifier == INFO {
         return check_info(m, at + 8);
@@ -159,19 +159,19 @@ fn check_met(m: &[u8], at: usize, identifier: u32, length: u32, p: Places) -> Ve
 }
 
 // Checks the chunk at a place, by where the covered chunks before it stand: 4, 5, 4, and then the rest.
-fn check_chunk(m: &[u8], at: usize, p: Places) -> Verdict
+fn check_chunk(m: &[u8], at: usize, p: ChunkSpans) -> Verdict
     requires { ⌜ (at < length (now m)) × (length (now m) ≤ 16777216) ⌝ }
     ensures { λ r. ⌜ r ≡ firstBroken (placedRules (now (m .entry)) at p) ⌝ }
 {
     if m.len() < at + 8 {
-        return Verdict::Refused(refuse(Cause::ChunkCut, at));
+        return Verdict::Refused(refuse(Reason::ChunkCut, at));
     }
     if !four_letters(m, at) {
-        return Verdict::Refused(refuse(Cause::Identifier, at));
+        return Verdict::Refused(refuse(Reason::Identifier, at));
     }
     let length = number32(m, at + 4);
     if m.len() < at + 8 + length as usize {
-        return Verdict::Refused(refuse(Cause::ChunkCut, at));
+        return Verdict::Refused(refuse(Reason::ChunkCut, at));
     }
     check_met(m, at, number32(m, at), length, p)
 }
@@ -210,31 +210,31 @@ fn skip_others(m: &[u8], start: usize) -> usize
 }
 
 // The place of the chunk whose header stands at a place.
-fn standing(at: usize, length: u32) -> Place
+fn standing(at: usize, length: u32) -> ChunkSpan
     requires { ⌜ at < 0x100000000 ⌝ }
     ensures { λ r. ⌜ r ≡ record { present = true; at = at; length = length } ⌝ }
 {
-    Place {
+    ChunkSpan {
         present: true,
         at: at as u32,
         length,
     }
 }
 
-fn absent() -> Place
-    ensures { λ r. ⌜ r ≡ absentPlace ⌝ }
+fn absent() -> ChunkSpan
+    ensures { λ r. ⌜ r ≡ absentSpan ⌝ }
 {
-    Place {
+    ChunkSpan {
         present: false,
         at: 0,
         length: 0,
     }
 }
 
-fn no_places() -> Places
-    ensures { λ r. ⌜ r ≡ placesOf [] ⌝ }
+fn no_places() -> ChunkSpans
+    ensures { λ r. ⌜ r ≡ spansOf [] ⌝ }
 {
-    Places {
+    ChunkSpans {
         name: absent(),
         info: absent(),
         song: absent(),

@@ -65,10 +65,10 @@ unfoldable pub numberFrom : ℕ → List ℕ → ℕ
 numberFrom n [] = n
 numberFrom n (d ∷ ds) = numberFrom (n * 10 + (d - 48)) ds
 
-number-behind : (n : ℕ) (ds : List ℕ) (d : ℕ) → numberFrom n (ds ++ (digit d ∷ [])) ≡ numberFrom n ds * 10 + d
+number-after : (n : ℕ) (ds : List ℕ) (d : ℕ) → numberFrom n (ds ++ (digit d ∷ [])) ≡ numberFrom n ds * 10 + d
 unfolding numberFrom
-number-behind n [] d = omega arith
-number-behind n (first ∷ ds) d = number-behind (n * 10 + (first - 48)) ds d
+number-after n [] d = omega arith
+number-after n (first ∷ ds) d = number-after (n * 10 + (first - 48)) ds d
 
 value-within : (steps n : ℕ) → n < steps → numberFrom 0 (decimal n) ≡ n
 unfolding numberFrom
@@ -80,7 +80,7 @@ value-within (suc steps) n h =
     go true e tenth = rw (decimal-short n (ltb-true _ _ e)) (omega arith)
     go false e tenth =
         let t : 10 ≤ n = ltb-false _ _ e in
-        rw (decimal-long n t, number-behind 0 (decimal (n / 10)) (n % 10), tenth (omega arith)) (omega arith)
+        rw (decimal-long n t, number-after 0 (decimal (n / 10)) (n % 10), tenth (omega arith)) (omega arith)
 
 pub decimal-value : (n : ℕ) → numberFrom 0 (decimal n) ≡ n
 decimal-value n = value-within (suc n) n (omega arith)

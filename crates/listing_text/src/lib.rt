@@ -5,7 +5,7 @@ use crate::text::put_accepted;
 use crate::text::put_refused;
 use crate::text::put_word;
 use layout::Outline;
-use refusal::Cause;
+use refusal::Reason;
 use refusal::Refusal;
 use refusal::refuse;
 ghost use mathlib.Core.Path.{_≡_};
@@ -39,7 +39,7 @@ fn hand_out(text: &[u8], out: &mut [u8]) -> Listing
 {
     let n = text.len();
     if out.len() < n {
-        return Listing::Refused(refuse(Cause::Room, n));
+        return Listing::Refused(refuse(Reason::Room, n));
     }
     put_word(&mut out[..n], 0, text);
     Listing::Written(n)

@@ -2,18 +2,18 @@
 use Prim.Native.Nat.{ℕ}
 use mathlib.Core.List.{List}
 use Rattle.refusal.specs.Rules.{Rule}
-use Rattle.layout.specs.declared.Place.{Place}
-use Rattle.blocks.specs.declared.Kind.{Kind}
-use Rattle.blocks.specs.declared.Kind.the-variants.{Instrument, Pattern}
+use Rattle.layout.specs.declared.ChunkSpan.{ChunkSpan}
+use Rattle.blocks.specs.declared.BlockKind.{BlockKind}
+use Rattle.blocks.specs.declared.BlockKind.the-variants.{Instrument, Pattern}
 use Rattle.module.specs.Loops.{instrumentLoopRules}
 use Rattle.module.specs.Streams.{patternStreamRules}
 use Rattle.module.specs.declared.passes.Pass.{Pass}
 use Rattle.module.specs.declared.passes.Pass.the-variants.{Loops, Streams}
 
-abbrev pub kindIn : Pass → Kind
+abbrev pub kindIn : Pass → BlockKind
 kindIn Loops = Instrument
 kindIn Streams = Pattern
 
-abbrev pub passRules : List ℕ → Place → ℕ → Pass → ℕ → List Rule
+abbrev pub passRules : List ℕ → ChunkSpan → ℕ → Pass → ℕ → List Rule
 passRules m smpl tracks Loops = instrumentLoopRules m smpl
 passRules m smpl tracks Streams = patternStreamRules m tracks

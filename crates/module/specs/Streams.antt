@@ -2,7 +2,7 @@
 use Prim.Native.Nat.{ℕ}
 use mathlib.Core.List.{List, [], _∷_}
 use Rattle.refusal.specs.Rules.{Rule, rule, rulesOfEach, accepted}
-use Rattle.refusal.specs.declared.Cause.the-variants.{Stream}
+use Rattle.refusal.specs.declared.Reason.the-variants.{Stream}
 use Rattle.refusal.specs.declared.Verdict.{Verdict}
 use Rattle.packed_rows.specs.Answers.{checkAnswer}
 use Rattle.layout.specs.declared.Layout.{Layout}

@@ -25,10 +25,10 @@ contentIf m (Refused r) = Refused r
 abbrev pub opened : List ℕ → Outline
 opened m = contentIf m (outline m)
 
-abbrev pub verdictOf : Outline → Verdict
-verdictOf (Found l) = Accepted
-verdictOf (Refused r) = VerdictRefused r
+abbrev pub verdictOfOutline : Outline → Verdict
+verdictOfOutline (Found l) = Accepted
+verdictOfOutline (Refused r) = VerdictRefused r
 
 -- The check of a module.
 abbrev pub moduleVerdict : List ℕ → Verdict
-moduleVerdict m = verdictOf (opened m)
+moduleVerdict m = verdictOfOutline (opened m)

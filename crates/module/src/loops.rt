@@ -1,19 +1,19 @@
 // The loop of an instrument: refusal 14.
-use blocks::Kind;
+use blocks::BlockKind;
 use blocks::block_at;
 use blocks::stored::instrument_flags;
 use blocks::stored::instrument_loop_length;
 use blocks::stored::instrument_loop_start;
 use blocks::stored::instrument_sample;
 use blocks::stored::sample_frames;
-use layout::Place;
-use refusal::Cause;
+use layout::ChunkSpan;
+use refusal::Reason;
 use refusal::Verdict;
 use refusal::refuse;
 ghost use mathlib.Core.Path.{_≡_};
 ghost use Prim.Native.Nat.{_<_};
 ghost use Rattle.refusal.specs.Rules.{firstBroken};
-ghost use Rattle.module.specs.Loops.{loopKind, isLoop, framesOf, loopFits, instrumentLoopRules};
+ghost use Rattle.module.specs.Loops.{loopKind, isLoop, framesOfSample, loopFits, instrumentLoopRules};
 
 // Whether an instrument with these flags and this loop length is looped.
 fn is_looped(flags: u16, length: u32) -> bool
@@ -23,15 +23,15 @@ fn is_looped(flags: u16, length: u32) -> bool
 }
 
 // The frames of a sample, counted from 1.
-fn frames(m: &[u8], chunk: Place, sample: u16) -> u32
+fn frames(m: &[u8], chunk: ChunkSpan, sample: u16) -> u32
     requires { ⌜ 0 < sample ⌝ }
-    ensures { λ r. ⌜ r ≡ framesOf (now (m .entry)) chunk sample ⌝ }
+    ensures { λ r. ⌜ r ≡ framesOfSample (now (m .entry)) chunk sample ⌝ }
 {
-    sample_frames(m, block_at(m, Kind::Sample, chunk, sample - 1))
+    sample_frames(m, block_at(m, BlockKind::Sample, chunk, sample - 1))
 }
 
 // Whether the loop of the instrument at a place, if it has one, is within its sample.
-fn loop_fits(m: &[u8], chunk: Place, at: usize) -> bool
+fn loop_fits(m: &[u8], chunk: ChunkSpan, at: usize) -> bool
     ensures { λ r. ⌜ r ≡ loopFits (now (m .entry)) chunk at ⌝ }
 {
     let length = instrument_loop_length(m, at);
@@ -47,11 +47,11 @@ fn loop_fits(m: &[u8], chunk: Place, at: usize) -> bool
 }
 
 // Checks the loop of the instrument at a place.
-pub fn check_loop(m: &[u8], chunk: Place, at: usize) -> Verdict
+pub fn check_loop(m: &[u8], chunk: ChunkSpan, at: usize) -> Verdict
     ensures { λ r. ⌜ r ≡ firstBroken (instrumentLoopRules (now (m .entry)) chunk at) ⌝ }
 {
     if loop_fits(m, chunk, at) {
         return Verdict::Accepted;
     }
-    Verdict::Refused(refuse(Cause::Loop, at))
+    Verdict::Refused(refuse(Reason::Loop, at))
 }

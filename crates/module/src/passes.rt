@@ -1,11 +1,11 @@
 // A pass over the blocks of a chunk for refusals 14 and 15: over the loops of the instruments, or over the streams of the patterns.
 use crate::loops::check_loop;
 use crate::streams::check_stream;
-use blocks::Kind;
+use blocks::BlockKind;
 use blocks::block_at;
 use blocks::size;
+use layout::ChunkSpan;
 use layout::Layout;
-use layout::Place;
 use refusal::Verdict;
 ghost use mathlib.Core.Path.{_≡_};
 ghost use Rattle.refusal.specs.Rules.{firstBroken, rulesOfEach};
@@ -21,17 +21,17 @@ pub enum Pass {
 }
 
 // The kind of its blocks.
-fn kind_in(pass: Pass) -> Kind
+fn kind_in(pass: Pass) -> BlockKind
     ensures { λ r. ⌜ r ≡ kindIn pass ⌝ }
 {
     match pass {
-        Pass::Loops => Kind::Instrument,
-        Pass::Streams => Kind::Pattern,
+        Pass::Loops => BlockKind::Instrument,
+        Pass::Streams => BlockKind::Pattern,
     }
 }
 
 // Checks the block at a place, in a module with these samples and tracks.
-fn check_at(m: &[u8], pass: Pass, smpl: Place, tracks: u16, at: usize) -> Verdict
+fn check_at(m: &[u8], pass: Pass, smpl: ChunkSpan, tracks: u16, at: usize) -> Verdict
     ensures { λ r. ⌜ r ≡ firstBroken (passRules (now (m .entry)) smpl tracks pass at) ⌝ }
 {
     match pass {
@@ -41,7 +41,14 @@ fn check_at(m: &[u8], pass: Pass, smpl: Place, tracks: u16, at: usize) -> Verdic
 }
 
 // Checks the blocks of a chunk.
-fn check_pass(m: &[u8], pass: Pass, chunk: Place, count: u16, smpl: Place, tracks: u16) -> Verdict
+fn check_pass(
+    m: &[u8],
+    pass: Pass,
+    chunk: ChunkSpan,
+    count: u16,
+    smpl: ChunkSpan,
+    tracks: u16,
+) -> Verdict
     ensures { λ r. ⌜ r ≡ firstBroken (rulesOfEach (passRules (now (m .entry)) smpl tracks pass)
         (blocksOf (now (m .entry)) (kindIn pass) chunk count)) ⌝ }
 {
@@ -62,7 +69,7 @@ fn check_pass(m: &[u8], pass: Pass, chunk: Place, count: u16, smpl: Place, track
 pub fn check_loops(m: &[u8], l: Layout) -> Verdict
     ensures { λ r. ⌜ r ≡ firstBroken (loopRules (now (m .entry)) l) ⌝ }
 {
-    let p = l.places;
+    let p = l.spans;
     check_pass(m, Pass::Loops, p.inst, l.instruments, p.smpl, l.tracks)
 }
 
@@ -70,6 +77,6 @@ pub fn check_loops(m: &[u8], l: Layout) -> Verdict
 pub fn check_streams(m: &[u8], l: Layout) -> Verdict
     ensures { λ r. ⌜ r ≡ firstBroken (streamRules (now (m .entry)) l) ⌝ }
 {
-    let p = l.places;
+    let p = l.spans;
     check_pass(m, Pass::Streams, p.patt, l.patterns, p.smpl, l.tracks)
 }

@@ -1,7 +1,7 @@
 // The packed stream of a pattern: refusal 15.
 use blocks::stored::packed_bytes;
 use blocks::stored::pattern_rows;
-use refusal::Cause;
+use refusal::Reason;
 use refusal::Verdict;
 use refusal::refuse;
 ghost use mathlib.Core.Path.{_≡_};
@@ -26,5 +26,5 @@ pub fn check_stream(m: &[u8], tracks: u16, at: usize) -> Verdict
     if stream_fits(m, tracks, at) {
         return Verdict::Accepted;
     }
-    Verdict::Refused(refuse(Cause::Stream, at))
+    Verdict::Refused(refuse(Reason::Stream, at))
 }

@@ -53,8 +53,8 @@ module _ (xs ys : List ℕ) where
   pub bytes-front : Bytes (xs ++ ys) → Bytes xs
   bytes-front h = bytes-every xs .1 (every-append xs ys .0 (bytes-every (xs ++ ys) .0 h) .0)
 
-  pub bytes-behind : Bytes (xs ++ ys) → Bytes ys
-  bytes-behind h = bytes-every ys .1 (every-append xs ys .0 (bytes-every (xs ++ ys) .0 h) .1)
+  pub bytes-after : Bytes (xs ++ ys) → Bytes ys
+  bytes-after h = bytes-every ys .1 (every-append xs ys .0 (bytes-every (xs ++ ys) .0 h) .1)
 
 -- What `take` and `drop` leave, and a part.
 module _ (n : ℕ) (xs : List ℕ) where
@@ -62,7 +62,7 @@ module _ (n : ℕ) (xs : List ℕ) where
   bytes-take h = bytes-front (take n xs) (drop n xs) (rw take-append-drop h)
 
   pub bytes-drop : Bytes xs → Bytes (drop n xs)
-  bytes-drop h = bytes-behind (take n xs) (drop n xs) (rw take-append-drop h)
+  bytes-drop h = bytes-after (take n xs) (drop n xs) (rw take-append-drop h)
 
 pub bytes-of-part : (m : List ℕ) (at n : ℕ) → Bytes m → Bytes (partOf m at n)
 bytes-of-part m at n h = bytes-take n (drop at m) (bytes-drop at m h)
@@ -72,7 +72,7 @@ pub bytes-joined : (xss : List (List ℕ)) → Every Bytes xss ↔ Bytes (joined
 bytes-joined [] = (λ e. bytes-nil, λ h. none)
 bytes-joined (xs ∷ xss) = (
   λ e. bytes-append xs (joined xss) (every-first e) (bytes-joined xss .0 (every-rest e)),
-  λ h. also (bytes-front xs (joined xss) h) (bytes-joined xss .1 (bytes-behind xs (joined xss) h)),
+  λ h. also (bytes-front xs (joined xss) h) (bytes-joined xss .1 (bytes-after xs (joined xss) h)),
 )
 
 -- Zeros.

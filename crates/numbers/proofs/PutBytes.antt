@@ -2,7 +2,7 @@
 --     put-over    an output that does not reach so far stays as it was
 --     put-there   what the output holds where it reaches so far
 --     put-length  its length stays
---     put-behind  the output is written up to the place
+--     put-after  the output is written up to the place
 --     put-both    two lists put one after the other are both put at once
 --     put-each    so are several
 --     put-front   so are several from the front on
@@ -51,8 +51,8 @@ module _ (xs : List ℕ) (at : ℕ) (out : List ℕ) where
       go false t = ap length (put-over (leb-false (at + length xs) (length out) t))
 
 module _ (front xs : List ℕ) (at : ℕ) (place : length front ≡ at) where
-  pub put-behind : (rest : List ℕ) → length xs ≤ length rest → putAt xs at (front ++ rest) ≡ front ++ (xs ++ drop (length xs) rest)
-  put-behind rest h =
+  pub put-after : (rest : List ℕ) → length xs ≤ length rest → putAt xs at (front ++ rest) ≡ front ++ (xs ++ drop (length xs) rest)
+  put-after rest h =
       let inside : at + length xs ≤ length (front ++ rest) = omega (arith, length-append front rest) in
       let behind : drop (at + length xs) (front ++ rest) ≡ drop (length xs) rest =
       sym (drop-drop (length xs) at (front ++ rest)) ∙ ap (drop (length xs)) (drop-at front rest at place) in
@@ -73,7 +73,7 @@ module _ (xs ys : List ℕ) (at to : ℕ) (out : List ℕ) (e : at + length xs �
       let last : drop (length ys) (drop to out) ≡ drop (at + length (xs ++ ys)) out =
       drop-drop (length ys) to out ∙ ap (λ (k : ℕ). drop k out) end in
       ap (putAt ys to) first
-      ∙ put-behind (take at out ++ xs) ys to before (drop to out) (omega (arith, length-drop to out))
+      ∙ put-after (take at out ++ xs) ys to before (drop to out) (omega (arith, length-drop to out))
       ∙ ap (λ (l : List ℕ). (take at out ++ xs) ++ (ys ++ l)) last
       ∙ append-assoc (take at out) xs (ys ++ drop (at + length (xs ++ ys)) out)
       ∙ ap (λ (l : List ℕ). take at out ++ l) (sym (append-assoc xs ys (drop (at + length (xs ++ ys)) out)))
@@ -93,4 +93,4 @@ put-each (xs ∷ more) at out h =
     ∙ put-both xs (flatten more) at (at + length xs) out refl room
 
 pub put-front : (all : List (List ℕ)) (out : List ℕ) → length (flatten all) ≤ length out → putEach all 0 out ≡ flatten all ++ drop (length (flatten all)) out
-put-front all out h = put-each all 0 out (omega arith) ∙ put-behind [] (flatten all) 0 refl out h
+put-front all out h = put-each all 0 out (omega arith) ∙ put-after [] (flatten all) 0 refl out h

@@ -7,12 +7,12 @@ use lib.ListN.{length, getD, List·getD-map}
 use Rattle.cells.specs.Cells.{Row, emptyCell, cellBytes, rowsOf}
 use Rattle.packed_rows.specs.Entries.{rowFrom, rowsFrom}
 use Rattle.packed_rows.specs.Stream.{AcceptedAs}
-use Rattle.packed_rows.specs.Theorems.{StreamOf}
+use Rattle.packed_rows.specs.Theorems.{SoundStream}
 use Rattle.packed_rows.proofs.Shapes.{Shaped, rows-from-shaped, rows-bytes, length-bytes, getD-bytes}
 use Rattle.packed_rows.proofs.Grammar.{reads-exactly}
 
 module _ {rows tracks : ℕ} {stream cells : List ℕ} (accepted : AcceptedAs rows tracks stream cells) where
-  pub accepted-stream : StreamOf rows tracks stream (accepted .entries)
+  pub accepted-stream : SoundStream rows tracks stream (accepted .entries)
   accepted-stream = reads-exactly rows tracks stream (accepted .entries) .0 (accepted .read)
 
   pub accepted-shaped : Shaped rows tracks (rowsFrom tracks (accepted .entries))

@@ -9,7 +9,7 @@ use native.Mathlib.Nat.{zero-add, zero-mul, suc-mul, add-comm, add-assoc}
 use lib.ListN.{length, getD, take, drop, set, length-append, length-drop}
 use lib.Seq.{drop-drop, take-at, drop-at, take-add, length-take-le}
 use Rattle.vocabulary.specs.Lists.{joined}
-use Rattle.cells.specs.Cells.{Cell, blocksOf, rowOf, emptyCell}
+use Rattle.cells.specs.Cells.{Cell, groupsOf, rowOf, emptyCell}
 use Rattle.packed_rows.specs.Entries.{Entry, entryBytes, fieldsNamed, named, count, store, carryOut, carryAll}
 use Rattle.packed_rows.specs.Stream.{Front, nothing, rowEnd, entry, fault, front, Reading, brokenAt, whole, newRow, addEntry, reading}
 use Rattle.packed_rows.specs.Steps.{RowAhead, storedAt, entryLength}
@@ -19,14 +19,14 @@ use Rattle.packed_rows.proofs.Soundness.{Sound, sound-facts}
 use Rattle.packed_rows.proofs.Shapes.{length-store, joined-row}
 
 -- The block of a number, and another in its place.
-pub block-at : (n size k : ℕ) (l : List ℕ) (d : List ℕ) → k < n → getD (blocksOf n size l) k d ≡ take size (drop (k * size) l)
+pub block-at : (n size k : ℕ) (l : List ℕ) (d : List ℕ) → k < n → getD (groupsOf n size l) k d ≡ take size (drop (k * size) l)
 block-at zero size k l d h = absurd (omega arith)
 block-at (suc n) size zero l d h = rw (zero-mul size)
 block-at (suc n) size (suc k) l d h =
     block-at n size k (drop size l) d (omega arith) ∙ rw (drop-drop (k * size) size l, suc-mul k size, add-comm (k * size) size)
 
 pub block-set : (n size k : ℕ) (l c : List ℕ) → k < n → length c ≡ size → n * size ≤ length l
-    → blocksOf n size (take (k * size) l ++ (c ++ drop (k * size + size) l)) ≡ set (blocksOf n size l) k c
+    → groupsOf n size (take (k * size) l ++ (c ++ drop (k * size + size) l)) ≡ set (groupsOf n size l) k c
 block-set zero size k l c h w f = absurd (omega arith)
 block-set (suc n) size zero l c h w f = rw (zero-mul size, zero-add size, take-at c (drop size l) size w, drop-at c (drop size l) size w)
 block-set (suc n) size (suc k) l c h w f =

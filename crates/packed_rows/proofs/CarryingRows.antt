@@ -11,7 +11,7 @@ use Rattle.refusal.specs.declared.Verdict.the-variants.{Accepted}
 use Rattle.cells.specs.Cells.{Row, rowOf, bytesOf, emptyCell, emptyRow}
 use Rattle.packed_rows.specs.Entries.{Entry, carryAll, rowFrom, rowsFrom}
 use Rattle.packed_rows.specs.Stream.{Reading, whole, reading, readStream, entriesRead, cellsRead}
-use Rattle.packed_rows.specs.Answers.{verdictOf}
+use Rattle.packed_rows.specs.Answers.{verdictOfReading}
 use Rattle.packed_rows.specs.Steps.{RowAhead, Carried, Loaded}
 use Rattle.packed_rows.proofs.ByVerdict.{accepted-reading}
 use Rattle.packed_rows.proofs.Grammar.{reads-from}
@@ -37,7 +37,7 @@ pub record CarryingRows (s : List ℕ) (rows tracks : ℕ) (out : List ℕ) (at 
   pub gives : cellsRead rows tracks s ≡ done ++ bytesOf (rowsFrom tracks later)
 
 module _ (s : List ℕ) (rows tracks : ℕ) where
-  pub rows-first : (out : List ℕ) → verdictOf (readStream rows tracks s) ≡ Accepted → out ≡ replicate (rows * (tracks * 6)) 0
+  pub rows-first : (out : List ℕ) → verdictOfReading (readStream rows tracks s) ≡ Accepted → out ≡ replicate (rows * (tracks * 6)) 0
       → CarryingRows s rows tracks out 0 0 rows
   rows-first out ok zeros =
       let read = accepted-reading (readStream rows tracks s) .0 ok in

@@ -8,11 +8,11 @@ use native.Mathlib.Nat.{add-zero}
 use lib.ListN.{length, getD, drop, length-append, length-drop, drop-of-length-le}
 use lib.Seq.{drop-append-seam, drop-drop, getD-drop, drop-cons}
 use Rattle.refusal.specs.Numbers.{refusal}
-use Rattle.refusal.specs.declared.Cause.the-variants.{Stream}
+use Rattle.refusal.specs.declared.Reason.the-variants.{Stream}
 use Rattle.refusal.specs.declared.Verdict.the-variants.{Accepted, Refused}
 use Rattle.packed_rows.specs.Entries.{Entry, entryBytes, soundEntry}
 use Rattle.packed_rows.specs.Stream.{Front, nothing, rowEnd, entry, fault, front, Reading, brokenAt, whole, newRow, addEntry, reading}
-use Rattle.packed_rows.specs.Answers.{verdictOf}
+use Rattle.packed_rows.specs.Answers.{verdictOfReading}
 use Rattle.packed_rows.specs.Steps.{frontLength}
 use Rattle.packed_rows.proofs.Reading.{front-of, reading-end, reading-over, reading-nothing, reading-fault, reading-row-end, reading-entry}
 use Rattle.packed_rows.proofs.Soundness.{sound-facts}
@@ -65,11 +65,11 @@ module _ (tracks : ℕ) (s rest : List ℕ) (at : ℕ) where
         splits = found .1;
       }
 
-verdict-new-row : (r : Reading) → verdictOf (newRow r) ≡ verdictOf r
+verdict-new-row : (r : Reading) → verdictOfReading (newRow r) ≡ verdictOfReading r
 verdict-new-row (brokenAt p) = refl
 verdict-new-row (whole rows) = refl
 
-verdict-add-entry : (e : Entry) (r : Reading) → verdictOf (addEntry e r) ≡ verdictOf r
+verdict-add-entry : (e : Entry) (r : Reading) → verdictOfReading (addEntry e r) ≡ verdictOfReading r
 verdict-add-entry e (brokenAt p) = refl
 verdict-add-entry e (whole []) = refl
 verdict-add-entry e (whole (es ∷ rows)) = refl
@@ -79,21 +79,21 @@ module _ (s : List ℕ) (tracks rows left at n : ℕ) (some : left ≡ suc rows)
   length-of : {f : Front} → front tracks (drop at s) ≡ f → n ≡ frontLength f
   length-of e = is ∙ ap frontLength e
 
-  pub check-broken : n ≡ 0 → verdictOf (reading tracks left at (drop at s)) ≡ Refused (refusal Stream at)
+  pub check-broken : n ≡ 0 → verdictOfReading (reading tracks left at (drop at s)) ≡ Refused (refusal Stream at)
   check-broken z = go (front tracks (drop at s)) refl
     where
-      go : (f : Front) → front tracks (drop at s) ≡ f → verdictOf (reading tracks left at (drop at s)) ≡ Refused (refusal Stream at)
-      go nothing e = rw some (ap verdictOf (reading-nothing tracks rows at (drop at s) e))
-      go fault e = rw some (ap verdictOf (reading-fault tracks rows at (drop at s) e))
+      go : (f : Front) → front tracks (drop at s) ≡ f → verdictOfReading (reading tracks left at (drop at s)) ≡ Refused (refusal Stream at)
+      go nothing e = rw some (ap verdictOfReading (reading-nothing tracks rows at (drop at s) e))
+      go fault e = rw some (ap verdictOfReading (reading-fault tracks rows at (drop at s) e))
       go (rowEnd rest) e = absurd (omega (arith, length-of e))
       go (entry f rest) e = absurd (omega (arith, length-of e))
 
   pub check-row-end : (n ≡ 0 → ⊥) → getD s at 0 ≡ 0
-      → (verdictOf (reading tracks rows (at + n) (drop (at + n) s)) ≡ verdictOf (reading tracks left at (drop at s))) × (at + n ≤ length s)
+      → (verdictOfReading (reading tracks rows (at + n) (drop (at + n) s)) ≡ verdictOfReading (reading tracks left at (drop at s))) × (at + n ≤ length s)
   check-row-end p z = go (front tracks (drop at s)) refl
     where
       go : (f : Front) → front tracks (drop at s) ≡ f
-          → (verdictOf (reading tracks rows (at + n) (drop (at + n) s)) ≡ verdictOf (reading tracks left at (drop at s))) × (at + n ≤ length s)
+          → (verdictOfReading (reading tracks rows (at + n) (drop (at + n) s)) ≡ verdictOfReading (reading tracks left at (drop at s))) × (at + n ≤ length s)
       go nothing e = absurd (p (length-of e))
       go fault e = absurd (p (length-of e))
       go (rowEnd rest) e =
@@ -104,11 +104,11 @@ module _ (s : List ℕ) (tracks rows left at n : ℕ) (some : left ≡ suc rows)
           absurd (omega (arith, found .track-is, z, sound-facts tracks f (found .sound) .low))
 
   pub check-entry : (n ≡ 0 → ⊥) → (getD s at 0 ≡ 0 → ⊥)
-      → (verdictOf (reading tracks left (at + n) (drop (at + n) s)) ≡ verdictOf (reading tracks left at (drop at s))) × (at + n ≤ length s)
+      → (verdictOfReading (reading tracks left (at + n) (drop (at + n) s)) ≡ verdictOfReading (reading tracks left at (drop at s))) × (at + n ≤ length s)
   check-entry p z = go (front tracks (drop at s)) refl
     where
       go : (f : Front) → front tracks (drop at s) ≡ f
-          → (verdictOf (reading tracks left (at + n) (drop (at + n) s)) ≡ verdictOf (reading tracks left at (drop at s))) × (at + n ≤ length s)
+          → (verdictOfReading (reading tracks left (at + n) (drop (at + n) s)) ≡ verdictOfReading (reading tracks left at (drop at s))) × (at + n ≤ length s)
       go nothing e = absurd (p (length-of e))
       go fault e = absurd (p (length-of e))
       go (rowEnd rest) e = absurd (z (row-end-at tracks s rest at e .byte))
@@ -118,11 +118,11 @@ module _ (s : List ℕ) (tracks rows left at n : ℕ) (some : left ≡ suc rows)
 
 -- With no row left: bytes left over, or the end.
 module _ (s : List ℕ) (tracks at : ℕ) where
-  pub check-over : at < length s → verdictOf (reading tracks 0 at (drop at s)) ≡ Refused (refusal Stream at)
-  check-over h = rw (drop-cons s at 0 h) (ap verdictOf (reading-over tracks at (getD s at 0) (drop (suc at) s)))
+  pub check-over : at < length s → verdictOfReading (reading tracks 0 at (drop at s)) ≡ Refused (refusal Stream at)
+  check-over h = rw (drop-cons s at 0 h) (ap verdictOfReading (reading-over tracks at (getD s at 0) (drop (suc at) s)))
 
-  pub check-end : length s ≤ at → verdictOf (reading tracks 0 at (drop at s)) ≡ Accepted
-  check-end h = rw (drop-of-length-le s h) (ap verdictOf (reading-end tracks at))
+  pub check-end : length s ≤ at → verdictOfReading (reading tracks 0 at (drop at s)) ≡ Accepted
+  check-end h = rw (drop-of-length-le s h) (ap verdictOfReading (reading-end tracks at))
 
 -- What stands at the front lies inside the stream.
 pub front-inside : (s : List ℕ) (tracks at n : ℕ) → n ≡ frontLength (front tracks (drop at s)) → (n ≡ 0 → ⊥) → at + n ≤ length s

@@ -11,7 +11,7 @@ use mir.Val.{boolByte}
 use lib.Dec.{eqb, ltb}
 use lib.ListN.{length, getD, take, drop, length-append, take-append-drop, drop-of-length-le}
 use lib.Seq.{drop-cons, drop-drop}
-use Rattle.cells.specs.Cells.{blocksOf, nonZeros, nonEmpty, nonEmptyCells}
+use Rattle.cells.specs.Cells.{groupsOf, nonZeros, nonEmpty, nonEmptyCells}
 use Rattle.packed_rows.specs.Packer.{nonZero}
 use Rattle.packed_rows.specs.Steps.{oneIf, cellAt}
 use Rattle.packed_rows.proofs.Storing.{non-zeros-append}
@@ -129,7 +129,7 @@ pub record CountingCells (cells : List ℕ) (n count at : ℕ) : Type 0 where
   pub left : ℕ
   pub place : at + left * 6 ≡ length cells
   pub bound : count + left ≤ n
-  pub same : count + nonEmptyCells (blocksOf left 6 (drop at cells)) ≡ nonEmptyCells (blocksOf n 6 cells)
+  pub same : count + nonEmptyCells (groupsOf left 6 (drop at cells)) ≡ nonEmptyCells (groupsOf n 6 cells)
 
 module _ (cells : List ℕ) (n : ℕ) where
   pub counts-first : length cells ≡ n * 6 → CountingCells cells n 0 0
@@ -151,7 +151,7 @@ module _ (cells : List ℕ) (n : ℕ) where
         one-more false k = omega arith
 
         go : (left : ℕ) → at + left * 6 ≡ length cells → count + left ≤ n
-            → count + nonEmptyCells (blocksOf left 6 (drop at cells)) ≡ nonEmptyCells (blocksOf n 6 cells)
+            → count + nonEmptyCells (groupsOf left 6 (drop at cells)) ≡ nonEmptyCells (groupsOf n 6 cells)
             → CountingCells cells n (count + cond (nonEmpty (cellAt cells at)) 1 0) (at + 6)
         go zero e b p = absurd (omega arith)
         go (suc left) e b p =
@@ -160,15 +160,15 @@ module _ (cells : List ℕ) (n : ℕ) where
               left = left;
               place = omega (arith, suc-mul left 6);
               bound = omega (arith, one-le (nonEmpty (cellAt cells at)));
-              same = omega (arith, one-more (nonEmpty (cellAt cells at)) (nonEmptyCells (blocksOf left 6 (drop (at + 6) cells))), p′);
+              same = omega (arith, one-more (nonEmpty (cellAt cells at)) (nonEmptyCells (groupsOf left 6 (drop (at + 6) cells))), p′);
             }
 
-    pub counts-last : CountingCells cells n count at → length cells ≤ at → (count ≡ nonEmptyCells (blocksOf n 6 cells)) × (count ≤ n)
+    pub counts-last : CountingCells cells n count at → length cells ≤ at → (count ≡ nonEmptyCells (groupsOf n 6 cells)) × (count ≤ n)
     counts-last c h = go (c .left) (c .place) (c .bound) (c .same)
       where
         go : (left : ℕ) → at + left * 6 ≡ length cells → count + left ≤ n
-            → count + nonEmptyCells (blocksOf left 6 (drop at cells)) ≡ nonEmptyCells (blocksOf n 6 cells)
-            → (count ≡ nonEmptyCells (blocksOf n 6 cells)) × (count ≤ n)
+            → count + nonEmptyCells (groupsOf left 6 (drop at cells)) ≡ nonEmptyCells (groupsOf n 6 cells)
+            → (count ≡ nonEmptyCells (groupsOf n 6 cells)) × (count ≤ n)
         go zero e b p = (omega arith, omega arith)
         go (suc left) e b p = absurd (omega (arith, suc-mul left 6))
 

@@ -2,27 +2,26 @@
 use Prim.Native.Nat.{ℕ, suc, _+_, _-_, _<_, _≤_}
 use mathlib.Core.Path.{_≡_, refl, _∙_}
 use mathlib.Core.List.{List, [], _∷_}
-use mathlib.Core.Bool.{Bool, true, false, cond}
+use mathlib.Core.Bool.{Bool, true, false, cond, _&&_}
 use native.Mathlib.Omega.{arith}
 use native.Mathlib.Numerals.{add-one}
 use lib.ListN.{length, getD, take, drop, length-drop, drop-of-length-le}
 use lib.Seq.{drop-cons, length-take-le}
 use lib.Dec.{eqb, leb}
 use borrow.Author.Tests.{leb-true, leb-false, lt-leb, le-leb, eqb-true}
-use Rattle.cells.specs.Cells.{both}
 use Rattle.packed_rows.specs.Entries.{soundMask, fieldsNamed}
 use Rattle.packed_rows.specs.Stream.{front}
 use Rattle.packed_rows.specs.Steps.{pieceLength, frontLength}
 
 module _ (tracks track mask : ℕ) (rest : List ℕ) where
   pub front-pair : frontLength (front tracks (track ∷ mask ∷ rest))
-      ≡ cond (both (leb track tracks) (leb (pieceLength track mask) (2 + length rest))) (pieceLength track mask) 0
+      ≡ cond (leb track tracks && leb (pieceLength track mask) (2 + length rest)) (pieceLength track mask) 0
   front-pair = byEnd (eqb track 0) refl
     where
       bySize : (b : Bool) → leb (fieldsNamed mask) (length rest) ≡ b → eqb track 0 ≡ false → leb track tracks ≡ true
           → soundMask mask ≡ true
           → frontLength (front tracks (track ∷ mask ∷ rest))
-          ≡ cond (both (leb track tracks) (leb (pieceLength track mask) (2 + length rest))) (pieceLength track mask) 0
+          ≡ cond (leb track tracks && leb (pieceLength track mask) (2 + length rest)) (pieceLength track mask) 0
       bySize true e z t m =
           let l : 2 + fieldsNamed mask ≤ 2 + length rest = omega (arith, leb-true (fieldsNamed mask) (length rest) e) in
           let n : length (take (fieldsNamed mask) rest) ≡ fieldsNamed mask =
@@ -34,19 +33,19 @@ module _ (tracks track mask : ℕ) (rest : List ℕ) where
 
       byMask : (b : Bool) → soundMask mask ≡ b → eqb track 0 ≡ false → leb track tracks ≡ true
           → frontLength (front tracks (track ∷ mask ∷ rest))
-          ≡ cond (both (leb track tracks) (leb (pieceLength track mask) (2 + length rest))) (pieceLength track mask) 0
+          ≡ cond (leb track tracks && leb (pieceLength track mask) (2 + length rest)) (pieceLength track mask) 0
       byMask true m z t = bySize (leb (fieldsNamed mask) (length rest)) refl z t m
       byMask false m z t = simp (z, t, m, le-leb 0 (2 + length rest) (omega arith))
 
       byTrack : (b : Bool) → leb track tracks ≡ b → eqb track 0 ≡ false
           → frontLength (front tracks (track ∷ mask ∷ rest))
-          ≡ cond (both (leb track tracks) (leb (pieceLength track mask) (2 + length rest))) (pieceLength track mask) 0
+          ≡ cond (leb track tracks && leb (pieceLength track mask) (2 + length rest)) (pieceLength track mask) 0
       byTrack true t z = byMask (soundMask mask) refl z t
       byTrack false t z = simp (z, t)
 
       byEnd : (b : Bool) → eqb track 0 ≡ b
           → frontLength (front tracks (track ∷ mask ∷ rest))
-          ≡ cond (both (leb track tracks) (leb (pieceLength track mask) (2 + length rest))) (pieceLength track mask) 0
+          ≡ cond (leb track tracks && leb (pieceLength track mask) (2 + length rest)) (pieceLength track mask) 0
       byEnd false z = byTrack (leb track tracks) refl z
       byEnd true z =
           let zero : track ≡ 0 = eqb-true track 0 z in
@@ -67,7 +66,7 @@ module _ (s : List ℕ) (at tracks : ℕ) where
 
     pub front-two : 2 ≤ length s - at
         → frontLength (front tracks (drop at s))
-        ≡ cond (both (leb (getD s at 0) tracks) (leb (pieceLength (getD s at 0) (getD s (at + 1) 0)) (length s - at)))
+        ≡ cond (leb (getD s at 0) tracks && leb (pieceLength (getD s at 0) (getD s (at + 1) 0)) (length s - at))
         (pieceLength (getD s at 0) (getD s (at + 1) 0)) 0
     front-two h =
         let size : 2 + length (drop (suc (suc at)) s) ≡ length s - at = omega (arith, length-drop (suc (suc at)) s) in

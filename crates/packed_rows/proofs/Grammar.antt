@@ -12,8 +12,8 @@ use lib.ListN.{length, length-append}
 use Rattle.vocabulary.specs.Lists.{joined}
 use Rattle.packed_rows.specs.Entries.{Entry, entryBytes, soundEntry, rowStream, streamOf}
 use Rattle.packed_rows.specs.Stream.{Reading, brokenAt, whole, newRow, addEntry, reading, readStream}
-use Rattle.packed_rows.specs.Theorems.{every, allSound, StreamOf, StreamFault, faultyEntry, leftOver, rowEndsLack, BrokenAt}
-use Rattle.packed_rows.proofs.Reading.{Neither, nothing-neither, both-true, true-both, front-entry, reading-end}
+use Rattle.packed_rows.specs.Theorems.{every, allSound, SoundStream, StreamFault, faultyEntry, leftOver, rowEndsLack, StreamBroken}
+use Rattle.packed_rows.proofs.Reading.{Neither, nothing-neither, and-true, true-and, front-entry, reading-end}
 use Rattle.packed_rows.proofs.Reading.{reading-over, reading-row-end, reading-entry, reading-broken, along}
 
 -- The bytes of entries.
@@ -21,19 +21,19 @@ abbrev run : List Entry → List ℕ
 run es = joined (map entryBytes es)
 
 -- What reading from a place on says of the stream.
-abbrev Told : ℕ → ℕ → ℕ → List ℕ → Reading → Type 0
-Told tracks rows at s (brokenAt p) = (q : ℕ) × (at + q ≡ p) × BrokenAt rows tracks s q
-Told tracks rows at s (whole entries) = StreamOf rows tracks s entries
+abbrev Says : ℕ → ℕ → ℕ → List ℕ → Reading → Type 0
+Says tracks rows at s (brokenAt p) = (q : ℕ) × (at + q ≡ p) × StreamBroken rows tracks s q
+Says tracks rows at s (whole entries) = SoundStream rows tracks s entries
 
 -- What stands before a broken stream joins the sound bytes before its fault.
-module _ (tracks rows rows′ q : ℕ) (head rest : List ℕ) (b : BrokenAt rows tracks rest q) where
-  broken-behind : (full : List (List Entry)) (unfinished : List Entry) → allSound tracks full ≡ true
+module _ (tracks rows rows′ q : ℕ) (head rest : List ℕ) (b : StreamBroken rows tracks rest q) where
+  broken-after : (full : List (List Entry)) (unfinished : List Entry) → allSound tracks full ≡ true
       → every (soundEntry tracks) unfinished ≡ true
       → streamOf full ++ run unfinished ≡ head ++ (streamOf (b .full) ++ run (b .unfinished))
       → (length (b .full) < rows → length full < rows′)
       → (length (b .full) ≡ rows → b .unfinished ≡ [] → (length full ≡ rows′) × (unfinished ≡ []))
-      → BrokenAt rows′ tracks (head ++ rest) (length head + q)
-  broken-behind full unfinished s t grown less same = record {
+      → StreamBroken rows′ tracks (head ++ rest) (length head + q)
+  broken-after full unfinished s t grown less same = record {
     full = full;
     unfinished = unfinished;
     after = b .after;
@@ -48,9 +48,9 @@ module _ (tracks rows rows′ q : ℕ) (head rest : List ℕ) (b : BrokenAt rows
     ];
   }
 
-broken-row-end : (tracks rows q : ℕ) (rest : List ℕ) → BrokenAt rows tracks rest q → BrokenAt (suc rows) tracks (0 ∷ rest) (1 + q)
+broken-row-end : (tracks rows q : ℕ) (rest : List ℕ) → StreamBroken rows tracks rest q → StreamBroken (suc rows) tracks (0 ∷ rest) (1 + q)
 broken-row-end tracks rows q rest b =
-    broken-behind tracks rows (suc rows) q (0 ∷ []) rest b ([] ∷ b .full) (b .unfinished) (b .fullSound) (b .unfinishedSound)
+    broken-after tracks rows (suc rows) q (0 ∷ []) rest b ([] ∷ b .full) (b .unfinished) (b .fullSound) (b .unfinishedSound)
     refl (λ l. omega arith) (λ l u. (ap suc l, u))
 
 -- A sound entry joins the first row of sound ones.
@@ -58,26 +58,26 @@ first-sound : (tracks : ℕ) (e : Entry) (es : List Entry) (rows : List (List En
     → allSound tracks (es ∷ rows) ≡ true
     → allSound tracks ((e ∷ es) ∷ rows) ≡ true
 first-sound tracks e es rows h s =
-    let u = both-true (every (soundEntry tracks) es) (allSound tracks rows) s in
-    true-both (true-both h (u .0)) (u .1)
+    let u = and-true (every (soundEntry tracks) es) (allSound tracks rows) s in
+    true-and (true-and h (u .0)) (u .1)
 
 broken-entry : (tracks rows q : ℕ) (e : Entry) (rest : List ℕ) → soundEntry tracks e ≡ true
-    → BrokenAt (suc rows) tracks rest q
-    → BrokenAt (suc rows) tracks (entryBytes e ++ rest) (length (entryBytes e) + q)
+    → StreamBroken (suc rows) tracks rest q
+    → StreamBroken (suc rows) tracks (entryBytes e ++ rest) (length (entryBytes e) + q)
 broken-entry tracks rows q e rest h b = go (b .full) refl
   where
-    go : (full : List (List Entry)) → b .full ≡ full → BrokenAt (suc rows) tracks (entryBytes e ++ rest) (length (entryBytes e) + q)
+    go : (full : List (List Entry)) → b .full ≡ full → StreamBroken (suc rows) tracks (entryBytes e ++ rest) (length (entryBytes e) + q)
     go [] p =
-        broken-behind tracks (suc rows) (suc rows) q (entryBytes e) rest b [] (e ∷ b .unfinished) refl
-        (true-both h (b .unfinishedSound)) (rw p) (λ l. omega arith)
+        broken-after tracks (suc rows) (suc rows) q (entryBytes e) rest b [] (e ∷ b .unfinished) refl
+        (true-and h (b .unfinishedSound)) (rw p) (λ l. omega arith)
         (λ l u. absurd (omega (arith, rw p at l)))
     go (es ∷ full) p =
-        broken-behind tracks (suc rows) (suc rows) q (entryBytes e) rest b ((e ∷ es) ∷ full) (b .unfinished)
+        broken-after tracks (suc rows) (suc rows) q (entryBytes e) rest b ((e ∷ es) ∷ full) (b .unfinished)
         (first-sound tracks e es full h (rw p at (b .fullSound))) (b .unfinishedSound)
         (rw p (simp append-assoc)) (λ l. rw p at l) (λ l u. (rw p at l, u))
 
 -- Broken at its front.
-broken-here : (tracks rows : ℕ) (s : List ℕ) → StreamFault rows tracks [] [] s → BrokenAt rows tracks s 0
+broken-here : (tracks rows : ℕ) (s : List ℕ) → StreamFault rows tracks [] [] s → StreamBroken rows tracks s 0
 broken-here tracks rows s why = record {
   full = [];
   unfinished = [];
@@ -97,23 +97,23 @@ neither-here tracks rows [] n = rowEndsLack (omega arith) refl
 neither-here tracks rows (b ∷ s) n = faultyEntry (omega arith) (some-follow b s) (n .0) (n .1)
 
 -- What a reading says is so.
-told : (tracks rows at : ℕ) (s : List ℕ) → Told tracks rows at s (reading tracks rows at s)
-told tracks =
-    along tracks (Told tracks) (λ at. record { count = refl; sound = refl; bytes = refl })
+reported : (tracks rows at : ℕ) (s : List ℕ) → Says tracks rows at s (reading tracks rows at s)
+reported tracks =
+    along tracks (Says tracks) (λ at. record { count = refl; sound = refl; bytes = refl })
     (λ at b s. (0, omega arith, broken-here tracks 0 (b ∷ s) (leftOver refl refl (some-follow b s))))
     (λ rows at s n. (0, omega arith, broken-here tracks (suc rows) s (neither-here tracks rows s n)))
-    row-end-told entry-told
+    row-end-says entry-says
   where
-    row-end-told : (rows at : ℕ) (rest : List ℕ) (r : Reading) → Told tracks rows (at + 1) rest r → Told tracks (suc rows) at (0 ∷ rest) (newRow r)
-    row-end-told rows at rest (brokenAt p) t = (1 + t .0, omega arith, broken-row-end tracks rows (t .0) rest (t .2))
-    row-end-told rows at rest (whole es) t = record { count = ap suc (t .count); sound = t .sound; bytes = ap (λ (l : List ℕ). 0 ∷ l) (t .bytes) }
+    row-end-says : (rows at : ℕ) (rest : List ℕ) (r : Reading) → Says tracks rows (at + 1) rest r → Says tracks (suc rows) at (0 ∷ rest) (newRow r)
+    row-end-says rows at rest (brokenAt p) t = (1 + t .0, omega arith, broken-row-end tracks rows (t .0) rest (t .2))
+    row-end-says rows at rest (whole es) t = record { count = ap suc (t .count); sound = t .sound; bytes = ap (λ (l : List ℕ). 0 ∷ l) (t .bytes) }
 
-    entry-told : (rows at : ℕ) (e : Entry) (rest : List ℕ) (r : Reading) → soundEntry tracks e ≡ true
-        → Told tracks (suc rows) (at + length (entryBytes e)) rest r
-        → Told tracks (suc rows) at (entryBytes e ++ rest) (addEntry e r)
-    entry-told rows at e rest (brokenAt p) h t = (length (entryBytes e) + t .0, omega arith, broken-entry tracks rows (t .0) e rest h (t .2))
-    entry-told rows at e rest (whole []) h t = absurd (omega (arith, t .count))
-    entry-told rows at e rest (whole (es ∷ rows′)) h t =
+    entry-says : (rows at : ℕ) (e : Entry) (rest : List ℕ) (r : Reading) → soundEntry tracks e ≡ true
+        → Says tracks (suc rows) (at + length (entryBytes e)) rest r
+        → Says tracks (suc rows) at (entryBytes e ++ rest) (addEntry e r)
+    entry-says rows at e rest (brokenAt p) h t = (length (entryBytes e) + t .0, omega arith, broken-entry tracks rows (t .0) e rest h (t .2))
+    entry-says rows at e rest (whole []) h t = absurd (omega (arith, t .count))
+    entry-says rows at e rest (whole (es ∷ rows′)) h t =
         record { count = t .count; sound = first-sound tracks e es rows′ h (t .sound); bytes = rw (t .bytes) (simp append-assoc) }
 
 -- Entries, and rows of them, before what is read behind them.
@@ -152,7 +152,7 @@ past-entries : (tracks rows at to : ℕ) (es : List Entry) (s : List ℕ) → ev
 unfolding addEntries
 past-entries tracks rows at to [] s h p = let q : at ≡ to = omega arith in rw q
 past-entries tracks rows at to (e ∷ es) s h p =
-    let u = both-true (soundEntry tracks e) (every (soundEntry tracks) es) h in
+    let u = and-true (soundEntry tracks e) (every (soundEntry tracks) es) h in
     let ih = past-entries tracks rows (at + length (entryBytes e)) to es s (u .1) (omega (arith, length-append (entryBytes e) (run es))) in
     rw append-assoc (reading-entry tracks rows at _ e _ (front-entry tracks e (run es ++ s) (u .0)) ∙ ap (addEntry e) ih)
 
@@ -163,7 +163,7 @@ unfolding addRows
 past-rows tracks left rows at to [] s h n p = let q : at ≡ to = omega arith in let m : left ≡ rows = omega arith in rw (q, m)
 past-rows tracks left zero at to (es ∷ full) s h n p = absurd (omega arith)
 past-rows tracks left (suc rows) at to (es ∷ full) s h n p =
-    let u = both-true (every (soundEntry tracks) es) (allSound tracks full) h in
+    let u = and-true (every (soundEntry tracks) es) (allSound tracks full) h in
     let mid : ℕ = at + length (run es) in
     let ih = past-rows tracks left rows (mid + 1) to full s (u .1) (omega arith)
     (omega (arith, length-append (rowStream es) (streamOf full), length-append (run es) (0 ∷ []))) in
@@ -183,34 +183,34 @@ reading-left tracks at (b ∷ s) h = reading-over tracks at b s
 
 -- Read whole, at any place: exactly the rows of sound entries with their row ends.
 pub reads-from : (rows tracks at : ℕ) (stream : List ℕ) (entries : List (List Entry))
-    → (reading tracks rows at stream ≡ whole entries) ↔ StreamOf rows tracks stream entries
-reads-from rows tracks at stream entries = (λ e. subst (Told tracks rows at stream) e (told tracks rows at stream), back)
+    → (reading tracks rows at stream ≡ whole entries) ↔ SoundStream rows tracks stream entries
+reads-from rows tracks at stream entries = (λ e. subst (Says tracks rows at stream) e (reported tracks rows at stream), back)
   where
-    back : StreamOf rows tracks stream entries → reading tracks rows at stream ≡ whole entries
+    back : SoundStream rows tracks stream entries → reading tracks rows at stream ≡ whole entries
     back h =
         rw (h .bytes ∙ sym (append-nil (streamOf entries)))
         (past-rows tracks 0 rows at _ entries [] (h .sound) (omega (arith, h .count)) refl ∙ ap (addRows entries) (reading-end tracks _) ∙ rows-whole entries)
 
 pub reads-exactly : (rows tracks : ℕ) (stream : List ℕ) (entries : List (List Entry))
-    → (readStream rows tracks stream ≡ whole entries) ↔ StreamOf rows tracks stream entries
+    → (readStream rows tracks stream ≡ whole entries) ↔ SoundStream rows tracks stream entries
 reads-exactly rows tracks = reads-from rows tracks 0
 
 pub reads-one : (rows tracks : ℕ) (stream : List ℕ) (entries entries′ : List (List Entry))
-    → StreamOf rows tracks stream entries → StreamOf rows tracks stream entries′
+    → SoundStream rows tracks stream entries → SoundStream rows tracks stream entries′
     → entries ≡ entries′
 reads-one rows tracks stream entries entries′ h h′ = cc (reads-exactly rows tracks stream entries .1 h, reads-exactly rows tracks stream entries′ .1 h′)
 
 -- Refused, read from any place: exactly the streams broken so many bytes further.
-pub refused-from : (rows tracks at : ℕ) (stream : List ℕ) (p : ℕ) → (reading tracks rows at stream ≡ brokenAt (at + p)) ↔ BrokenAt rows tracks stream p
+pub refused-from : (rows tracks at : ℕ) (stream : List ℕ) (p : ℕ) → (reading tracks rows at stream ≡ brokenAt (at + p)) ↔ StreamBroken rows tracks stream p
 refused-from rows tracks at stream p = (forth, back)
   where
-    forth : reading tracks rows at stream ≡ brokenAt (at + p) → BrokenAt rows tracks stream p
+    forth : reading tracks rows at stream ≡ brokenAt (at + p) → StreamBroken rows tracks stream p
     forth e =
-        let t : Told tracks rows at stream (brokenAt (at + p)) = subst (Told tracks rows at stream) e (told tracks rows at stream) in
+        let t : Says tracks rows at stream (brokenAt (at + p)) = subst (Says tracks rows at stream) e (reported tracks rows at stream) in
         let q : t .0 ≡ p = omega arith in
         rw q at (t .2)
 
-    back : BrokenAt rows tracks stream p → reading tracks rows at stream ≡ brokenAt (at + p)
+    back : StreamBroken rows tracks stream p → reading tracks rows at stream ≡ brokenAt (at + p)
     back b =
         rw (b .splits ∙ append-assoc (streamOf (b .full)) (run (b .unfinished)) (b .after))
         (elim (b .why) [
@@ -237,10 +237,10 @@ refused-from rows tracks at stream p = (forth, back)
             ∙ ap (addEntries (b .unfinished)) (reading-broken tracks k (at + p) (b .after) n)
             ∙ entries-broken (b .unfinished) (at + p))
 
-pub refused-exactly : (rows tracks : ℕ) (stream : List ℕ) (p : ℕ) → (readStream rows tracks stream ≡ brokenAt p) ↔ BrokenAt rows tracks stream p
+pub refused-exactly : (rows tracks : ℕ) (stream : List ℕ) (p : ℕ) → (readStream rows tracks stream ≡ brokenAt p) ↔ StreamBroken rows tracks stream p
 refused-exactly rows tracks stream p = rw zero-add at (refused-from rows tracks 0 stream p)
 
-pub one-place : (rows tracks : ℕ) (stream : List ℕ) (p p′ : ℕ) → BrokenAt rows tracks stream p → BrokenAt rows tracks stream p′ → p ≡ p′
+pub one-place : (rows tracks : ℕ) (stream : List ℕ) (p p′ : ℕ) → StreamBroken rows tracks stream p → StreamBroken rows tracks stream p′ → p ≡ p′
 one-place rows tracks stream p p′ h h′ = cc (refused-exactly rows tracks stream p .1 h, refused-exactly rows tracks stream p′ .1 h′)
 
 pub no-proper-beginning : (rows tracks : ℕ) (a b : List ℕ) (es es′ : List (List Entry)) → readStream rows tracks a ≡ whole es

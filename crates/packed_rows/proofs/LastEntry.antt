@@ -5,17 +5,17 @@ use native.Mathlib.Numerals.{one-add}
 use native.Mathlib.Omega.{arith}
 use mathlib.Core.Path.{_≡_, refl, sym, ap, _∙_}
 use mathlib.Core.List.{List, [], _∷_, _++_}
-use mathlib.Core.Bool.{Bool, true, false, cond}
+use mathlib.Core.Bool.{Bool, true, false, cond, _&&_}
 use borrow.Author.Tests.{eqb-true, eqb-false}
 use lib.ListN.{length, getD, take, drop, set, getD-replicate}
 use lib.Seq.{getD-drop, getD-set-same, getD-set-other}
 use lib.Dec.{eqb}
-use Rattle.cells.specs.Cells.{Cell, Row, both, emptyCell, emptyRow}
+use Rattle.cells.specs.Cells.{Cell, Row, emptyCell, emptyRow}
 use Rattle.packed_rows.specs.Entries.{Entry, named, count, soundEntry, store, carryOut, carryAll}
 use Rattle.packed_rows.specs.Stream.{AcceptedAs}
 use Rattle.packed_rows.specs.Theorems.{every, names, noneNames, storedIn, LastStored, never, by}
 use Rattle.packed_rows.proofs.Shapes.{Blocks, each-count, each-getD, each-replicate, carry-shaped}
-use Rattle.packed_rows.proofs.Reading.{both-true}
+use Rattle.packed_rows.proofs.Reading.{and-true}
 use Rattle.packed_rows.proofs.Soundness.{Sound, sound-facts}
 use Rattle.packed_rows.proofs.Accepted.{accepted-stream, accepted-field}
 
@@ -69,7 +69,7 @@ module _ (tracks track field : ℕ) (low : 1 ≤ track) (high : track ≤ tracks
       new = store (named (e .mask)) (e .fields) (getD row (e .track - 1) emptyCell)
 
       go : (t : Bool) → eqb (e .track) track ≡ t
-          → fieldOf track field (carryOut e row) ≡ cond (both t (getD (named (e .mask)) field false)) (storedIn e field) (fieldOf track field row)
+          → fieldOf track field (carryOut e row) ≡ cond (t && getD (named (e .mask)) field false) (storedIn e field) (fieldOf track field row)
       go true q =
           let here : e .track ≡ track = eqb-true (e .track) track q in
           rw (← here) (set-field (named (e .mask)) (e .fields) row (e .track - 1) field
@@ -83,7 +83,7 @@ module _ (tracks track field : ℕ) (low : 1 ≤ track) (high : track ≤ tracks
       → Last track field (fieldOf track field row) es (fieldOf track field (carryAll es row))
   last-from [] row h b = kept (none-names-nil track field) refl
   last-from (e ∷ es) row h b =
-      let s = both-true (soundEntry tracks e) (every (soundEntry tracks) es) h in
+      let s = and-true (soundEntry tracks e) (every (soundEntry tracks) es) h in
       go (last-from es (carryOut e row) (s .1) (carry-shaped e b)) (names track field e) refl (carry-field e row (sound-facts tracks e (s .0)) b)
     where
       now : ℕ
@@ -99,8 +99,8 @@ module _ (tracks track field : ℕ) (low : 1 ≤ track) (high : track ≤ tracks
 -- A row of rows that are all so is so.
 every-getD : {A : Type 0} (test : A → Bool) (xs : List A) (i : ℕ) (d : A) → test d ≡ true → every test xs ≡ true → test (getD xs i d) ≡ true
 every-getD test [] i d p h = p
-every-getD test (x ∷ xs) zero d p h = both-true (test x) (every test xs) h .0
-every-getD test (x ∷ xs) (suc i) d p h = every-getD test xs i d p (both-true (test x) (every test xs) h .1)
+every-getD test (x ∷ xs) zero d p h = and-true (test x) (every test xs) h .0
+every-getD test (x ∷ xs) (suc i) d p h = every-getD test xs i d p (and-true (test x) (every test xs) h .1)
 
 pub last-stored : (rows tracks : ℕ) (stream cells : List ℕ) (accepted : AcceptedAs rows tracks stream cells) (row track field : ℕ)
     → row < rows → 1 ≤ track → track ≤ tracks

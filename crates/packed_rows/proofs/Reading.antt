@@ -3,58 +3,57 @@
 use Prim.Native.Nat.{ℕ, zero, suc, _+_, _≤_, _<_}
 use mathlib.Core.Path.{_≡_, refl, sym, ap, subst, _∙_}
 use mathlib.Core.List.{List, [], _∷_, _++_}
-use mathlib.Core.Bool.{Bool, true, false, cond}
+use mathlib.Core.Bool.{Bool, true, false, cond, _&&_}
 use native.Mathlib.Omega.{arith}
 use lib.ListN.{length, take, drop, length-append, take-append-drop}
 use lib.Dec.{eqb, leb}
 use lib.Seq.{length-take-le, take-at, drop-at}
 use borrow.Author.Tests.{leb-true, eqb-true, eqb-false, le-leb, eq-eqb, ne-eqb}
-use Rattle.cells.specs.Cells.{both}
 use Rattle.packed_rows.specs.Entries.{Entry, soundMask, fieldsNamed, entryBytes, soundEntry}
 use Rattle.packed_rows.specs.Stream.{Front, nothing, rowEnd, entry, fault, frontEntry, front, Reading, brokenAt, whole}
-use Rattle.packed_rows.specs.Stream.{newRow, addEntry, goOn, readFrom, reading}
+use Rattle.packed_rows.specs.Stream.{newRow, addEntry, readOn, readFrom, reading}
 
-pub both-true : (a b : Bool) → both a b ≡ true → (a ≡ true) × (b ≡ true)
-both-true true b h = (refl, h)
-both-true false b h = let z : _≡_ {A = ℕ} 0 1 = cc in absurd (omega arith)
+pub and-true : (a b : Bool) → a && b ≡ true → (a ≡ true) × (b ≡ true)
+and-true true b h = (refl, h)
+and-true false b h = let z : _≡_ {A = ℕ} 0 1 = cc in absurd (omega arith)
 
-pub true-both : {a b : Bool} → a ≡ true → b ≡ true → both a b ≡ true
-true-both p q = rw (p, q)
+pub true-and : {a b : Bool} → a ≡ true → b ≡ true → a && b ≡ true
+true-and p q = rw (p, q)
 
 -- What a front says of the stream.
-abbrev pub Stands : ℕ → List ℕ → Front → Type 0
-Stands tracks s nothing = s ≡ []
-Stands tracks s (rowEnd rest) = s ≡ 0 ∷ rest
-Stands tracks s (entry e rest) = (soundEntry tracks e ≡ true) × (s ≡ entryBytes e ++ rest)
-Stands tracks s fault = Unit {0}
+abbrev pub FrontSays : ℕ → List ℕ → Front → Type 0
+FrontSays tracks s nothing = s ≡ []
+FrontSays tracks s (rowEnd rest) = s ≡ 0 ∷ rest
+FrontSays tracks s (entry e rest) = (soundEntry tracks e ≡ true) × (s ≡ entryBytes e ++ rest)
+FrontSays tracks s fault = Unit {0}
 
-frontEntry-stands : (tracks b : ℕ) (s : List ℕ) → 1 ≤ b → Stands tracks (b ∷ s) (frontEntry tracks b s)
-frontEntry-stands tracks b [] h = tt
-frontEntry-stands tracks b (mask ∷ s) h = go (both (leb b tracks) (both (soundMask mask) (leb (fieldsNamed mask) (length s)))) refl
+frontEntry-says : (tracks b : ℕ) (s : List ℕ) → 1 ≤ b → FrontSays tracks (b ∷ s) (frontEntry tracks b s)
+frontEntry-says tracks b [] h = tt
+frontEntry-says tracks b (mask ∷ s) h = go (leb b tracks && (soundMask mask && leb (fieldsNamed mask) (length s))) refl
   where
     n : ℕ
     n = fieldsNamed mask
 
-    go : (t : Bool) → both (leb b tracks) (both (soundMask mask) (leb n (length s))) ≡ t
-        → Stands tracks (b ∷ mask ∷ s) (cond t (entry (record { track = b; mask = mask; fields = take n s }) (drop n s)) fault)
+    go : (t : Bool) → leb b tracks && (soundMask mask && leb n (length s)) ≡ t
+        → FrontSays tracks (b ∷ mask ∷ s) (cond t (entry (record { track = b; mask = mask; fields = take n s }) (drop n s)) fault)
     go false e = tt
     go true e =
-        let u = both-true (leb b tracks) (both (soundMask mask) (leb n (length s))) e in
-        let v = both-true (soundMask mask) (leb n (length s)) (u .1) in
+        let u = and-true (leb b tracks) (soundMask mask && leb n (length s)) e in
+        let v = and-true (soundMask mask) (leb n (length s)) (u .1) in
         let l = eq-eqb (length (take n s)) n (length-take-le n s (leb-true n (length s) (v .1))) in
-        (true-both (le-leb 1 b h) (true-both (u .0) (true-both (v .0) l)), simp take-append-drop)
+        (true-and (le-leb 1 b h) (true-and (u .0) (true-and (v .0) l)), simp take-append-drop)
 
-pub front-stands : (tracks : ℕ) (s : List ℕ) → Stands tracks s (front tracks s)
-front-stands tracks [] = refl
-front-stands tracks (b ∷ s) = go (eqb b 0) refl
+pub front-says : (tracks : ℕ) (s : List ℕ) → FrontSays tracks s (front tracks s)
+front-says tracks [] = refl
+front-says tracks (b ∷ s) = go (eqb b 0) refl
   where
-    go : (t : Bool) → eqb b 0 ≡ t → Stands tracks (b ∷ s) (cond t (rowEnd s) (frontEntry tracks b s))
+    go : (t : Bool) → eqb b 0 ≡ t → FrontSays tracks (b ∷ s) (cond t (rowEnd s) (frontEntry tracks b s))
     go true e = rw (eqb-true b 0 e)
-    go false e = let ne : b ≡ 0 → ⊥ = eqb-false b 0 e in frontEntry-stands tracks b s (omega arith)
+    go false e = let ne : b ≡ 0 → ⊥ = eqb-false b 0 e in frontEntry-says tracks b s (omega arith)
 
 -- Found, so there.
-pub front-of : (tracks : ℕ) (s : List ℕ) {f : Front} → front tracks s ≡ f → Stands tracks s f
-front-of tracks s e = subst (Stands tracks s) e (front-stands tracks s)
+pub front-of : (tracks : ℕ) (s : List ℕ) {f : Front} → front tracks s ≡ f → FrontSays tracks s f
+front-of tracks s e = subst (FrontSays tracks s) e (front-says tracks s)
 
 pub row-end-length : (tracks : ℕ) (s rest : List ℕ) → front tracks s ≡ rowEnd rest → length s ≡ suc (length rest)
 row-end-length tracks s rest e = ap length (front-of tracks s e)
@@ -68,14 +67,14 @@ front-row-end tracks rest = refl
 
 pub front-entry : (tracks : ℕ) (e : Entry) (rest : List ℕ) → soundEntry tracks e ≡ true → front tracks (entryBytes e ++ rest) ≡ entry e rest
 front-entry tracks e rest h =
-    let u = both-true (leb 1 (e .track)) (both (leb (e .track) tracks) (both (soundMask (e .mask)) (eqb (length (e .fields)) n))) h in
-    let v = both-true (leb (e .track) tracks) (both (soundMask (e .mask)) (eqb (length (e .fields)) n)) (u .1) in
-    let w = both-true (soundMask (e .mask)) (eqb (length (e .fields)) n) (v .1) in
+    let u = and-true (leb 1 (e .track)) (leb (e .track) tracks && (soundMask (e .mask) && eqb (length (e .fields)) n)) h in
+    let v = and-true (leb (e .track) tracks) (soundMask (e .mask) && eqb (length (e .fields)) n) (u .1) in
+    let w = and-true (soundMask (e .mask)) (eqb (length (e .fields)) n) (v .1) in
     let l : length (e .fields) ≡ n = eqb-true (length (e .fields)) n (w .1) in
     let some : 1 ≤ e .track = leb-true 1 (e .track) (u .0) in
     simp (
       ne-eqb (e .track) 0 (omega arith),
-      true-both (v .0) (true-both (w .0) (le-leb n (length (e .fields ++ rest)) (simp length-append (omega arith)))),
+      true-and (v .0) (true-and (w .0) (le-leb n (length (e .fields ++ rest)) (simp length-append (omega arith)))),
       take-at (e .fields) rest n l,
       drop-at (e .fields) rest n l,
     )
@@ -87,10 +86,10 @@ front-entry tracks e rest h =
 goOn-same : (tracks at : ℕ) (s : List ℕ) (f f′ : List ℕ → Reading) (g g′ : Entry → List ℕ → Reading)
     → ((rest : List ℕ) → length rest < length s → f rest ≡ f′ rest)
     → ((e : Entry) (rest : List ℕ) → length rest < length s → g e rest ≡ g′ e rest)
-    → goOn (front tracks s) at f g ≡ goOn (front tracks s) at f′ g′
+    → readOn (front tracks s) at f g ≡ readOn (front tracks s) at f′ g′
 goOn-same tracks at s f f′ g g′ p q = go (front tracks s) refl
   where
-    go : (x : Front) → front tracks s ≡ x → goOn x at f g ≡ goOn x at f′ g′
+    go : (x : Front) → front tracks s ≡ x → readOn x at f g ≡ readOn x at f′ g′
     go nothing e = refl
     go (rowEnd rest) e = p rest (omega (arith, row-end-length tracks s rest e))
     go (entry en rest) e = q en rest (omega (arith, entry-length tracks s rest en e))
@@ -118,7 +117,7 @@ reading-over tracks at b s = refl
 
 pub reading-next : (tracks rows at : ℕ) (s : List ℕ)
     → reading tracks (suc rows) at s
-    ≡ goOn (front tracks s) at (λ rest. newRow (reading tracks rows (at + 1) rest))
+    ≡ readOn (front tracks s) at (λ rest. newRow (reading tracks rows (at + 1) rest))
     (λ e rest. addEntry e (reading tracks (suc rows) (at + length (entryBytes e)) rest))
 unfolding reading readFrom
 reading-next tracks rows at s =
@@ -186,7 +185,7 @@ module _ (tracks : ℕ) (P : ℕ → ℕ → List ℕ → Reading → Type 0) (e
     where
       go : (f : Front) → front tracks s ≡ f
           → ((rows at : ℕ) (s : List ℕ) → length s < k → P rows at s (readFrom k tracks rows at s))
-          → P (suc rows) at s (goOn f at (λ rest. newRow (readFrom k tracks rows (at + 1) rest))
+          → P (suc rows) at s (readOn f at (λ rest. newRow (readFrom k tracks rows (at + 1) rest))
           (λ e rest. addEntry e (readFrom k tracks (suc rows) (at + length (entryBytes e)) rest)))
       go nothing e ih = breaks rows at s (nothing-neither tracks s e)
       go (rowEnd rest) e ih =

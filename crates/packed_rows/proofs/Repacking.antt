@@ -14,7 +14,7 @@ use Rattle.packed_rows.specs.declared.Packing.the-variants.{Refused as P
 use Rattle.packed_rows.specs.Entries.{Entry, rowFrom, rowsFrom, rowStream}
 use Rattle.packed_rows.specs.Stream.{Reading, reading, readStream, entriesRead, brokenAt, whole}
 use Rattle.packed_rows.specs.Packer.{packedEntries, packedStream, packedLength}
-use Rattle.packed_rows.specs.Answers.{verdictOf, packedIf, repackedIf}
+use Rattle.packed_rows.specs.Answers.{verdictOfReading, packedIf, repackOfReading}
 use Rattle.packed_rows.specs.Steps.{RowAhead, Loaded, rowsRead}
 use Rattle.packed_rows.proofs.Grammar.{reads-exactly, reads-from}
 use Rattle.packed_rows.proofs.Shapes.{row-joined, row-from-shaped, rows-from-shaped}
@@ -65,7 +65,7 @@ pub none-left : (s : List ℕ) (tracks at left : ℕ) (later : List (List Entry)
 none-left s tracks at left [] reads z = refl
 none-left s tracks at left (es ∷ rest) reads z = absurd (omega (arith, reads-from left tracks at (drop at s) (es ∷ rest) .0 reads .count, z))
 
-pub all-read : (s : List ℕ) (rows tracks : ℕ) → verdictOf (readStream rows tracks s) ≡ Accepted
+pub all-read : (s : List ℕ) (rows tracks : ℕ) → verdictOfReading (readStream rows tracks s) ≡ Accepted
     → (entries : List (List Entry)) × (readStream rows tracks s ≡ whole entries) × (rowsRead s rows tracks ≡ rowsFrom tracks entries)
 all-read s rows tracks ok =
     let read = accepted-reading (readStream rows tracks s) .0 ok in
@@ -88,12 +88,13 @@ pub record CountingRows (s : List ℕ) (rows tracks at length left : ℕ) : Type
   pub same : length + packedLength (rowsFrom tracks later) ≡ packedLength (rowsRead s rows tracks)
 
 module _ (s : List ℕ) (rows tracks : ℕ) where
-  pub counting-first : verdictOf (readStream rows tracks s) ≡ Accepted → CountingRows s rows tracks 0 0 rows
+  pub counting-first : verdictOfReading (readStream rows tracks s) ≡ Accepted → CountingRows s rows tracks 0 0 rows
   counting-first ok =
       let read = all-read s rows tracks ok in
       record { later = read .0; reads = read .1; same = omega (arith, ap packedLength (read .2)) }
 
-  pub repacked-small : verdictOf (readStream rows tracks s) ≡ Accepted → rows < 65536 → tracks < 255 → packedLength (rowsRead s rows tracks) ≤ 65535 * 2033
+  pub repacked-small : verdictOfReading (readStream rows tracks s) ≡ Accepted → rows < 65536 → tracks < 255
+      → packedLength (rowsRead s rows tracks) ≤ 65535 * 2033
   repacked-small ok few thin =
       let read = all-read s rows tracks ok in
       let count : length (read .0) ≡ rows = reads-exactly rows tracks s (read .0) .0 (read .1) .count in
@@ -134,7 +135,7 @@ pub record RepackingRows (s : List ℕ) (rows tracks : ℕ) (out₀ out : List �
   pub writing : Writing out₀ 0 (packedStream (rowsRead s rows tracks)) out to (packedStream (rowsFrom tracks later))
 
 module _ (s : List ℕ) (rows tracks : ℕ) (out₀ : List ℕ) where
-  pub repacking-first : verdictOf (readStream rows tracks s) ≡ Accepted → RepackingRows s rows tracks out₀ out₀ 0 0 rows
+  pub repacking-first : verdictOfReading (readStream rows tracks s) ≡ Accepted → RepackingRows s rows tracks out₀ out₀ 0 0 rows
   repacking-first ok =
       let read = all-read s rows tracks ok in
       record { later = read .0; reads = read .1; writing = rw (read .2) (writing-first out₀ 0 (packedStream (rowsFrom tracks (read .0)))) }
@@ -175,12 +176,12 @@ module _ (s : List ℕ) (rows tracks : ℕ) (out₀ : List ℕ) where
           }
 
 -- The answer of repacking, by the verdict of the stream.
-pub repack-refused : (r : Reading) (tracks room : ℕ) (why : Refusal) → verdictOf r ≡ Refused why → PackingRefused why ≡ repackedIf r tracks room
+pub repack-refused : (r : Reading) (tracks room : ℕ) (why : Refusal) → verdictOfReading r ≡ Refused why → PackingRefused why ≡ repackOfReading r tracks room
 repack-refused r tracks room why e =
     let broken = refused-reading r why e in
-    ap PackingRefused (broken .2) ∙ sym (ap (λ (q : Reading). repackedIf q tracks room) (broken .1))
+    ap PackingRefused (broken .2) ∙ sym (ap (λ (q : Reading). repackOfReading q tracks room) (broken .1))
 
-pub repack-found : (r : Reading) (tracks room : ℕ) → verdictOf r ≡ Accepted
-    → packedIf (packedLength (rowsFrom tracks (entriesRead r))) room ≡ repackedIf r tracks room
+pub repack-found : (r : Reading) (tracks room : ℕ) → verdictOfReading r ≡ Accepted
+    → packedIf (packedLength (rowsFrom tracks (entriesRead r))) room ≡ repackOfReading r tracks room
 repack-found (brokenAt p) tracks room e = absurd (let z : _≡_ {A = ℕ} 0 1 = cc in omega arith)
 repack-found (whole rows) tracks room e = refl

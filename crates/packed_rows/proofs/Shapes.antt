@@ -10,7 +10,7 @@ use lib.ListN.{length, getD, drop, set, replicate, length-append, length-drop, t
 use lib.Seq.{length-take-le, take-at, drop-at, getD-append-add}
 use Rattle.vocabulary.specs.Lists.{joined}
 use Rattle.vocabulary.proofs.JoinedLists.{joined-append}
-use Rattle.cells.specs.Cells.{Cell, Row, emptyCell, emptyRow, cellBytes, blocksOf, rowOf, rowsOf, bytesOf}
+use Rattle.cells.specs.Cells.{Cell, Row, emptyCell, emptyRow, cellBytes, groupsOf, rowOf, rowsOf, bytesOf}
 use Rattle.packed_rows.specs.Entries.{Entry, named, store, carryOut, carryAll, rowFrom, rowsFrom}
 
 -- A list of so many, of each of which it holds.
@@ -68,19 +68,19 @@ pub length-joined : {A : Type 0} {n : ℕ} (size : ℕ) {xs : List (List A)} →
 length-joined size none = sym (zero-mul size)
 length-joined size (one {n = n} p e) = rw (suc-mul, length-append, p, length-joined size e) (omega arith)
 
-pub blocks-shaped : (n size : ℕ) (bytes : List ℕ) → n * size ≤ length bytes → Blocks n size (blocksOf n size bytes)
+pub blocks-shaped : (n size : ℕ) (bytes : List ℕ) → n * size ≤ length bytes → Blocks n size (groupsOf n size bytes)
 blocks-shaped zero size bytes h = none
 blocks-shaped (suc n) size bytes h =
     let fits : size + n * size ≤ length bytes = omega (arith, suc-mul n size) in
     one (length-take-le size bytes (omega arith)) (blocks-shaped n size (drop size bytes) (simp length-drop (omega arith)))
 
-pub joined-blocks : (n size : ℕ) (bytes : List ℕ) → length bytes ≡ n * size → joined (blocksOf n size bytes) ≡ bytes
+pub joined-blocks : (n size : ℕ) (bytes : List ℕ) → length bytes ≡ n * size → joined (groupsOf n size bytes) ≡ bytes
 joined-blocks zero size [] e = refl
 joined-blocks zero size (b ∷ bytes) e = absurd (omega (arith, zero-mul size))
 joined-blocks (suc n) size bytes e =
     rw (joined-blocks n size (drop size bytes) (simp length-drop (omega (arith, suc-mul n size)))) (take-append-drop size bytes)
 
-pub blocks-joined : {n : ℕ} (size : ℕ) {xs : List (List ℕ)} → Blocks n size xs → blocksOf n size (joined xs) ≡ xs
+pub blocks-joined : {n : ℕ} (size : ℕ) {xs : List (List ℕ)} → Blocks n size xs → groupsOf n size (joined xs) ≡ xs
 blocks-joined size none = refl
 blocks-joined size (one {x = x} {xs = xs} p e) = rw (take-at x (joined xs) size p, drop-at x (joined xs) size p, blocks-joined size e)
 
@@ -125,10 +125,10 @@ module _ {A : Type 0} {P : A → Type 0} where
   each-joined {m = m} (one {n = n} p e) = rw (suc-mul n m, add-comm) (each-append p (each-joined e))
 
 pub joined-rows : (rows tracks : ℕ) (bytes : List ℕ) → length bytes ≡ cellBytes rows tracks
-    → joined (rowsOf rows tracks bytes) ≡ blocksOf (rows * tracks) 6 bytes
+    → joined (rowsOf rows tracks bytes) ≡ groupsOf (rows * tracks) 6 bytes
 joined-rows rows tracks bytes e =
     sym (blocks-joined 6 (each-joined (rows-shaped rows tracks bytes e)))
-    ∙ ap (blocksOf (rows * tracks) 6) (sym (bytes-joined (rowsOf rows tracks bytes)) ∙ bytes-rows rows tracks bytes e)
+    ∙ ap (groupsOf (rows * tracks) 6) (sym (bytes-joined (rowsOf rows tracks bytes)) ∙ bytes-rows rows tracks bytes e)
 
 -- One of the joined.
 pub getD-joined : {A : Type 0} {n : ℕ} (size : ℕ) {xs : List (List A)} → Blocks n size xs → (i j : ℕ) (other : List A) (d : A) → i < n → j < size

@@ -16,7 +16,7 @@ use Rattle.cells.specs.Cells.{Cell, Row, emptyCell, emptyRow, cellBytes, rowsOf
 use Rattle.packed_rows.specs.Entries.{Entry, named, count, entryBytes, soundEntry, store, carryOut, carryAll, rowFrom, rowsFrom, rowStream, streamOf}
 use Rattle.packed_rows.specs.Stream.{AcceptedAs}
 use Rattle.packed_rows.specs.Packer.{ofBits, nonZero, packedEntry, entriesFrom, packedEntries, packedStream, packedLength}
-use Rattle.packed_rows.specs.Theorems.{every, allSound, StreamOf, Reordered, end, next}
+use Rattle.packed_rows.specs.Theorems.{every, allSound, SoundStream, Reordered, end, next}
 use Rattle.packed_rows.proofs.Shapes.{none, one, Blocks, Shaped, each-count, each-getD, each-replicate, carry-shaped, rows-shaped, bytes-rows}
 use Rattle.packed_rows.proofs.Bits.{of-bits}
 use Rattle.packed_rows.proofs.PackedRow.{packs}
@@ -25,7 +25,7 @@ use Rattle.packed_rows.proofs.StreamLength.{cellLength, rowLength, cell
 use Rattle.packed_rows.proofs.StreamLength.{packed-length-cons, row-stream-length, entries-length}
 use Rattle.packed_rows.proofs.Soundness.{Sound, sound-facts, every-perm, entries-sound}
 use Rattle.packed_rows.proofs.AnyOrder.{any-order-gives}
-use Rattle.packed_rows.proofs.Reading.{both-true, true-both}
+use Rattle.packed_rows.proofs.Reading.{and-true, true-and}
 use Rattle.packed_rows.proofs.Grammar.{reads-exactly}
 use Rattle.packed_rows.proofs.Accepted.{accepted-stream, accepted-rows}
 
@@ -112,7 +112,7 @@ carry-all-length : (tracks : ℕ) (es : List Entry) (row : Row) → every (sound
     → rowLength (carryAll es row) ≤ rowLength row + length (joined (map entryBytes es))
 carry-all-length tracks [] row h b = omega arith
 carry-all-length tracks (e ∷ es) row h b =
-    let s = both-true (soundEntry tracks e) (every (soundEntry tracks) es) h in
+    let s = and-true (soundEntry tracks e) (every (soundEntry tracks) es) h in
     omega (
       arith,
       carry-length tracks e row (sound-facts tracks e (s .0)) b,
@@ -124,7 +124,7 @@ carry-all-packers : (tracks : ℕ) (es : List Entry) (row : Row) → every (soun
     → rowLength row + length (joined (map entryBytes es)) ≤ rowLength (carryAll es row) → List·Permᴰ (es ++ packedEntries row) (packedEntries (carryAll es row))
 carry-all-packers tracks [] row h b l = Permᴰ·refl (packedEntries row)
 carry-all-packers tracks (e ∷ es) row h b l =
-    let s = both-true (soundEntry tracks e) (every (soundEntry tracks) es) h in
+    let s = and-true (soundEntry tracks e) (every (soundEntry tracks) es) h in
     let sound = sound-facts tracks e (s .0) in
     let shaped = carry-shaped e b in
     let first = carry-length tracks e row sound b in
@@ -146,7 +146,7 @@ empty-length n = sym (entries-length (packs 1 (emptyRow n))) ∙ rw (empty-entri
 stream-length : (tracks : ℕ) (entries : List (List Entry)) → allSound tracks entries ≡ true → packedLength (rowsFrom tracks entries) ≤ length (streamOf entries)
 stream-length tracks [] h = omega arith
 stream-length tracks (es ∷ entries) h =
-    let s = both-true (every (soundEntry tracks) es) (allSound tracks entries) h in
+    let s = and-true (every (soundEntry tracks) es) (allSound tracks entries) h in
     omega (
       arith,
       packed-length-cons (rowFrom tracks es) (rowsFrom tracks entries),
@@ -161,7 +161,7 @@ stream-packers : (tracks : ℕ) (entries : List (List Entry)) → allSound track
     → Reordered (rowsFrom tracks entries) (streamOf entries)
 stream-packers tracks [] h l = end
 stream-packers tracks (es ∷ entries) h l =
-    let s = both-true (every (soundEntry tracks) es) (allSound tracks entries) h in
+    let s = and-true (every (soundEntry tracks) es) (allSound tracks entries) h in
     let shaped = each-replicate tracks emptyCell refl in
     let packed = packed-length-cons (rowFrom tracks es) (rowsFrom tracks entries) in
     let bytes = row-stream-length es (streamOf entries) in
@@ -172,14 +172,14 @@ stream-packers tracks (es ∷ entries) h l =
     (stream-packers tracks entries (s .1) (omega arith))
 
 reordered-entries : {rows tracks : ℕ} {pattern : List Row} {stream : List ℕ} → Shaped rows tracks pattern → Reordered pattern stream
-    → (entries : List (List Entry)) × StreamOf rows tracks stream entries × (rowsFrom tracks entries ≡ pattern)
+    → (entries : List (List Entry)) × SoundStream rows tracks stream entries × (rowsFrom tracks entries ≡ pattern)
 reordered-entries none end = ([], record { count = refl; sound = refl; bytes = refl }, refl)
 reordered-entries {tracks = tracks} (one b s) (next es d r) =
     let rest = reordered-entries s r in (
       es ∷ rest .0,
       record {
         count = ap suc (rest .1 .count);
-        sound = true-both (every-perm (soundEntry tracks) d ∙ entries-sound tracks (packs 1 _) b (omega arith) (omega arith))
+        sound = true-and (every-perm (soundEntry tracks) d ∙ entries-sound tracks (packs 1 _) b (omega arith) (omega arith))
             (rest .1 .sound);
         bytes = ap (λ (s : List ℕ). rowStream es ++ s) (rest .1 .bytes);
       },

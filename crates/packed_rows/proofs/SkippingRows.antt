@@ -16,32 +16,32 @@ use Rattle.cells.specs.Shown.{shownCell}
 use Rattle.cells.specs.Cells.{Row, emptyCell, rowOf}
 use Rattle.packed_rows.specs.declared.CellAnswer.the-variants.{Found, Refused as CellRefused}
 use Rattle.packed_rows.specs.Entries.{Entry, rowFrom, rowsFrom}
-use Rattle.packed_rows.specs.Answers.{verdictOf, cellThere, cellIf}
+use Rattle.packed_rows.specs.Answers.{verdictOfReading, cellThere, cellOfReading}
 use Rattle.packed_rows.specs.Stream.{Reading, reading, brokenAt, whole, readStream, entriesRead}
-use Rattle.packed_rows.specs.Steps.{RowAhead, Skipped, Loaded, RowsRead, AfterRows, cellAt, cellRead}
-use Rattle.packed_rows.proofs.Reading.{both-true}
+use Rattle.packed_rows.specs.Steps.{RowAhead, Skipped, Loaded, MoreRows, AfterRows, cellAt, cellRead}
+use Rattle.packed_rows.proofs.Reading.{and-true}
 use Rattle.packed_rows.proofs.Grammar.{reads-exactly}
 use Rattle.packed_rows.proofs.Shapes.{getD-mapped, row-joined, row-from-shaped}
 use Rattle.packed_rows.proofs.Carrying.{block-at}
 use Rattle.packed_rows.proofs.ByVerdict.{accepted-reading, refused-reading}
 
-pub all-rows : (s : List ℕ) (n : ℕ) (all : RowsRead s n) → length (all .entries) ≡ all .rows
+pub all-rows : (s : List ℕ) (n : ℕ) (all : MoreRows s n) → length (all .entries) ≡ all .rows
 all-rows s n all = reads-exactly (all .rows) (all .tracks) s (all .entries) .0 (all .reads) .count
 
 -- Where some rows are passed and n - left rows are done.
-pub record SkippingRows (s : List ℕ) (n : ℕ) (all : RowsRead s n) (at left : ℕ) : Type 0 where
+pub record SkippingRows (s : List ℕ) (n : ℕ) (all : MoreRows s n) (at left : ℕ) : Type 0 where
   pub done : ℕ
   pub counts : done + left ≡ n
   pub reads : reading (all .tracks) (all .rows - done) at (drop at s) ≡ whole (drop done (all .entries))
 
 -- The row at a place that stands behind so many rows.
-pub row-behind : (s : List ℕ) (n : ℕ) (all : RowsRead s n) (at done : ℕ) → done < all .rows
+pub row-after : (s : List ℕ) (n : ℕ) (all : MoreRows s n) (at done : ℕ) → done < all .rows
     → reading (all .tracks) (all .rows - done) at (drop at s) ≡ whole (drop done (all .entries)) → (rest : ℕ)
     → all .rows - done ≡ suc rest
     → reading (all .tracks) (suc rest) at (drop at s) ≡ whole (getD (all .entries) done [] ∷ drop (suc done) (all .entries))
-row-behind s n all at done h reads rest e = rw e at reads ∙ ap whole (drop-cons (all .entries) done [] (omega (arith, all-rows s n all)))
+row-after s n all at done h reads rest e = rw e at reads ∙ ap whole (drop-cons (all .entries) done [] (omega (arith, all-rows s n all)))
 
-module _ (s : List ℕ) (n : ℕ) (all : RowsRead s n) where
+module _ (s : List ℕ) (n : ℕ) (all : MoreRows s n) where
   pub skips-first : SkippingRows s n all 0 n
   skips-first = record { done = 0; counts = zero-add n; reads = rw (sub-zero (all .rows)) (all .reads) }
 
@@ -60,7 +60,7 @@ module _ (s : List ℕ) (n : ℕ) (all : RowsRead s n) where
             left = all .rows - suc (state .done);
             entries = getD (all .entries) (state .done) [];
             later = drop (suc (state .done)) (all .entries);
-            reads = row-behind s n all at (state .done) inside (state .reads) (all .rows - suc (state .done)) (omega (arith, inside));
+            reads = row-after s n all at (state .done) inside (state .reads) (all .rows - suc (state .done)) (omega (arith, inside));
             fits = refl;
           }
 
@@ -69,19 +69,20 @@ module _ (s : List ℕ) (n : ℕ) (all : RowsRead s n) where
           record { done = suc (state .done); counts = omega (arith, state .counts, some); reads = skipped (all .tracks * 6) skips-ahead }
 
 -- One cell: the row behind the rows passed over, and six of its bytes.
-module _ (s : List ℕ) (rows tracks row track : ℕ) (ok : verdictOf (readStream rows tracks s) ≡ Accepted) (there : cellThere rows tracks row track ≡ true) where
+module _ (s : List ℕ) (rows tracks row track : ℕ) (ok : verdictOfReading (readStream rows tracks s) ≡ Accepted)
+    (there : cellThere rows tracks row track ≡ true) where
   abbrev read : (entries : List (List Entry)) × (readStream rows tracks s ≡ whole entries)
   read = accepted-reading (readStream rows tracks s) .0 ok
 
   pub row-there : row < rows
-  row-there = ltb-true row rows (both-true (ltb row rows) _ there .0)
+  row-there = ltb-true row rows (and-true (ltb row rows) _ there .0)
 
   pub track-there : (1 ≤ track) × (track ≤ tracks)
   track-there =
-      let b = both-true (leb 1 track) (leb track tracks) (both-true (ltb row rows) _ there .1) in
+      let b = and-true (leb 1 track) (leb track tracks) (and-true (ltb row rows) _ there .1) in
       (leb-true 1 track (b .0), leb-true track tracks (b .1))
 
-  abbrev pub all-read : RowsRead s row
+  abbrev pub all-read : MoreRows s row
   all-read = record { rows = rows; tracks = tracks; entries = read .0; reads = read .1; more = row-there }
 
   module _ (at : ℕ) (after : AfterRows s row at) where
@@ -92,7 +93,7 @@ module _ (s : List ℕ) (rows tracks row track : ℕ) (ok : verdictOf (readStrea
           left = rows - suc row;
           entries = getD (read .0) row [];
           later = drop (suc row) (read .0);
-          reads = row-behind s row all-read at row row-there (after all-read) (rows - suc row) (omega (arith, row-there));
+          reads = row-after s row all-read at row row-there (after all-read) (rows - suc row) (omega (arith, row-there));
           fits = refl;
         }
 
@@ -111,16 +112,16 @@ module _ (s : List ℕ) (rows tracks row track : ℕ) (ok : verdictOf (readStrea
         ∙ ap (λ (rs : List Row). getD (getD rs row []) (track - 1) emptyCell) (sym rows-are)
 
 -- The answer for a cell, by the verdict of the stream.
-pub cell-refused : (r : Reading) (tracks row track : ℕ) (why : Refusal) → verdictOf r ≡ Refused why → CellRefused why ≡ cellIf r tracks row track
+pub cell-refused : (r : Reading) (tracks row track : ℕ) (why : Refusal) → verdictOfReading r ≡ Refused why → CellRefused why ≡ cellOfReading r tracks row track
 cell-refused r tracks row track why e =
     let broken = refused-reading r why e in
-    ap CellRefused (broken .2) ∙ sym (ap (λ (q : Reading). cellIf q tracks row track) (broken .1))
+    ap CellRefused (broken .2) ∙ sym (ap (λ (q : Reading). cellOfReading q tracks row track) (broken .1))
 
-pub cell-found : (s : List ℕ) (rows tracks row track : ℕ) → verdictOf (readStream rows tracks s) ≡ Accepted
-    → Found (shownCell (cellRead s rows tracks row track)) ≡ cellIf (readStream rows tracks s) tracks row track
+pub cell-found : (s : List ℕ) (rows tracks row track : ℕ) → verdictOfReading (readStream rows tracks s) ≡ Accepted
+    → Found (shownCell (cellRead s rows tracks row track)) ≡ cellOfReading (readStream rows tracks s) tracks row track
 cell-found s rows tracks row track ok = go (readStream rows tracks s) ok
   where
-    go : (r : Reading) → verdictOf r ≡ Accepted
-        → Found (shownCell (getD (getD (rowsFrom tracks (entriesRead r)) row []) (track - 1) emptyCell)) ≡ cellIf r tracks row track
+    go : (r : Reading) → verdictOfReading r ≡ Accepted
+        → Found (shownCell (getD (getD (rowsFrom tracks (entriesRead r)) row []) (track - 1) emptyCell)) ≡ cellOfReading r tracks row track
     go (brokenAt p) e = absurd (let z : _≡_ {A = ℕ} 0 1 = cc in omega arith)
     go (whole es) e = refl

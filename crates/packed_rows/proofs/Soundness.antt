@@ -3,16 +3,16 @@ use Prim.Native.Nat.{ℕ, suc, _+_, _≤_, _<_}
 use native.Mathlib.Omega.{arith}
 use mathlib.Core.Path.{_≡_, refl, sym, _∙_}
 use mathlib.Core.List.{List, map, List·Permᴰ, List·Permᴰ·nil, List·Permᴰ·cons, List·Permᴰ·swap, List·Permᴰ·trans}
-use mathlib.Core.Bool.{Bool, true, false}
+use mathlib.Core.Bool.{Bool, true, false, _&&_}
 use borrow.Author.Tests.{leb-true, ltb-true, eqb-true, le-leb, lt-ltb, eq-eqb}
 use lib.ListN.{length, length-map}
-use Rattle.cells.specs.Cells.{Cell, Row, both}
+use Rattle.cells.specs.Cells.{Cell, Row}
 use Rattle.packed_rows.specs.Entries.{Entry, named, fieldsNamed, soundEntry}
 use Rattle.packed_rows.specs.Packer.{ofBits, nonZero, packedEntry}
 use Rattle.packed_rows.specs.Theorems.{every}
 use Rattle.packed_rows.proofs.Shapes.{none, one, Blocks}
 use Rattle.packed_rows.proofs.PackedRow.{Packs, done, written, passed}
-use Rattle.packed_rows.proofs.Reading.{both-true, true-both}
+use Rattle.packed_rows.proofs.Reading.{and-true, true-and}
 use Rattle.packed_rows.proofs.Bits.{bits-of, of-bits-below}
 use Rattle.packed_rows.proofs.Storing.{count-non-zero}
 
@@ -24,9 +24,9 @@ pub record Sound (tracks : ℕ) (e : Entry) : Type 0 where
 
 pub sound-facts : (tracks : ℕ) (e : Entry) → soundEntry tracks e ≡ true → Sound tracks e
 sound-facts tracks e h =
-    let t = both-true _ _ h in
-    let u = both-true _ _ (t .1) in
-    let v = both-true _ _ (u .1) in
+    let t = and-true _ _ h in
+    let u = and-true _ _ (t .1) in
+    let v = and-true _ _ (u .1) in
     record { low = leb-true 1 (e .track) (t .0); high = leb-true (e .track) tracks (u .0); small = ltb-true (e .mask) 64 (v .0); filled = eqb-true _ _ (v .1) }
 
 pub facts-sound : (tracks : ℕ) (e : Entry) → Sound tracks e → soundEntry tracks e ≡ true
@@ -56,7 +56,7 @@ pub entries-sound : (tracks : ℕ) {track n : ℕ} {row : Row} {es : List Entry}
     → every (soundEntry tracks) es ≡ true
 entries-sound tracks done none low fits = refl
 entries-sound tracks (written {track = track} {cell = cell} q p) (one l b) low fits =
-    true-both (facts-sound tracks (packedEntry track cell) (packed-sound tracks track cell low (omega arith) l))
+    true-and (facts-sound tracks (packedEntry track cell) (packed-sound tracks track cell low (omega arith) l))
     (entries-sound tracks p b (omega arith) (omega arith))
 entries-sound tracks (passed q p) (one l b) low fits = entries-sound tracks p b (omega arith) (omega arith)
 
@@ -66,7 +66,7 @@ every-perm test List·Permᴰ·nil = refl
 every-perm test (List·Permᴰ·cons q d) = rw (q, every-perm test d)
 every-perm test (List·Permᴰ·swap {a = a} {b = b} {l = l} q r) = rw (← q, ← r) (swapped (test a) (test b) (every test l))
   where
-    swapped : (x y z : Bool) → both x (both y z) ≡ both y (both x z)
+    swapped : (x y z : Bool) → x && (y && z) ≡ y && (x && z)
     swapped true y z = refl
     swapped false true z = refl
     swapped false false z = refl

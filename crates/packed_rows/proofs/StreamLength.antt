@@ -8,7 +8,7 @@ use mathlib.Core.Bool.{Bool, true, false, cond}
 use borrow.Author.Tests.{ltb-false}
 use lib.ListN.{length, length-append}
 use Rattle.vocabulary.specs.Lists.{joined}
-use Rattle.cells.specs.Cells.{Cell, Row, cellBytes, blocksOf, rowsOf, nonZeros, nonEmpty, nonEmptyCells}
+use Rattle.cells.specs.Cells.{Cell, Row, cellBytes, groupsOf, rowsOf, nonZeros, nonEmpty, nonEmptyCells}
 use Rattle.packed_rows.specs.Entries.{Entry, entryBytes, rowStream}
 use Rattle.packed_rows.specs.Packer.{packedEntries, packedStream, packedLength}
 use Rattle.packed_rows.proofs.Shapes.{none, one, Blocks, Shaped, each-count, bytes-joined, joined-rows, bytes-rows, rows-shaped}
@@ -72,7 +72,7 @@ packed-length (row ∷ rows) =
     omega (arith, row-stream-length (packedEntries row) (packedStream rows), entries-length (packs 1 row), packed-length rows, packed-length-cons row rows)
 
 pub packed-length-cells : (rows tracks : ℕ) (cells : List ℕ) → length cells ≡ cellBytes rows tracks
-    → packedLength (rowsOf rows tracks cells) ≡ rows + (2 * nonEmptyCells (blocksOf (rows * tracks) 6 cells) + length (nonZeros cells))
+    → packedLength (rowsOf rows tracks cells) ≡ rows + (2 * nonEmptyCells (groupsOf (rows * tracks) 6 cells) + length (nonZeros cells))
 packed-length-cells rows tracks cells e =
     rw (each-count (rows-shaped rows tracks cells e), bytes-rows rows tracks cells e, joined-rows rows tracks cells e)
 

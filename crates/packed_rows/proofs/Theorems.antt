@@ -29,14 +29,14 @@ use mathlib.Core.List.{List, [], _++_}
 use mathlib.Core.Bool.{true}
 use lib.ListN.{length, getD, take}
 use Rattle.refusal.specs.Numbers.{refusal}
-use Rattle.refusal.specs.declared.Cause.the-variants.{Stream, Room}
+use Rattle.refusal.specs.declared.Reason.the-variants.{Stream, Room}
 use Rattle.refusal.specs.declared.Verdict.the-variants.{Accepted, Refused}
-use Rattle.cells.specs.Cells.{sizesFit, cellBytes, rowsOf, blocksOf, nonZeros, nonEmptyCells}
+use Rattle.cells.specs.Cells.{sizesFit, cellBytes, rowsOf, groupsOf, nonZeros, nonEmptyCells}
 use Rattle.packed_rows.specs.Entries.{Entry}
 use Rattle.packed_rows.specs.Stream.{readStream, whole, brokenAt, AcceptedAs}
 use Rattle.packed_rows.specs.Packer.{packedStream, packedLength}
 use Rattle.packed_rows.specs.Answers.{checkAnswer, unpackAnswer, unpackOutput, packAnswer}
-use Rattle.packed_rows.specs.Theorems.{StreamOf, Reordered, LastStored, BrokenAt, PackedAndUnpacked}
+use Rattle.packed_rows.specs.Theorems.{SoundStream, Reordered, LastStored, StreamBroken, PackedAndUnpacked}
 use Rattle.packed_rows.specs.declared.Unpacking.the-variants.{Unpacked}
 use Rattle.packed_rows.specs.declared.Packing.the-variants.{Packed, Refused as PackingRefused}
 use Rattle.packed_rows.proofs.Grammar as Grammar
@@ -57,7 +57,7 @@ module _ (rows tracks : ℕ) where
   packed-length cells = StreamLength.packed-length (rowsOf rows tracks cells)
 
   pub packed-length-is : (cells : List ℕ) → length cells ≡ cellBytes rows tracks
-      → packedLength (rowsOf rows tracks cells) ≡ rows + (2 * nonEmptyCells (blocksOf (rows * tracks) 6 cells) + length (nonZeros cells))
+      → packedLength (rowsOf rows tracks cells) ≡ rows + (2 * nonEmptyCells (groupsOf (rows * tracks) 6 cells) + length (nonZeros cells))
   packed-length-is = StreamLength.packed-length-cells rows tracks
 
   pub packed-length-at-most : (cells : List ℕ) → length cells ≡ cellBytes rows tracks → packedLength (rowsOf rows tracks cells) ≤ rows * (1 + 8 * tracks)
@@ -94,27 +94,27 @@ module _ (rows tracks : ℕ) where
   last-stored = LastEntry.last-stored rows tracks
 
   -- 6.
-  pub reads-exactly : (stream : List ℕ) (entries : List (List Entry)) → (readStream rows tracks stream ≡ whole entries) ↔ StreamOf rows tracks stream entries
+  pub reads-exactly : (stream : List ℕ) (entries : List (List Entry)) → (readStream rows tracks stream ≡ whole entries) ↔ SoundStream rows tracks stream entries
   reads-exactly = Grammar.reads-exactly rows tracks
 
-  pub reads-one : (stream : List ℕ) (entries entries′ : List (List Entry)) → StreamOf rows tracks stream entries
-      → StreamOf rows tracks stream entries′
+  pub reads-one : (stream : List ℕ) (entries entries′ : List (List Entry)) → SoundStream rows tracks stream entries
+      → SoundStream rows tracks stream entries′
       → entries ≡ entries′
   reads-one = Grammar.reads-one rows tracks
 
   pub accepts-exactly : (stream : List ℕ) → sizesFit rows tracks ≡ true
-      → (checkAnswer stream rows tracks ≡ Accepted) ↔ ((entries : List (List Entry)) × StreamOf rows tracks stream entries)
+      → (checkAnswer stream rows tracks ≡ Accepted) ↔ ((entries : List (List Entry)) × SoundStream rows tracks stream entries)
   accepts-exactly = Verdicts.accepts-exactly rows tracks
 
   -- 7.
-  pub breaks-exactly : (stream : List ℕ) (place : ℕ) → (readStream rows tracks stream ≡ brokenAt place) ↔ BrokenAt rows tracks stream place
+  pub breaks-exactly : (stream : List ℕ) (place : ℕ) → (readStream rows tracks stream ≡ brokenAt place) ↔ StreamBroken rows tracks stream place
   breaks-exactly = Grammar.refused-exactly rows tracks
 
   pub refuses-exactly : (stream : List ℕ) (place : ℕ) → sizesFit rows tracks ≡ true
-      → (checkAnswer stream rows tracks ≡ Refused (refusal Stream place)) ↔ BrokenAt rows tracks stream place
+      → (checkAnswer stream rows tracks ≡ Refused (refusal Stream place)) ↔ StreamBroken rows tracks stream place
   refuses-exactly = Verdicts.refuses-exactly rows tracks
 
-  pub one-place : (stream : List ℕ) (place place′ : ℕ) → BrokenAt rows tracks stream place → BrokenAt rows tracks stream place′ → place ≡ place′
+  pub one-place : (stream : List ℕ) (place place′ : ℕ) → StreamBroken rows tracks stream place → StreamBroken rows tracks stream place′ → place ≡ place′
   one-place = Grammar.one-place rows tracks
 
   pub no-proper-beginning : (stream more : List ℕ) (entries entries′ : List (List Entry))

@@ -9,18 +9,18 @@ use borrow.Author.Tests.{le-ltb}
 use lib.ListN.{length, take, drop}
 use lib.Seq.{take-at}
 use Rattle.refusal.specs.Numbers.{refusal}
-use Rattle.refusal.specs.declared.Cause.the-variants.{Stream}
+use Rattle.refusal.specs.declared.Reason.the-variants.{Stream}
 use Rattle.cells.specs.Cells.{sizesFit, cellBytes, bytesOf}
 use Rattle.packed_rows.specs.Entries.{rowsFrom}
 use Rattle.packed_rows.specs.Stream.{Reading, brokenAt, whole, readStream, AcceptedAs}
-use Rattle.packed_rows.specs.Answers.{verdictOf, unpackedIf, unpackAnswer, unpackOutput}
+use Rattle.packed_rows.specs.Answers.{verdictOfReading, unpackedIf, unpackAnswer, unpackOutput}
 use Rattle.packed_rows.specs.declared.Unpacking.the-variants.{Unpacked, Refused}
 use Rattle.packed_rows.proofs.Accepted.{accepted-length}
 
 module _ (rows tracks : ℕ) (stream out : List ℕ) (fit : sizesFit rows tracks ≡ true) (room : cellBytes rows tracks ≤ length out) where
   -- By its reading.
   unpack-answer : (r : Reading) → readStream rows tracks stream ≡ r
-      → unpackAnswer stream rows tracks (length out) ≡ unpackedIf (verdictOf r) (cellBytes rows tracks)
+      → unpackAnswer stream rows tracks (length out) ≡ unpackedIf (verdictOfReading r) (cellBytes rows tracks)
   unpack-answer r q = simp (fit, le-ltb (length out) (cellBytes rows tracks) room, q)
 
   module _ (cells : List ℕ) (accepted : AcceptedAs rows tracks stream cells) where

@@ -10,10 +10,10 @@ use native.Mathlib.Numerals.{add-one}
 use lib.ListN.{length, getD, take, drop, set, length-append, length-set, drop-of-length-le}
 use lib.Seq.{drop-cons, drop-drop, take-suc-set, take-set-le, take-all, getD-take, getD-drop, length-take-le}
 use Rattle.vocabulary.specs.Lists.{joined}
-use Rattle.cells.specs.Cells.{Cell, Row, blocksOf, rowOf, rowsOf, nonZeros, nonEmpty}
+use Rattle.cells.specs.Cells.{Cell, Row, groupsOf, rowOf, rowsOf, nonZeros, nonEmpty}
 use Rattle.packed_rows.specs.Entries.{Entry, entryBytes, rowStream}
 use Rattle.packed_rows.specs.Packer.{nonZero, packedEntry, entriesFrom, packedEntries, packedStream}
-use Rattle.packed_rows.specs.Steps.{oneIf, cellAt, filledTracks, Listed, entriesAt}
+use Rattle.packed_rows.specs.Steps.{oneIf, cellAt, filledTracks, TracksInside, entriesAt}
 use Rattle.packed_rows.proofs.Carrying.{block-at}
 use Rattle.packed_rows.proofs.Counting.{kept, length-kept, kept-first, nonZeros-first, length-cell}
 
@@ -57,7 +57,7 @@ module _ (out₀ : List ℕ) (to : ℕ) (all : List ℕ) where
     pub writing-last : (rest : List ℕ) → Writing out₀ to all out at rest → rest ≡ [] → (at ≡ to + length all) × (take at out ≡ take to out₀ ++ all)
     writing-last rest w e = (omega (arith, w .place, ap length e), sym (rw (e, append-nil (take at out)) at (sym (w .written))))
 
-length-blocks : (n size : ℕ) (bytes : List ℕ) → length (blocksOf n size bytes) ≡ n
+length-blocks : (n size : ℕ) (bytes : List ℕ) → length (groupsOf n size bytes) ≡ n
 length-blocks zero size bytes = refl
 length-blocks (suc n) size bytes = ap suc (length-blocks n size (drop size bytes))
 
@@ -105,7 +105,7 @@ pub tracks-past : (row : List ℕ) (tracks track : ℕ) → tracks ≤ track →
 tracks-past row tracks track h = rw (drop-of-length-le (rowOf tracks row) {i = track} (omega (arith, length-blocks tracks 6 row)))
 
 -- The tracks that are listed for a row have their cells in it, and their entries are the packer's.
-pub listed-at : (row list : List ℕ) (i : ℕ) → Listed row list → i < length list → getD list i 0 * 6 + 6 ≤ length row
+pub listed-at : (row list : List ℕ) (i : ℕ) → TracksInside row list → i < length list → getD list i 0 * 6 + 6 ≤ length row
 listed-at row [] i l h = absurd (omega arith)
 listed-at row (t ∷ ts) zero l h = l .0
 listed-at row (t ∷ ts) (suc i) l h = listed-at row ts i (l .1) (omega arith)
@@ -113,18 +113,18 @@ listed-at row (t ∷ ts) (suc i) l h = listed-at row ts i (l .1) (omega arith)
 module _ (row : List ℕ) where
   -- What is left of a row, from a track on.
   abbrev pub tracksLeft : ℕ → ℕ → Row
-  tracksLeft left track = blocksOf left 6 (drop (track * 6) row)
+  tracksLeft left track = groupsOf left 6 (drop (track * 6) row)
 
-  pub tracks-next : (left track : ℕ) → blocksOf left 6 (drop 6 (drop (track * 6) row)) ≡ tracksLeft left (suc track)
+  pub tracks-next : (left track : ℕ) → groupsOf left 6 (drop 6 (drop (track * 6) row)) ≡ tracksLeft left (suc track)
   tracks-next left track = rw (suc-mul track 6, drop-drop 6 (track * 6) row)
 
-  pub tracks-listed : (left track : ℕ) → (track + left) * 6 ≤ length row → Listed row (filledTracks track (tracksLeft left track))
+  pub tracks-listed : (left track : ℕ) → (track + left) * 6 ≤ length row → TracksInside row (filledTracks track (tracksLeft left track))
   tracks-listed zero track h = tt
   tracks-listed (suc left) track h =
       rw (tracks-next left track) (go (nonEmpty (cellAt row (track * 6))) (tracks-listed left (suc track) (omega arith)))
     where
-      go : (b : Bool) → Listed row (filledTracks (suc track) (tracksLeft left (suc track)))
-          → Listed row (cond b (track ∷ filledTracks (suc track) (tracksLeft left (suc track))) (filledTracks (suc track) (tracksLeft left (suc track))))
+      go : (b : Bool) → TracksInside row (filledTracks (suc track) (tracksLeft left (suc track)))
+          → TracksInside row (cond b (track ∷ filledTracks (suc track) (tracksLeft left (suc track))) (filledTracks (suc track) (tracksLeft left (suc track))))
       go true l = (omega arith, l)
       go false l = l
 
@@ -161,7 +161,7 @@ module _ (row list : List ℕ) (n i from : ℕ) where
       rw (e, add-one i, drop-cons (take n list) i 0 (omega (arith, length-take-le n list k)), getD-take n list i 0 h)
 
   module _ {out₀ : List ℕ} {to : ℕ} {all out : List ℕ} {at : ℕ} where
-    pub entries-fit : i < n → n ≤ length list → from ≡ getD list i 0 * 6 → Listed row (take n list)
+    pub entries-fit : i < n → n ≤ length list → from ≡ getD list i 0 * 6 → TracksInside row (take n list)
         → to + length all < length out₀ → Writing out₀ to all out at (entriesAt row (drop i (take n list)))
         → EntryFits row from out at
     entries-fit h k e l r w =

@@ -2,14 +2,14 @@
 -- order"). In each answer the refusals stand in the order in which they are given.
 use Prim.Native.Nat.{ℕ, _-_}
 use mathlib.Core.List.{List, [], _∷_, _++_}
-use mathlib.Core.Bool.{Bool, cond, not}
+use mathlib.Core.Bool.{Bool, cond, not, _&&_}
 use lib.ListN.{length, getD, drop}
 use lib.Dec.{eqb, leb, ltb}
 use Rattle.refusal.specs.Numbers.{refusal, acceptedNumbers, refusedNumbers}
-use Rattle.refusal.specs.declared.Cause.the-variants.{Stream, Sizes, Room, NotThere}
+use Rattle.refusal.specs.declared.Reason.the-variants.{Stream, Sizes, Room, NotThere}
 use Rattle.refusal.specs.declared.Verdict.{Verdict}
 use Rattle.refusal.specs.declared.Verdict.the-variants.{Accepted, Refused}
-use Rattle.cells.specs.Cells.{both, sizesFit, cellBytes, rowsOf, emptyCell}
+use Rattle.cells.specs.Cells.{sizesFit, cellBytes, rowsOf, emptyCell}
 use Rattle.cells.specs.Shown.{shownCell, cellValues}
 use Rattle.packed_rows.specs.Entries.{rowsFrom}
 use Rattle.packed_rows.specs.Stream.{Reading, brokenAt, whole, readStream, entriesRead, cellsRead}
@@ -22,15 +22,15 @@ use Rattle.packed_rows.specs.declared.CellAnswer.{CellAnswer}
 use Rattle.packed_rows.specs.declared.CellAnswer.the-variants.{Found, Refused as CellRefused}
 
 -- Refusal 15 of a stream, by its reading; F2 for the place.
-abbrev pub verdictOf : Reading → Verdict
-verdictOf (brokenAt p) = Refused (refusal Stream p)
-verdictOf (whole rows) = Accepted
+abbrev pub verdictOfReading : Reading → Verdict
+verdictOfReading (brokenAt p) = Refused (refusal Stream p)
+verdictOfReading (whole rows) = Accepted
 
 -- F3: the check of a stream: 16, 15.
 abbrev pub checkAnswer : List ℕ → ℕ → ℕ → Verdict
 checkAnswer stream rows tracks =
     cond (not (sizesFit rows tracks)) (Refused (refusal Sizes 0))
-    (verdictOf (readStream rows tracks stream))
+    (verdictOfReading (readStream rows tracks stream))
 
 -- A verdict, and then the length that is written.
 abbrev pub unpackedIf : Verdict → ℕ → Unpacking
@@ -42,7 +42,7 @@ abbrev pub unpackAnswer : List ℕ → ℕ → ℕ → ℕ → Unpacking
 unpackAnswer stream rows tracks room =
     cond (not (sizesFit rows tracks)) (UnpackingRefused (refusal Sizes 0))
     (cond (ltb room (cellBytes rows tracks)) (UnpackingRefused (refusal Room (cellBytes rows tracks)))
-    (unpackedIf (verdictOf (readStream rows tracks stream)) (cellBytes rows tracks)))
+    (unpackedIf (verdictOfReading (readStream rows tracks stream)) (cellBytes rows tracks)))
 
 -- F8: what an output then holds: on success what is written, and behind it what stood there; on a refusal all stays.
 abbrev pub outputUnpacked : Unpacking → List ℕ → List ℕ → List ℕ
@@ -64,7 +64,7 @@ packedIf needed room = cond (ltb room needed) (PackingRefused (refusal Room need
 -- F5: packing into so much room: 16, 17.
 abbrev pub packAnswer : List ℕ → ℕ → ℕ → ℕ → Packing
 packAnswer cells rows tracks room =
-    cond (not (both (sizesFit rows tracks) (eqb (length cells) (cellBytes rows tracks)))) (PackingRefused (refusal Sizes 0))
+    cond (not (sizesFit rows tracks && eqb (length cells) (cellBytes rows tracks))) (PackingRefused (refusal Sizes 0))
     (packedIf (packedLength (rowsOf rows tracks cells)) room)
 
 abbrev pub packOutput : List ℕ → ℕ → ℕ → List ℕ → List ℕ
@@ -72,36 +72,36 @@ packOutput cells rows tracks out =
     outputPacked (packAnswer cells rows tracks (length out)) (packedStream (rowsOf rows tracks cells)) out
 
 -- The packer's stream of the pattern that was read, into so much room: 15, 17.
-abbrev pub repackedIf : Reading → ℕ → ℕ → Packing
-repackedIf (brokenAt p) tracks room = PackingRefused (refusal Stream p)
-repackedIf (whole rows) tracks room = packedIf (packedLength (rowsFrom tracks rows)) room
+abbrev pub repackOfReading : Reading → ℕ → ℕ → Packing
+repackOfReading (brokenAt p) tracks room = PackingRefused (refusal Stream p)
+repackOfReading (whole rows) tracks room = packedIf (packedLength (rowsFrom tracks rows)) room
 
 -- F6: repacking a stream: 16, 15, 17.
-abbrev pub repackAnswer : List ℕ → ℕ → ℕ → ℕ → Packing
-repackAnswer stream rows tracks room =
+abbrev pub repackStreamAnswer : List ℕ → ℕ → ℕ → ℕ → Packing
+repackStreamAnswer stream rows tracks room =
     cond (not (sizesFit rows tracks)) (PackingRefused (refusal Sizes 0))
-    (repackedIf (readStream rows tracks stream) tracks room)
+    (repackOfReading (readStream rows tracks stream) tracks room)
 
-abbrev pub repackOutput : List ℕ → ℕ → ℕ → List ℕ → List ℕ
-repackOutput stream rows tracks out =
-    outputPacked (repackAnswer stream rows tracks (length out))
+abbrev pub repackStreamOutput : List ℕ → ℕ → ℕ → List ℕ → List ℕ
+repackStreamOutput stream rows tracks out =
+    outputPacked (repackStreamAnswer stream rows tracks (length out))
     (packedStream (rowsFrom tracks (entriesRead (readStream rows tracks stream)))) out
 
 -- Rows are counted from 0, tracks from 1.
 abbrev pub cellThere : ℕ → ℕ → ℕ → ℕ → Bool
-cellThere rows tracks row track = both (ltb row rows) (both (leb 1 track) (leb track tracks))
+cellThere rows tracks row track = ltb row rows && (leb 1 track && leb track tracks)
 
 -- One cell of what was read.
-abbrev pub cellIf : Reading → ℕ → ℕ → ℕ → CellAnswer
-cellIf (brokenAt p) tracks row track = CellRefused (refusal Stream p)
-cellIf (whole rows) tracks row track = Found (shownCell (getD (getD (rowsFrom tracks rows) row []) (track - 1) emptyCell))
+abbrev pub cellOfReading : Reading → ℕ → ℕ → ℕ → CellAnswer
+cellOfReading (brokenAt p) tracks row track = CellRefused (refusal Stream p)
+cellOfReading (whole rows) tracks row track = Found (shownCell (getD (getD (rowsFrom tracks rows) row []) (track - 1) emptyCell))
 
 -- F7: one cell of a stream: 16, 18, 15.
 abbrev pub cellOf : List ℕ → ℕ → ℕ → ℕ → ℕ → CellAnswer
 cellOf stream rows tracks row track =
     cond (not (sizesFit rows tracks)) (CellRefused (refusal Sizes 0))
     (cond (not (cellThere rows tracks row track)) (CellRefused (refusal NotThere 0))
-    (cellIf (readStream rows tracks stream) tracks row track))
+    (cellOfReading (readStream rows tracks stream) tracks row track))
 
 -- F1: what unpacking and packing answer, in numbers: the value is the length written.
 abbrev pub unpackingNumbers : Unpacking → List ℕ

@@ -3,11 +3,11 @@
 -- (003 swaps the two).
 use Prim.Native.Nat.{ℕ, zero, suc, _-_, _/_, _%_}
 use mathlib.Core.List.{List, [], _∷_, _++_, map}
-use mathlib.Core.Bool.{Bool, true, false}
+use mathlib.Core.Bool.{Bool, true, false, _&&_}
 use lib.ListN.{length, getD, drop, set}
 use lib.Dec.{eqb, leb, ltb}
 use Rattle.vocabulary.specs.Lists.{joined}
-use Rattle.cells.specs.Cells.{Cell, Row, both, emptyCell, emptyRow}
+use Rattle.cells.specs.Cells.{Cell, Row, emptyCell, emptyRow}
 
 -- The lowest n bits of a number, the lowest first.
 abbrev pub bits : ℕ → ℕ → List Bool
@@ -43,7 +43,7 @@ entryBytes e = e .track ∷ e .mask ∷ e .fields
 -- R2 to R4: a track from 1 to the pattern's tracks, a sound mask, and as many fields as it names.
 abbrev pub soundEntry : ℕ → Entry → Bool
 soundEntry tracks e =
-    both (leb 1 (e .track)) (both (leb (e .track) tracks) (both (soundMask (e .mask)) (eqb (length (e .fields)) (fieldsNamed (e .mask)))))
+    leb 1 (e .track) && (leb (e .track) tracks && (soundMask (e .mask) && eqb (length (e .fields)) (fieldsNamed (e .mask))))
 
 -- R5: the named fields are stored in the cell, the others stay.
 abbrev pub store : List Bool → List ℕ → Cell → Cell

@@ -73,7 +73,7 @@ Skipped s at after =
     (size : ℕ) (ahead : RowAhead s at size) → reading (ahead .tracks) (ahead .left) after (drop after s) ≡ whole (ahead .later)
 
 -- A stream of more than n rows was read whole.
-pub record RowsRead (s : List ℕ) (n : ℕ) : Type 0 where
+pub record MoreRows (s : List ℕ) (n : ℕ) : Type 0 where
   pub rows : ℕ
   pub tracks : ℕ
   pub entries : List (List Entry)
@@ -83,7 +83,7 @@ pub record RowsRead (s : List ℕ) (n : ℕ) : Type 0 where
 -- Behind n rows of it the others stand.
 abbrev pub AfterRows : List ℕ → ℕ → ℕ → Type 0
 AfterRows s n after =
-    (all : RowsRead s n) → reading (all .tracks) (all .rows - n) after (drop after s) ≡ whole (drop n (all .entries))
+    (all : MoreRows s n) → reading (all .tracks) (all .rows - n) after (drop after s) ≡ whole (drop n (all .entries))
 
 -- The rows that a stream holds.
 abbrev pub rowsRead : List ℕ → ℕ → ℕ → List Row
@@ -107,9 +107,9 @@ filledTracks track [] = []
 filledTracks track (cell ∷ cells) = cond (nonEmpty cell) (track ∷ filledTracks (suc track) cells) (filledTracks (suc track) cells)
 
 -- Each listed track, counted from 0, has its cell in the row.
-abbrev pub Listed : List ℕ → List ℕ → Type 0
-Listed row [] = Unit {0}
-Listed row (track ∷ tracks) = (track * 6 + 6 ≤ length row) × Listed row tracks
+abbrev pub TracksInside : List ℕ → List ℕ → Type 0
+TracksInside row [] = Unit {0}
+TracksInside row (track ∷ tracks) = (track * 6 + 6 ≤ length row) × TracksInside row tracks
 
 -- The bytes of the packer's entries of the listed tracks of a row.
 abbrev pub entriesAt : List ℕ → List ℕ → List ℕ

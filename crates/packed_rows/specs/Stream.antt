@@ -2,10 +2,10 @@
 use Prim.Native.Nat.{ℕ, zero, suc, _+_}
 use mathlib.Core.Path.{_≡_}
 use mathlib.Core.List.{List, [], _∷_}
-use mathlib.Core.Bool.{cond}
+use mathlib.Core.Bool.{cond, _&&_}
 use lib.ListN.{length, take, drop}
 use lib.Dec.{eqb, leb}
-use Rattle.cells.specs.Cells.{both, bytesOf}
+use Rattle.cells.specs.Cells.{bytesOf}
 use Rattle.packed_rows.specs.Entries.{Entry, soundMask, fieldsNamed, entryBytes, rowsFrom}
 
 -- What stands at the front of the rest of a stream: no byte, a row end, a sound entry, or a fault; and what follows it.
@@ -19,7 +19,7 @@ pub data Front : Type 0 where
 abbrev pub frontEntry : ℕ → ℕ → List ℕ → Front
 frontEntry tracks track [] = fault
 frontEntry tracks track (mask ∷ s) =
-    cond (both (leb track tracks) (both (soundMask mask) (leb (fieldsNamed mask) (length s))))
+    cond (leb track tracks && (soundMask mask && leb (fieldsNamed mask) (length s)))
     (entry (record { track = track; mask = mask; fields = take (fieldsNamed mask) s }) (drop (fieldsNamed mask) s))
     fault
 
@@ -45,11 +45,11 @@ addEntry e (whole []) = whole []
 addEntry e (whole (es ∷ rows)) = whole ((e ∷ es) ∷ rows)
 
 -- How reading goes on, by what stands at the front.
-abbrev pub goOn : Front → ℕ → (List ℕ → Reading) → (Entry → List ℕ → Reading) → Reading
-goOn nothing at afterRowEnd afterEntry = brokenAt at
-goOn (rowEnd s) at afterRowEnd afterEntry = afterRowEnd s
-goOn (entry e s) at afterRowEnd afterEntry = afterEntry e s
-goOn fault at afterRowEnd afterEntry = brokenAt at
+abbrev pub readOn : Front → ℕ → (List ℕ → Reading) → (Entry → List ℕ → Reading) → Reading
+readOn nothing at afterRowEnd afterEntry = brokenAt at
+readOn (rowEnd s) at afterRowEnd afterEntry = afterRowEnd s
+readOn (entry e s) at afterRowEnd afterEntry = afterEntry e s
+readOn fault at afterRowEnd afterEntry = brokenAt at
 
 -- Reading on with so many rows left, at a place of the stream. The first number bounds the steps: each takes a byte at least.
 unfoldable pub readFrom : ℕ → ℕ → ℕ → ℕ → List ℕ → Reading
@@ -57,7 +57,7 @@ readFrom zero tracks rows at s = brokenAt at
 readFrom (suc steps) tracks zero at [] = whole []
 readFrom (suc steps) tracks zero at (b ∷ s) = brokenAt at
 readFrom (suc steps) tracks (suc rows) at s =
-    goOn (front tracks s) at
+    readOn (front tracks s) at
     (λ rest. newRow (readFrom steps tracks rows (at + 1) rest))
     (λ e rest. addEntry e (readFrom steps tracks (suc rows) (at + length (entryBytes e)) rest))
 

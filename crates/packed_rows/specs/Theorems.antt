@@ -3,11 +3,11 @@
 use Prim.Native.Nat.{ℕ, _<_}
 use mathlib.Core.Path.{_≡_}
 use mathlib.Core.List.{List, [], _∷_, _++_, map, List·Permᴰ}
-use mathlib.Core.Bool.{Bool, true, false}
+use mathlib.Core.Bool.{Bool, true, false, _&&_}
 use lib.ListN.{length, getD, take, drop}
 use lib.Dec.{eqb}
 use Rattle.vocabulary.specs.Lists.{joined}
-use Rattle.cells.specs.Cells.{Row, both, cellBytes, rowsOf}
+use Rattle.cells.specs.Cells.{Row, cellBytes, rowsOf}
 use Rattle.packed_rows.specs.Entries.{Entry, named, count, entryBytes, soundEntry, rowStream, streamOf}
 use Rattle.packed_rows.specs.Packer.{packedEntries, packedStream, packedLength}
 use Rattle.packed_rows.specs.Answers.{packAnswer, packOutput, unpackAnswer, unpackOutput}
@@ -17,14 +17,14 @@ use Rattle.packed_rows.specs.declared.Unpacking.the-variants.{Unpacked}
 -- The test holds of every one.
 abbrev pub every : {A : Type 0} → (A → Bool) → List A → Bool
 every test [] = true
-every test (x ∷ xs) = both (test x) (every test xs)
+every test (x ∷ xs) = test x && every test xs
 
 -- Every entry of every row is sound (R2 to R4).
 abbrev pub allSound : ℕ → List (List Entry) → Bool
 allSound tracks rows = every (every (soundEntry tracks)) rows
 
 -- R1 to R7 with no reader: so many rows, each of sound entries and a row end, one after the other.
-pub record StreamOf (rows tracks : ℕ) (stream : List ℕ) (entries : List (List Entry)) : Type 0 where
+pub record SoundStream (rows tracks : ℕ) (stream : List ℕ) (entries : List (List Entry)) : Type 0 where
   pub count : length entries ≡ rows
   pub sound : allSound tracks entries ≡ true
   pub bytes : stream ≡ streamOf entries
@@ -38,7 +38,7 @@ pub data Reordered : List Row → List ℕ → Type 0 where
 
 -- R3: an entry is of this track and names this field (0 to 5).
 abbrev pub names : ℕ → ℕ → Entry → Bool
-names track field e = both (eqb (e .track) track) (getD (named (e .mask)) field false)
+names track field e = eqb (e .track) track && getD (named (e .mask)) field false
 
 -- No entry of these does.
 abbrev pub noneNames : ℕ → ℕ → List Entry → Type 0
@@ -68,7 +68,7 @@ pub data StreamFault (rows tracks : ℕ) (full : List (List Entry)) (unfinished 
 
 -- F2 with no reader: up to the place the stream is some whole rows and the entries of an unfinished one, all sound; and there it is
 -- broken.
-pub record BrokenAt (rows tracks : ℕ) (stream : List ℕ) (place : ℕ) : Type 0 where
+pub record StreamBroken (rows tracks : ℕ) (stream : List ℕ) (place : ℕ) : Type 0 where
   pub full : List (List Entry)
   pub unfinished : List Entry
   pub after : List ℕ

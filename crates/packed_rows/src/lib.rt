@@ -13,7 +13,7 @@ use crate::repacker::repack_rows;
 use crate::repacker::repacked_length;
 use cells::Cell;
 use cells::shown;
-use refusal::Cause;
+use refusal::Reason;
 use refusal::Refusal;
 use refusal::Verdict;
 use refusal::refuse;
@@ -29,8 +29,8 @@ ghost use Rattle.packed_rows.specs.Stream.{readStream};
 ghost use Rattle.packed_rows.specs.Packer.{packedLength, packedStream};
 ghost use Rattle.packed_rows.specs.Steps.{cellAt, cellRead, rowsRead};
 ghost use Rattle.packed_rows.specs.Answers.{packedIf, outputPacked, checkAnswer, unpackAnswer, unpackOutput};
-ghost use Rattle.packed_rows.specs.Answers.{packAnswer, packOutput, repackAnswer, repackOutput, cellThere, cellOf};
-ghost use Rattle.packed_rows.specs.Answers.{verdictOf, unpackingNumbers, packingNumbers, cellNumbers};
+ghost use Rattle.packed_rows.specs.Answers.{packAnswer, packOutput, repackStreamAnswer, repackStreamOutput, cellThere, cellOf};
+ghost use Rattle.packed_rows.specs.Answers.{verdictOfReading, unpackingNumbers, packingNumbers, cellNumbers};
 
 // What unpacking answers: the length written, or a refusal.
 pub enum Unpacking {
@@ -69,7 +69,7 @@ pub fn check(stream: &[u8], rows: usize, tracks: usize) -> Verdict
     ensures { λ r. ⌜ IsAnswer verdictNumbers r (checkAnswer (now (stream .entry)) rows tracks) ⌝ }
 {
     if !sizes_fit(rows, tracks) {
-        return Verdict::Refused(refuse(Cause::Sizes, 0));
+        return Verdict::Refused(refuse(Reason::Sizes, 0));
     }
     check_stream(stream, rows, tracks)
 }
@@ -80,11 +80,11 @@ pub fn unpack(stream: &[u8], rows: usize, tracks: usize, out: &mut [u8]) -> Unpa
         × (now (out .exit) ≡ unpackOutput (now (stream .entry)) rows tracks (now (out .entry))) ⌝ }
 {
     if !sizes_fit(rows, tracks) {
-        return Unpacking::Refused(refuse(Cause::Sizes, 0));
+        return Unpacking::Refused(refuse(Reason::Sizes, 0));
     }
     let size = rows * (tracks * 6);
     if out.len() < size {
-        return Unpacking::Refused(refuse(Cause::Room, size));
+        return Unpacking::Refused(refuse(Reason::Room, size));
     }
     if let Verdict::Refused(r) = check_stream(stream, rows, tracks) {
         return Unpacking::Refused(r);
@@ -99,14 +99,14 @@ pub fn pack(cells: &[u8], rows: usize, tracks: usize, out: &mut [u8]) -> Packing
         × (now (out .exit) ≡ packOutput (now (cells .entry)) rows tracks (now (out .entry))) ⌝ }
 {
     if !sizes_fit(rows, tracks) {
-        return Packing::Refused(refuse(Cause::Sizes, 0));
+        return Packing::Refused(refuse(Reason::Sizes, 0));
     }
     if cells.len() != rows * (tracks * 6) {
-        return Packing::Refused(refuse(Cause::Sizes, 0));
+        return Packing::Refused(refuse(Reason::Sizes, 0));
     }
     let needed = packed_length(cells, rows, tracks);
     if out.len() < needed {
-        return Packing::Refused(refuse(Cause::Room, needed));
+        return Packing::Refused(refuse(Reason::Room, needed));
     }
     write_rows(cells, rows, tracks, &mut out[..needed]);
     Packing::Packed(needed)
@@ -120,13 +120,13 @@ fn repack_accepted(
     line: &mut [u8],
     out: &mut [u8],
 ) -> Packing
-    requires { ⌜ (verdictOf (readStream rows tracks (now stream)) ≡ Accepted) × (length (now line) ≡ tracks * 6) × (rows < 65536) × (tracks < 255) ⌝ }
+    requires { ⌜ (verdictOfReading (readStream rows tracks (now stream)) ≡ Accepted) × (length (now line) ≡ tracks * 6) × (rows < 65536) × (tracks < 255) ⌝ }
     ensures { λ r. ⌜ (r ≡ packedIf (packedLength (rowsRead (now (stream .entry)) rows tracks)) (length (now (out .entry))))
         × (now (out .exit) ≡ outputPacked r (packedStream (rowsRead (now (stream .entry)) rows tracks)) (now (out .entry))) ⌝ }
 {
     let needed = repacked_length(stream, rows, tracks, line);
     if out.len() < needed {
-        return Packing::Refused(refuse(Cause::Room, needed));
+        return Packing::Refused(refuse(Reason::Room, needed));
     }
     repack_rows(stream, rows, tracks, line, &mut out[..needed]);
     Packing::Packed(needed)
@@ -134,11 +134,11 @@ fn repack_accepted(
 
 // Repacks a stream: 16, 15, 17.
 pub fn repack(stream: &[u8], rows: usize, tracks: usize, out: &mut [u8]) -> Packing
-    ensures { λ r. ⌜ IsAnswer packingNumbers r (repackAnswer (now (stream .entry)) rows tracks (length (now (out .entry))))
-        × (now (out .exit) ≡ repackOutput (now (stream .entry)) rows tracks (now (out .entry))) ⌝ }
+    ensures { λ r. ⌜ IsAnswer packingNumbers r (repackStreamAnswer (now (stream .entry)) rows tracks (length (now (out .entry))))
+        × (now (out .exit) ≡ repackStreamOutput (now (stream .entry)) rows tracks (now (out .entry))) ⌝ }
 {
     if !sizes_fit(rows, tracks) {
-        return Packing::Refused(refuse(Cause::Sizes, 0));
+        return Packing::Refused(refuse(Reason::Sizes, 0));
     }
     if let Verdict::Refused(r) = check_stream(stream, rows, tracks) {
         return Packing::Refused(r);
@@ -172,7 +172,7 @@ fn read_cell(
     track: usize,
     line: &mut [u8],
 ) -> Cell
-    requires { ⌜ (verdictOf (readStream rows tracks (now stream)) ≡ Accepted) × (cellThere rows tracks row track ≡ true) × (length (now line) ≡ tracks * 6) ⌝ }
+    requires { ⌜ (verdictOfReading (readStream rows tracks (now stream)) ≡ Accepted) × (cellThere rows tracks row track ≡ true) × (length (now line) ≡ tracks * 6) ⌝ }
     ensures { λ r. ⌜ r ≡ shownCell (cellRead (now (stream .entry)) rows tracks row track) ⌝ }
 {
     let at = skip_rows(stream, row);
@@ -185,10 +185,10 @@ pub fn cell(stream: &[u8], rows: usize, tracks: usize, row: usize, track: usize)
     ensures { λ r. ⌜ IsAnswer cellNumbers r (cellOf (now (stream .entry)) rows tracks row track) ⌝ }
 {
     if !sizes_fit(rows, tracks) {
-        return CellAnswer::Refused(refuse(Cause::Sizes, 0));
+        return CellAnswer::Refused(refuse(Reason::Sizes, 0));
     }
     if !cell_there(rows, tracks, row, track) {
-        return CellAnswer::Refused(refuse(Cause::NotThere, 0));
+        return CellAnswer::Refused(refuse(Reason::NotThere, 0));
     }
     if let Verdict::Refused(r) = check_stream(stream, rows, tracks) {
         return CellAnswer::Refused(r);

@@ -4,10 +4,10 @@ ghost use mathlib.Core.Path.{_≡_};
 ghost use mathlib.Core.List.{_++_};
 ghost use Prim.Native.Nat.{_+_, _*_, _<_, _≤_};
 ghost use lib.ListN.{length, getD, take};
-ghost use Rattle.cells.specs.Cells.{blocksOf, rowOf, rowsOf, nonZeros, nonEmpty, nonEmptyCells};
+ghost use Rattle.cells.specs.Cells.{groupsOf, rowOf, rowsOf, nonZeros, nonEmpty, nonEmptyCells};
 ghost use Rattle.packed_rows.specs.Entries.{rowStream};
 ghost use Rattle.packed_rows.specs.Packer.{packedEntry, packedEntries, packedStream, packedLength};
-ghost use Rattle.packed_rows.specs.Steps.{filledTracks, oneIf, cellAt, Listed, entriesAt};
+ghost use Rattle.packed_rows.specs.Steps.{filledTracks, oneIf, cellAt, TracksInside, entriesAt};
 
 // 1 where a byte is not 0, else 0.
 fn one_if(b: u8) -> u8
@@ -67,7 +67,7 @@ fn filled(cells: &[u8], at: usize) -> bool
 // How many of the cells are not empty.
 fn filled_cells(cells: &[u8], n: usize) -> usize
     requires { ⌜ length (now cells) ≡ n * 6 ⌝ }
-    ensures { λ r. ⌜ (r ≡ nonEmptyCells (blocksOf n 6 (now (cells .entry)))) × (r ≤ n) ⌝ }
+    ensures { λ r. ⌜ (r ≡ nonEmptyCells (groupsOf n 6 (now (cells .entry)))) × (r ≤ n) ⌝ }
 {
     let mut count: usize = 0;
     let mut at: usize = 0;
@@ -135,7 +135,7 @@ fn write_fields(cells: &[u8], from: usize, out: &mut [u8], to: usize) -> usize
 
 // Writes the entries of the listed tracks of a row to `to`, and answers the place behind them, which it may write too.
 fn write_entries(row: &[u8], list: &[u8], n: usize, out: &mut [u8], to: usize) -> usize
-    requires { ⌜ (length (now row) < 1530) × (n ≤ length (now list)) × Listed (now row) (take n (now list))
+    requires { ⌜ (length (now row) < 1530) × (n ≤ length (now list)) × TracksInside (now row) (take n (now list))
         × (to + length (entriesAt (now row) (take n (now list))) < length (now out)) ⌝ }
     ensures { λ r. ⌜ (r ≡ to + length (entriesAt (now (row .entry)) (take n (now (list .entry)))))
         × (take r (now (out .exit)) ≡ take to (now (out .entry)) ++ entriesAt (now (row .entry)) (take n (now (list .entry)))) ⌝ }

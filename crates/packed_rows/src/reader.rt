@@ -1,5 +1,5 @@
 // Reading packed rows: what stands at a place of a stream, the check, and carrying entries out.
-use refusal::Cause;
+use refusal::Reason;
 use refusal::Verdict;
 use refusal::refuse;
 ghost use mathlib.Core.Path.{_≡_};
@@ -10,9 +10,9 @@ ghost use lib.ListN.{length, drop, replicate};
 ghost use Rattle.refusal.specs.declared.Verdict.the-variants.{Accepted};
 ghost use Rattle.packed_rows.specs.Entries.{bits, count, fieldsNamed};
 ghost use Rattle.packed_rows.specs.Stream.{front, readStream, cellsRead};
-ghost use Rattle.packed_rows.specs.Answers.{verdictOf};
+ghost use Rattle.packed_rows.specs.Answers.{verdictOfReading};
 ghost use Rattle.packed_rows.specs.Steps.{entryLengths, entryLength, pieceLength, frontLength, storedFrom, storedAt};
-ghost use Rattle.packed_rows.specs.Steps.{RowAhead, Carried, Loaded, Skipped, RowsRead, AfterRows};
+ghost use Rattle.packed_rows.specs.Steps.{RowAhead, Carried, Loaded, Skipped, MoreRows, AfterRows};
 
 // How long an entry with each sound mask is, in bytes: the track, the mask and the named fields.
 const LENGTHS: [u8; 64] = [
@@ -140,7 +140,7 @@ fn front_length(s: &[u8], at: usize, tracks: usize, lengths: &[u8]) -> usize
 
 // Whether the stream rules hold, and if not, where the stream is broken.
 pub fn check_stream(s: &[u8], rows: usize, tracks: usize) -> Verdict
-    ensures { λ r. ⌜ r ≡ verdictOf (readStream rows tracks (now (s .entry))) ⌝ }
+    ensures { λ r. ⌜ r ≡ verdictOfReading (readStream rows tracks (now (s .entry))) ⌝ }
 {
     let lengths = LENGTHS;
     let mut left = rows;
@@ -148,7 +148,7 @@ pub fn check_stream(s: &[u8], rows: usize, tracks: usize) -> Verdict
     while 0 < left {
         let length = front_length(s, at, tracks, &lengths);
         if length == 0 {
-            return Verdict::Refused(refuse(Cause::Stream, at));
+            return Verdict::Refused(refuse(Reason::Stream, at));
         }
         if s[at] == 0 {
             left = left - 1;
@@ -158,7 +158,7 @@ pub fn check_stream(s: &[u8], rows: usize, tracks: usize) -> Verdict
         }
     }
     if at < s.len() {
-        return Verdict::Refused(refuse(Cause::Stream, at));
+        return Verdict::Refused(refuse(Reason::Stream, at));
     }
     Verdict::Accepted
 }
@@ -233,7 +233,7 @@ fn carry_row(s: &[u8], start: usize, row: &mut [u8]) -> usize
 
 // Carries out all entries of an accepted stream on an output that holds zeros.
 fn carry_rows(s: &[u8], rows: usize, tracks: usize, out: &mut [u8])
-    requires { ⌜ (verdictOf (readStream rows tracks (now s)) ≡ Accepted) × (now out ≡ replicate (rows * (tracks * 6)) 0) × (tracks < 256) ⌝ }
+    requires { ⌜ (verdictOfReading (readStream rows tracks (now s)) ≡ Accepted) × (now out ≡ replicate (rows * (tracks * 6)) 0) × (tracks < 256) ⌝ }
     ensures { λ r. ⌜ now (out .exit) ≡ cellsRead rows tracks (now (s .entry)) ⌝ }
 {
     let width = tracks * 6;
@@ -249,7 +249,7 @@ fn carry_rows(s: &[u8], rows: usize, tracks: usize, out: &mut [u8])
 
 // Carries out all entries of an accepted stream on an output of just the cells' size.
 pub fn unpack_rows(s: &[u8], rows: usize, tracks: usize, out: &mut [u8])
-    requires { ⌜ (verdictOf (readStream rows tracks (now s)) ≡ Accepted) × (length (now out) ≡ rows * (tracks * 6)) × (tracks < 256) ⌝ }
+    requires { ⌜ (verdictOfReading (readStream rows tracks (now s)) ≡ Accepted) × (length (now out) ≡ rows * (tracks * 6)) × (tracks < 256) ⌝ }
     ensures { λ r. ⌜ now (out .exit) ≡ cellsRead rows tracks (now (s .entry)) ⌝ }
 {
     clear(out);
@@ -280,7 +280,7 @@ fn skip_row(s: &[u8], start: usize) -> usize
 
 // The place behind the first `n` rows of an accepted stream of more rows than that.
 pub fn skip_rows(s: &[u8], n: usize) -> usize
-    requires { ⌜ RowsRead (now s) n ⌝ }
+    requires { ⌜ MoreRows (now s) n ⌝ }
     ensures { λ r. ⌜ AfterRows (now (s .entry)) n r ⌝ }
 {
     let mut at: usize = 0;

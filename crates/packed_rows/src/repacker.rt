@@ -8,12 +8,12 @@ ghost use lib.ListN.{length};
 ghost use Rattle.refusal.specs.declared.Verdict.the-variants.{Accepted};
 ghost use Rattle.packed_rows.specs.Stream.{readStream};
 ghost use Rattle.packed_rows.specs.Packer.{packedStream, packedLength};
-ghost use Rattle.packed_rows.specs.Answers.{verdictOf};
+ghost use Rattle.packed_rows.specs.Answers.{verdictOfReading};
 ghost use Rattle.packed_rows.specs.Steps.{rowsRead};
 
 // The packed length of the pattern that an accepted stream holds. `line` is room for a row.
 pub fn repacked_length(s: &[u8], rows: usize, tracks: usize, line: &mut [u8]) -> usize
-    requires { ⌜ (verdictOf (readStream rows tracks (now s)) ≡ Accepted) × (length (now line) ≡ tracks * 6) × (rows < 65536) × (tracks < 255) ⌝ }
+    requires { ⌜ (verdictOfReading (readStream rows tracks (now s)) ≡ Accepted) × (length (now line) ≡ tracks * 6) × (rows < 65536) × (tracks < 255) ⌝ }
     ensures { λ r. ⌜ r ≡ packedLength (rowsRead (now (s .entry)) rows tracks) ⌝ }
 {
     let mut at: usize = 0;
@@ -29,7 +29,7 @@ pub fn repacked_length(s: &[u8], rows: usize, tracks: usize, line: &mut [u8]) ->
 
 // Writes the packer's stream of the pattern that an accepted stream holds into an output of just its length.
 pub fn repack_rows(s: &[u8], rows: usize, tracks: usize, line: &mut [u8], out: &mut [u8])
-    requires { ⌜ (verdictOf (readStream rows tracks (now s)) ≡ Accepted) × (length (now line) ≡ tracks * 6)
+    requires { ⌜ (verdictOfReading (readStream rows tracks (now s)) ≡ Accepted) × (length (now line) ≡ tracks * 6)
         × (tracks < 255) × (length (now out) ≡ packedLength (rowsRead (now s) rows tracks)) ⌝ }
     ensures { λ r. ⌜ now (out .exit) ≡ packedStream (rowsRead (now (s .entry)) rows tracks) ⌝ }
 {

@@ -11,7 +11,7 @@ use Rattle.packed_rows.specs.declared.CellAnswer.{CellAnswer}
 use Rattle.packed_rows.specs.declared.CellAnswer.the-variants.{Refused as CellRefused}
 use Rattle.packed_rows.specs.declared.Unpacking.{Unpacking}
 use Rattle.packed_rows.specs.declared.Unpacking.the-variants.{Unpacked, Refused as UnpackingRefused}
-use Rattle.blocks.specs.declared.Thing.the-variants.{Pattern}
+use Rattle.blocks.specs.declared.RecordKind.the-variants.{Pattern}
 use Rattle.blocks.specs.StoredFields.{patternRows, packedBytes}
 use Rattle.queries.specs.Finding.{found}
 use Rattle.queries.specs.declared.Block.{Block}
@@ -43,28 +43,28 @@ abbrev pub cellAnswer : List ℕ → ℕ → ℕ → ℕ → CellAnswer
 cellAnswer m pattern row track = cellIf m row track (found m Pattern pattern)
 
 -- The answer of unpacking, as a length answer.
-abbrev pub lengthOf : Unpacking → LengthAnswer
-lengthOf (Unpacked n) = writtenLength n
-lengthOf (UnpackingRefused r) = refusedLength r
+abbrev pub lengthOfUnpacking : Unpacking → LengthAnswer
+lengthOfUnpacking (Unpacked n) = writtenLength n
+lengthOfUnpacking (UnpackingRefused r) = refusedLength r
 
 -- Q10: the pattern's packed bytes, unpacked by its rows and the module's tracks.
-abbrev pub unpackIn : List ℕ → Block → ℕ → LengthAnswer
-unpackIn m b room = lengthOf (streamAnswer (packedBytes m (b .at)) (patternRows m (b .at)) (b .tracks) room)
+abbrev pub cellsIn : List ℕ → Block → ℕ → LengthAnswer
+cellsIn m b room = lengthOfUnpacking (streamAnswer (packedBytes m (b .at)) (patternRows m (b .at)) (b .tracks) room)
 
-abbrev pub unpackOutputIn : List ℕ → Block → List ℕ → List ℕ
-unpackOutputIn m b out = streamOutput (packedBytes m (b .at)) (patternRows m (b .at)) (b .tracks) out
+abbrev pub cellsOutputIn : List ℕ → Block → List ℕ → List ℕ
+cellsOutputIn m b out = streamOutput (packedBytes m (b .at)) (patternRows m (b .at)) (b .tracks) out
 
-abbrev pub unpackIf : List ℕ → ℕ → Found → LengthAnswer
-unpackIf m room (At b) = unpackIn m b room
-unpackIf m room (Refused r) = refusedLength r
+abbrev pub cellsIf : List ℕ → ℕ → Found → LengthAnswer
+cellsIf m room (At b) = cellsIn m b room
+cellsIf m room (Refused r) = refusedLength r
 
 -- Q1: the module's own refusal, then 18, then 17.
-abbrev pub unpackAnswer : List ℕ → ℕ → ℕ → LengthAnswer
-unpackAnswer m pattern room = unpackIf m room (found m Pattern pattern)
+abbrev pub cellsAnswer : List ℕ → ℕ → ℕ → LengthAnswer
+cellsAnswer m pattern room = cellsIf m room (found m Pattern pattern)
 
-abbrev pub unpackOutputIf : List ℕ → List ℕ → Found → List ℕ
-unpackOutputIf m out (At b) = unpackOutputIn m b out
-unpackOutputIf m out (Refused r) = out
+abbrev pub cellsOutputIf : List ℕ → List ℕ → Found → List ℕ
+cellsOutputIf m out (At b) = cellsOutputIn m b out
+cellsOutputIf m out (Refused r) = out
 
-abbrev pub unpackOutput : List ℕ → ℕ → List ℕ → List ℕ
-unpackOutput m pattern out = unpackOutputIf m out (found m Pattern pattern)
+abbrev pub cellsOutput : List ℕ → ℕ → List ℕ → List ℕ
+cellsOutput m pattern out = cellsOutputIf m out (found m Pattern pattern)

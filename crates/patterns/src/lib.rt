@@ -1,6 +1,6 @@
 // Patterns: rows, one cell, and the whole pattern unpacked. Each query gives the module's own refusal, then 18, then 17. Of the
 // packed rows only the promises of `pattern` are used.
-use blocks::Thing;
+use blocks::RecordKind;
 use blocks::stored::packed_bytes;
 use blocks::stored::pattern_rows;
 use packed_rows::CellAnswer;
@@ -19,7 +19,7 @@ ghost use mathlib.Core.Path.{_≡_};
 ghost use lib.ListN.{length};
 ghost use Rattle.refusal.specs.Numbers.{IsAnswer};
 ghost use Rattle.packed_rows.specs.Answers.{cellNumbers};
-ghost use Rattle.patterns.specs.Shown.{noRows, rowsAnswer, cellIn, cellAnswer, unpackIn, unpackOutputIn, unpackAnswer, unpackOutput};
+ghost use Rattle.patterns.specs.Shown.{noRows, rowsAnswer, cellIn, cellAnswer, cellsIn, cellsOutputIn, cellsAnswer, cellsOutput};
 
 // How many rows a pattern has.
 #[repr(C)]
@@ -41,7 +41,7 @@ fn no_rows(r: Refusal) -> RowsAnswer
 pub fn rows(m: &[u8], pattern: usize) -> RowsAnswer
     ensures { λ r. ⌜ r ≡ rowsAnswer (now (m .entry)) pattern ⌝ }
 {
-    match find(m, Thing::Pattern, pattern) {
+    match find(m, RecordKind::Pattern, pattern) {
         Found::At(b) => RowsAnswer {
             outcome: outcome_of(Verdict::Accepted),
             rows: pattern_rows(m, b.at),
@@ -62,7 +62,7 @@ fn cell_in(m: &[u8], b: Block, row: usize, track: usize) -> CellAnswer
 pub fn cell(m: &[u8], pattern: usize, row: usize, track: usize) -> CellAnswer
     ensures { λ r. ⌜ IsAnswer cellNumbers r (cellAnswer (now (m .entry)) pattern row track) ⌝ }
 {
-    match find(m, Thing::Pattern, pattern) {
+    match find(m, RecordKind::Pattern, pattern) {
         Found::At(b) => cell_in(m, b, row, track),
         Found::Refused(r) => CellAnswer::Refused(r),
     }
@@ -70,8 +70,8 @@ pub fn cell(m: &[u8], pattern: usize, row: usize, track: usize) -> CellAnswer
 
 // Unpacks the pattern of a block.
 fn unpack_in(m: &[u8], b: Block, out: &mut [u8]) -> LengthAnswer
-    ensures { λ r. ⌜ (r ≡ unpackIn (now (m .entry)) b (length (now (out .entry))))
-        × (now (out .exit) ≡ unpackOutputIn (now (m .entry)) b (now (out .entry))) ⌝ }
+    ensures { λ r. ⌜ (r ≡ cellsIn (now (m .entry)) b (length (now (out .entry))))
+        × (now (out .exit) ≡ cellsOutputIn (now (m .entry)) b (now (out .entry))) ⌝ }
 {
     let rows = pattern_rows(m, b.at) as usize;
     match packed_rows::unpack(packed_bytes(m, b.at), rows, b.tracks as usize, out) {
@@ -82,10 +82,10 @@ fn unpack_in(m: &[u8], b: Block, out: &mut [u8]) -> LengthAnswer
 
 // Unpacks a pattern, row by row, tracks ascending, six bytes for each cell.
 pub fn unpack(m: &[u8], pattern: usize, out: &mut [u8]) -> LengthAnswer
-    ensures { λ r. ⌜ (r ≡ unpackAnswer (now (m .entry)) pattern (length (now (out .entry))))
-        × (now (out .exit) ≡ unpackOutput (now (m .entry)) pattern (now (out .entry))) ⌝ }
+    ensures { λ r. ⌜ (r ≡ cellsAnswer (now (m .entry)) pattern (length (now (out .entry))))
+        × (now (out .exit) ≡ cellsOutput (now (m .entry)) pattern (now (out .entry))) ⌝ }
 {
-    match find(m, Thing::Pattern, pattern) {
+    match find(m, RecordKind::Pattern, pattern) {
         Found::At(b) => unpack_in(m, b, out),
         Found::Refused(r) => refused(r),
     }

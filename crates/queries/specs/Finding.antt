@@ -6,21 +6,21 @@ use lib.Dec.{leb, ltb}
 use Rattle.refusal.specs.Numbers.{refusal, acceptedNumbers, refusedNumbers}
 use Rattle.refusal.specs.Lengths.{refusedLength, lengthIf, outputOf}
 use Rattle.refusal.specs.declared.LengthAnswer.{LengthAnswer}
-use Rattle.refusal.specs.declared.Cause.the-variants.{NotThere}
+use Rattle.refusal.specs.declared.Reason.the-variants.{NotThere}
 use Rattle.layout.specs.declared.Layout.{Layout}
 use Rattle.layout.specs.declared.Outline.{Outline}
 use Rattle.layout.specs.declared.Outline.the-variants.{Found as Opened, Refused as OpeningRefused}
 use Rattle.blocks.specs.Sizes.{blockAt}
-use Rattle.blocks.specs.Things.{kindOf, chunkOf, countOf}
-use Rattle.blocks.specs.declared.Thing.{Thing}
-use Rattle.blocks.specs.declared.Thing.the-variants.{Song, Instrument, Pattern, Sample, VolumeEnvelope, PanningEnvelope}
+use Rattle.blocks.specs.RecordKinds.{blockKindOf, chunkOf, countOf}
+use Rattle.blocks.specs.declared.RecordKind.{RecordKind}
+use Rattle.blocks.specs.declared.RecordKind.the-variants.{Song, Instrument, Pattern, Sample, VolumeEnvelope, PanningEnvelope}
 use Rattle.module.specs.Verdicts.{opened}
 use Rattle.queries.specs.declared.Block.{Block}
 use Rattle.queries.specs.declared.Found.{Found}
 use Rattle.queries.specs.declared.Found.the-variants.{At, Refused}
 
 -- Q2: instruments and samples are counted from 1, all else from 0.
-abbrev pub firstOf : Thing → ℕ
+abbrev pub firstOf : RecordKind → ℕ
 firstOf Song = 0
 firstOf Instrument = 1
 firstOf Pattern = 0
@@ -29,28 +29,28 @@ firstOf VolumeEnvelope = 0
 firstOf PanningEnvelope = 0
 
 -- Whether there is one of this number.
-abbrev pub there : List ℕ → Layout → Thing → ℕ → Bool
-there m l thing number = leb (firstOf thing) number && ltb (number - firstOf thing) (countOf m l thing)
+abbrev pub there : List ℕ → Layout → RecordKind → ℕ → Bool
+there m l kind number = leb (firstOf kind) number && ltb (number - firstOf kind) (countOf m l kind)
 
 -- Its block, with the version and the tracks by which it is shown.
-abbrev pub blockOf : List ℕ → Layout → Thing → ℕ → Block
-blockOf m l thing number = record {
-  at = blockAt m (kindOf thing) (chunkOf l thing) (number - firstOf thing);
+abbrev pub blockOf : List ℕ → Layout → RecordKind → ℕ → Block
+blockOf m l kind number = record {
+  at = blockAt m (blockKindOf kind) (chunkOf l kind) (number - firstOf kind);
   version = l .version;
   tracks = l .tracks;
 }
 
 -- Q1: 18.
-abbrev pub foundIn : List ℕ → Layout → Thing → ℕ → Found
-foundIn m l thing number = cond (there m l thing number) (At (blockOf m l thing number)) (Refused (refusal NotThere 0))
+abbrev pub foundIn : List ℕ → Layout → RecordKind → ℕ → Found
+foundIn m l kind number = cond (there m l kind number) (At (blockOf m l kind number)) (Refused (refusal NotThere 0))
 
-abbrev pub foundIf : List ℕ → Thing → ℕ → Outline → Found
-foundIf m thing number (Opened l) = foundIn m l thing number
-foundIf m thing number (OpeningRefused r) = Refused r
+abbrev pub foundIf : List ℕ → RecordKind → ℕ → Outline → Found
+foundIf m kind number (Opened l) = foundIn m l kind number
+foundIf m kind number (OpeningRefused r) = Refused r
 
 -- Q1: the module's own refusal, then 18.
-abbrev pub found : List ℕ → Thing → ℕ → Found
-found m thing number = foundIf m thing number (opened m)
+abbrev pub found : List ℕ → RecordKind → ℕ → Found
+found m kind number = foundIf m kind number (opened m)
 
 -- The place of what was found, 0 where nothing was.
 abbrev pub placeIn : Found → ℕ

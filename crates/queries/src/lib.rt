@@ -1,13 +1,13 @@
 // What all queries about a module have in common: where what is asked for is, and a name.
-use blocks::Thing;
+use blocks::RecordKind;
 use blocks::block_at;
+use blocks::block_kind;
 use blocks::chunk_of;
 use blocks::count_of;
-use blocks::kind_of;
 use layout::Layout;
 use layout::Outline;
 use numbers::copy;
-use refusal::Cause;
+use refusal::Reason;
 use refusal::Refusal;
 use refusal::refuse;
 ghost use mathlib.Core.Path.{_≡_};
@@ -29,44 +29,44 @@ pub enum Found {
 }
 
 // The number of the first: 1 for instruments and samples, 0 for all else.
-fn first_of(thing: Thing) -> usize
-    ensures { λ r. ⌜ r ≡ firstOf thing ⌝ }
+fn first_of(kind: RecordKind) -> usize
+    ensures { λ r. ⌜ r ≡ firstOf kind ⌝ }
 {
-    match thing {
-        Thing::Song => 0,
-        Thing::Instrument => 1,
-        Thing::Pattern => 0,
-        Thing::Sample => 1,
-        Thing::VolumeEnvelope => 0,
-        Thing::PanningEnvelope => 0,
+    match kind {
+        RecordKind::Song => 0,
+        RecordKind::Instrument => 1,
+        RecordKind::Pattern => 0,
+        RecordKind::Sample => 1,
+        RecordKind::VolumeEnvelope => 0,
+        RecordKind::PanningEnvelope => 0,
     }
 }
 
 // Where the block of a number is, in a module with this layout: 18.
-pub fn find_in(m: &[u8], l: Layout, thing: Thing, number: usize) -> Found
-    ensures { λ r. ⌜ IsAnswer foundNumbers r (foundIn (now (m .entry)) l thing number) × SmallPlace (placeIn r) ⌝ }
+pub fn find_in(m: &[u8], l: Layout, kind: RecordKind, number: usize) -> Found
+    ensures { λ r. ⌜ IsAnswer foundNumbers r (foundIn (now (m .entry)) l kind number) × SmallPlace (placeIn r) ⌝ }
 {
-    let first = first_of(thing);
+    let first = first_of(kind);
     if number < first {
-        return Found::Refused(refuse(Cause::NotThere, 0));
+        return Found::Refused(refuse(Reason::NotThere, 0));
     }
     let index = number - first;
-    if (count_of(m, l, thing) as usize) <= index {
-        return Found::Refused(refuse(Cause::NotThere, 0));
+    if (count_of(m, l, kind) as usize) <= index {
+        return Found::Refused(refuse(Reason::NotThere, 0));
     }
     Found::At(Block {
-        at: block_at(m, kind_of(thing), chunk_of(l, thing), index as u16),
+        at: block_at(m, block_kind(kind), chunk_of(l, kind), index as u16),
         version: l.version,
         tracks: l.tracks,
     })
 }
 
 // Where the block of a number stands in a module: the module's own refusal, then 18.
-pub fn find(m: &[u8], thing: Thing, number: usize) -> Found
-    ensures { λ r. ⌜ IsAnswer foundNumbers r (found (now (m .entry)) thing number) × SmallPlace (placeIn r) ⌝ }
+pub fn find(m: &[u8], kind: RecordKind, number: usize) -> Found
+    ensures { λ r. ⌜ IsAnswer foundNumbers r (found (now (m .entry)) kind number) × SmallPlace (placeIn r) ⌝ }
 {
     match module::open(m) {
-        Outline::Found(l) => find_in(m, l, thing, number),
+        Outline::Found(l) => find_in(m, l, kind, number),
         Outline::Refused(r) => Found::Refused(r),
     }
 }

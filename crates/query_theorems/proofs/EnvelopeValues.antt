@@ -13,8 +13,8 @@ use Rattle.numbers.specs.Numbers.{signed16, eachFrom}
 use Rattle.numbers.proofs.Each.{each-length}
 use Rattle.blocks.specs.StoredFields.{envelopeSections, envelopeValue}
 use Rattle.blocks.specs.Sizes.{sizeOf, firstBlock, envelopeCount}
-use Rattle.blocks.specs.declared.Kind.the-variants.{Envelope}
-use Rattle.blocks.specs.declared.Thing.the-variants.{VolumeEnvelope, PanningEnvelope}
+use Rattle.blocks.specs.declared.BlockKind.the-variants.{Envelope}
+use Rattle.blocks.specs.declared.RecordKind.the-variants.{VolumeEnvelope, PanningEnvelope}
 use Rattle.fields.specs.Fields.{valueFits, envelopeRules}
 use Rattle.queries.specs.Finding.{found}
 use Rattle.queries.specs.declared.Block.{Block}
@@ -24,7 +24,7 @@ use Rattle.acceptance.proofs.OpenModules.{module-opens}
 use Rattle.acceptance.proofs.Holding.{every-place, AllHold}
 use Rattle.acceptance.proofs.BlockFields.{leZ-says, panning-says}
 use Rattle.acceptance.proofs.PointsInUse.{sections-fit, value-fits}
-use Rattle.envelopes.specs.Shown.{thingOf, valueOf, valueShown, envelopeIf}
+use Rattle.envelopes.specs.Shown.{recordKind, valueOf, valueShown, envelopeIf}
 use Rattle.envelopes.specs.declared.EnvelopeKind.{EnvelopeKind}
 use Rattle.envelopes.specs.declared.EnvelopeKind.the-variants.{Volume, Panning}
 use Rattle.query_theorems.specs.Queries.{valueAt, Between}
@@ -51,7 +51,7 @@ volume-holds m envelope b e =
       l .instruments,
       subst (λ (c : Block). AllHold (envelopeRules m (l .instruments) false (c .at))) (sym (s .block))
           (every-place (λ at. AllHold (envelopeRules m (l .instruments) false at)) (sizeOf Envelope m)
-          (envelopeCount m (l .places .venv)) (firstBlock Envelope (l .places .venv)) .0 rules (envelope - 0) (s .counted)),
+          (envelopeCount m (l .spans .venv)) (firstBlock Envelope (l .spans .venv)) .0 rules (envelope - 0) (s .counted)),
     )
 
 panning-holds : (m : List ℕ) (envelope : ℕ) (b : Block) → found m PanningEnvelope envelope ≡ At b
@@ -63,11 +63,11 @@ panning-holds m envelope b e =
       l .instruments,
       subst (λ (c : Block). AllHold (envelopeRules m (l .instruments) (eqb (c .version) 3) (c .at))) (sym (s .block))
           (every-place (λ at. AllHold (envelopeRules m (l .instruments) (eqb (l .version) 3) at)) (sizeOf Envelope m)
-          (envelopeCount m (l .places .penv)) (firstBlock Envelope (l .places .penv)) .0 rules (envelope - 0) (s .counted)),
+          (envelopeCount m (l .spans .penv)) (firstBlock Envelope (l .spans .penv)) .0 rules (envelope - 0) (s .counted)),
     )
 
 -- What is shown for a point of an envelope that is found.
-point-shown : (m : List ℕ) (kind : EnvelopeKind) (envelope : ℕ) (b : Block) → found m (thingOf kind) envelope ≡ At b
+point-shown : (m : List ℕ) (kind : EnvelopeKind) (envelope : ℕ) (b : Block) → found m (recordKind kind) envelope ≡ At b
     → (point : ℕ) → point < 32
     → valueAt m kind envelope point ≡ valueShown m kind (b .version) (b .at) (envelopeSections m (b .at)) point
 point-shown m kind envelope b e point h =
@@ -77,17 +77,17 @@ point-shown m kind envelope b e point h =
 
 -- What holds of 0 and of each value in use holds of each value that is shown.
 each-value : (P : ℤ → Type 0) (m : List ℕ) (kind : EnvelopeKind) (envelope : ℕ) → P (pos 0)
-    → ((b : Block) → found m (thingOf kind) envelope ≡ At b → (point : ℕ) → point ≤ envelopeSections m (b .at)
+    → ((b : Block) → found m (recordKind kind) envelope ≡ At b → (point : ℕ) → point ≤ envelopeSections m (b .at)
     → P (valueOf kind (b .version) (envelopeValue m (b .at) point))) → (point : ℕ)
     → P (valueAt m kind envelope point)
-each-value P m kind envelope none each point = go (found m (thingOf kind) envelope) refl
+each-value P m kind envelope none each point = go (found m (recordKind kind) envelope) refl
   where
-    used : (b : Block) → found m (thingOf kind) envelope ≡ At b → (t : Bool) → leb point (envelopeSections m (b .at)) ≡ t
+    used : (b : Block) → found m (recordKind kind) envelope ≡ At b → (t : Bool) → leb point (envelopeSections m (b .at)) ≡ t
         → P (cond t (valueOf kind (b .version) (envelopeValue m (b .at) point)) (pos 0))
     used b e true h = each b e point (leb-true point (envelopeSections m (b .at)) h)
     used b e false h = none
 
-    within : (b : Block) → found m (thingOf kind) envelope ≡ At b → (t : Bool) → ltb point 32 ≡ t → P (valueAt m kind envelope point)
+    within : (b : Block) → found m (recordKind kind) envelope ≡ At b → (t : Bool) → ltb point 32 ≡ t → P (valueAt m kind envelope point)
     within b e true h = subst P (sym (point-shown m kind envelope b e point (ltb-true point 32 h))) (used b e (leb point (envelopeSections m (b .at))) refl)
     within b e false h =
         let values : List ℤ = eachFrom (valueShown m kind (b .version) (b .at) (envelopeSections m (b .at))) 0 32 in
@@ -96,7 +96,7 @@ each-value P m kind envelope none each point = go (found m (thingOf kind) envelo
         (omega (arith, each-length (valueShown m kind (b .version) (b .at) (envelopeSections m (b .at))) 32 0, ltb-false point 32 h)) in
         subst P (sym (ap (λ (f : Found). getD (envelopeIf m kind f .values) point (pos 0)) e ∙ past)) none
 
-    go : (f : Found) → found m (thingOf kind) envelope ≡ f → P (valueAt m kind envelope point)
+    go : (f : Found) → found m (recordKind kind) envelope ≡ f → P (valueAt m kind envelope point)
     go (At b) e = within b e (ltb point 32) refl
     go (Refused r) e = subst P (sym (ap (λ (f : Found). getD (envelopeIf m kind f .values) point (pos 0)) e ∙ same-at (pos 0) 32 point)) none
 

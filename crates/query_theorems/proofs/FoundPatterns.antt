@@ -11,7 +11,7 @@ use lib.Dec.{leb, ltb}
 use borrow.Author.Tests.{leb-true, ltb-true, le-leb, lt-ltb}
 use Rattle.vocabulary.proofs.EveryOne.{every-first}
 use Rattle.refusal.specs.Numbers.{refusal}
-use Rattle.refusal.specs.declared.Cause.the-variants.{Room, NotThere}
+use Rattle.refusal.specs.declared.Reason.the-variants.{Room, NotThere}
 use Rattle.refusal.specs.declared.Verdict.the-variants.{Accepted}
 use Rattle.refusal.specs.Lengths.{refusedLength, writtenLength, lengthIf}
 use Rattle.cells.specs.Cells.{sizesFit, cellBytes, rowsOf, emptyCell, Row}
@@ -22,12 +22,12 @@ use Rattle.packed_rows.specs.Stream.{cellsRead}
 use Rattle.packed_rows.specs.Answers.{checkAnswer, cellThere, cellOf, unpackAnswer as streamAnswer}
 use Rattle.packed_rows.specs.declared.CellAnswer.the-variants.{Found as CellFound, Refused as CellRefused}
 use Rattle.packed_rows.specs.declared.Unpacking.the-variants.{Unpacked, Refused as UnpackingRefused}
-use Rattle.packed_rows.proofs.Reading.{both-true}
+use Rattle.packed_rows.proofs.Reading.{and-true}
 use Rattle.packed_rows.proofs.Accepted.{accepted-rows}
 use Rattle.blocks.specs.StoredFields.{patternPackedLength, packedBytes}
 use Rattle.blocks.specs.Sizes.{sizeOf, firstBlock}
-use Rattle.blocks.specs.declared.Kind.the-variants.{Pattern as PatternKind}
-use Rattle.blocks.specs.declared.Thing.the-variants.{Pattern}
+use Rattle.blocks.specs.declared.BlockKind.the-variants.{Pattern as PatternBlock}
+use Rattle.blocks.specs.declared.RecordKind.the-variants.{Pattern}
 use Rattle.queries.specs.Finding.{found}
 use Rattle.queries.specs.declared.Block.{Block}
 use Rattle.queries.specs.declared.Found.the-variants.{At}
@@ -35,7 +35,7 @@ use Rattle.acceptance.proofs.OpenModules.{module-opens}
 use Rattle.acceptance.proofs.Locating.{part-length}
 use Rattle.acceptance.proofs.Holding.{every-place}
 use Rattle.acceptance.proofs.BlockStreams.{accepted-says, accepted-sizes, holds}
-use Rattle.patterns.specs.Shown.{lengthOf, cellIf, cellAnswer, unpackIf, unpackAnswer}
+use Rattle.patterns.specs.Shown.{lengthOfUnpacking, cellIf, cellAnswer, cellsIf, cellsAnswer}
 use Rattle.query_theorems.specs.Queries.{HasCell, storedCell}
 use Rattle.query_theorems.proofs.FoundBlocks.{found-numbered, found-opened}
 use Rattle.query_theorems.proofs.ShownBytes.{block-ends}
@@ -46,11 +46,11 @@ module _ (stream : List ℕ) (rows tracks : ℕ) (accepted : checkAnswer stream 
   fits = accepted-sizes stream rows tracks accepted
 
   -- 17 at the most.
-  unpacked : (room : ℕ) → lengthOf (streamAnswer stream rows tracks room) ≡ lengthIf (cellBytes rows tracks) room
+  unpacked : (room : ℕ) → lengthOfUnpacking (streamAnswer stream rows tracks room) ≡ lengthIf (cellBytes rows tracks) room
   unpacked room = simp (fits, holds stream rows tracks accepted .read) (go (ltb room (cellBytes rows tracks)))
     where
       go : (lacks : Bool)
-          → lengthOf (cond lacks (UnpackingRefused (refusal Room (cellBytes rows tracks))) (Unpacked (cellBytes rows tracks)))
+          → lengthOfUnpacking (cond lacks (UnpackingRefused (refusal Room (cellBytes rows tracks))) (Unpacked (cellBytes rows tracks)))
           ≡ cond lacks (refusedLength (refusal Room (cellBytes rows tracks))) (writtenLength (cellBytes rows tracks))
       go true = refl
       go false = refl
@@ -76,8 +76,8 @@ module _ (stream : List ℕ) (rows tracks : ℕ) (accepted : checkAnswer stream 
 there-says : (rows tracks row track : ℕ) → (cellThere rows tracks row track ≡ true) ↔ ((row < rows) × (1 ≤ track) × (track ≤ tracks))
 there-says rows tracks row track = (
   λ h.
-      let first = both-true (ltb row rows) _ h in
-      let second = both-true (leb 1 track) _ (first .1) in
+      let first = and-true (ltb row rows) _ h in
+      let second = and-true (leb 1 track) _ (first .1) in
       (ltb-true row rows (first .0), leb-true 1 track (second .0), leb-true track tracks (second .1)),
   λ h. rw (lt-ltb row rows (h .0), le-leb 1 track (h .1), le-leb track tracks (h .2)),
 )
@@ -94,10 +94,10 @@ module _ (m : List ℕ) (pattern : ℕ) (b : Block) (e : found m Pattern pattern
       let s = found-numbered m Pattern pattern b l o e in
       let streams = module-opens m l o .content .streams in
       rw (s .block) (accepted-says _ .0
-      (every-first (every-place _ (sizeOf PatternKind m) (l .patterns) (firstBlock PatternKind (l .places .patt)) .0 streams (pattern - 0) (s .counted))))
+      (every-first (every-place _ (sizeOf PatternBlock m) (l .patterns) (firstBlock PatternBlock (l .spans .patt)) .0 streams (pattern - 0) (s .counted))))
 
-  pub unpack-length : (room : ℕ) → unpackAnswer m pattern room ≡ lengthIf (cellBytes (number16 m (b .at)) (b .tracks)) room
-  unpack-length room = ap (unpackIf m room) e ∙ unpacked (packedBytes m (b .at)) (number16 m (b .at)) (b .tracks) stream-accepted room
+  pub unpack-length : (room : ℕ) → cellsAnswer m pattern room ≡ lengthIf (cellBytes (number16 m (b .at)) (b .tracks)) room
+  unpack-length room = ap (cellsIf m room) e ∙ unpacked (packedBytes m (b .at)) (number16 m (b .at)) (b .tracks) stream-accepted room
 
   module _ (row track : ℕ) where
     pub cell-shown : HasCell m b row track → cellAnswer m pattern row track ≡ CellFound (shownCell (storedCell m b row track))

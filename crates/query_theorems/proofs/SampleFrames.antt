@@ -14,8 +14,8 @@ use Rattle.numbers.specs.Numbers.{number32, partOf}
 use Rattle.blocks.specs.StoredFields.{sampleFrames}
 use Rattle.blocks.specs.Sizes.{widthOf, sizeOf, firstBlock, blockAt}
 use Rattle.blocks.specs.Filling.{dataEnd}
-use Rattle.blocks.specs.declared.Kind.the-variants.{Sample as SampleKind}
-use Rattle.blocks.specs.declared.Thing.the-variants.{Sample}
+use Rattle.blocks.specs.declared.BlockKind.the-variants.{Sample as SampleBlock}
+use Rattle.blocks.specs.declared.RecordKind.the-variants.{Sample}
 use Rattle.queries.specs.Finding.{found}
 use Rattle.queries.specs.declared.Block.{Block}
 use Rattle.queries.specs.declared.Found.{Found}
@@ -24,7 +24,7 @@ use Rattle.acceptance.proofs.OpenModules.{module-opens}
 use Rattle.acceptance.proofs.Locating.{part-length}
 use Rattle.acceptance.proofs.Holding.{every-place}
 use Rattle.acceptance.proofs.BlockFields.{width-says}
-use Rattle.samples.specs.Shown.{frameBytes, framesIf, framesPart}
+use Rattle.samples.specs.Shown.{bytesPerFrame, framesIf, framesPart}
 use Rattle.query_theorems.specs.Queries.{InChunk, FramesIn}
 use Rattle.query_theorems.proofs.FoundBlocks.{found-numbered, block-in-chunk}
 
@@ -45,24 +45,24 @@ module _ (m : List ℕ) (sample : ℕ) where
     chunk : InChunk m Sample (b .at)
     chunk = block-in-chunk m Sample sample b e
 
-    width : (frameBytes m (b .at) ≡ 1) ⊎ ((frameBytes m (b .at) ≡ 2) ⊎ (frameBytes m (b .at) ≡ 4))
+    width : (bytesPerFrame m (b .at) ≡ 1) ⊎ ((bytesPerFrame m (b .at) ≡ 2) ⊎ (bytesPerFrame m (b .at) ≡ 4))
     width =
         let l = chunk .layout in
         let s = found-numbered m Sample sample b l (chunk .opens) e in
         let flags = module-opens m l (chunk .opens) .content .blocks .flags in
-        rw (s .block) (width-of (number32 m (blockAt m SampleKind (l .places .smpl) (sample - 1)))
-        (every-first (every-place _ (sizeOf SampleKind m) (l .samples) (firstBlock SampleKind (l .places .smpl)) .0 flags (sample - 1) (s .counted))))
+        rw (s .block) (width-of (number32 m (blockAt m SampleBlock (l .spans .smpl) (sample - 1)))
+        (every-first (every-place _ (sizeOf SampleBlock m) (l .samples) (firstBlock SampleBlock (l .spans .smpl)) .0 flags (sample - 1) (s .counted))))
 
-    bytes : framesPart m sample ≡ partOf m (b .at + 8) (sampleFrames m (b .at) * frameBytes m (b .at))
+    bytes : framesPart m sample ≡ partOf m (b .at + 8) (sampleFrames m (b .at) * bytesPerFrame m (b .at))
     unfolding handed-out
     bytes = ap (handed-out) e
 
-    fits : b .at + 8 + sampleFrames m (b .at) * frameBytes m (b .at) ≤ dataEnd (chunk .layout .places .smpl)
+    fits : b .at + 8 + sampleFrames m (b .at) * bytesPerFrame m (b .at) ≤ dataEnd (chunk .layout .spans .smpl)
     unfolding sizeOf
     fits = omega (arith, chunk .inside)
 
-    size : length (framesPart m sample) ≡ sampleFrames m (b .at) * frameBytes m (b .at)
-    size = ap length bytes ∙ part-length m (b .at + 8) (sampleFrames m (b .at) * frameBytes m (b .at)) (omega (arith, fits, chunk .whole))
+    size : length (framesPart m sample) ≡ sampleFrames m (b .at) * bytesPerFrame m (b .at)
+    size = ap length bytes ∙ part-length m (b .at + 8) (sampleFrames m (b .at) * bytesPerFrame m (b .at)) (omega (arith, fits, chunk .whole))
 
     pub frames-in : FramesIn m sample (b .at)
     frames-in = record { chunk = chunk; width = width; bytes = bytes; size = size; inside = rw size fits }

@@ -13,9 +13,9 @@ use Rattle.layout.specs.declared.Outline.{Outline}
 use Rattle.layout.specs.declared.Outline.the-variants.{Found as Opened}
 use Rattle.blocks.specs.StoredFields.{songLength}
 use Rattle.blocks.specs.Sizes.{sizeOf}
-use Rattle.blocks.specs.Things.{kindOf}
-use Rattle.blocks.specs.declared.Thing.{Thing}
-use Rattle.blocks.specs.declared.Thing.the-variants.{Song, Instrument}
+use Rattle.blocks.specs.RecordKinds.{blockKindOf}
+use Rattle.blocks.specs.declared.RecordKind.{RecordKind}
+use Rattle.blocks.specs.declared.RecordKind.the-variants.{Song, Instrument}
 use Rattle.module.specs.Verdicts.{opened}
 use Rattle.queries.specs.Finding.{found}
 use Rattle.queries.specs.declared.Block.{Block}
@@ -28,16 +28,16 @@ use Rattle.instruments.specs.Shown.{instrumentIf, instrumentAnswer}
 use Rattle.query_theorems.proofs.FoundBlocks.{block-in-chunk}
 
 -- The data of NAME.
-pub module-name : (m : List ℕ) (l : Layout) → opened m ≡ Opened l → l .places .name .present ≡ true → nameAnswer m .name ≡ partOf m (l .places .name .at + 8) 44
+pub module-name : (m : List ℕ) (l : Layout) → opened m ≡ Opened l → l .spans .name .present ≡ true → nameAnswer m .name ≡ partOf m (l .spans .name .at + 8) 44
 module-name m l o h =
-    let w = module-opens m l o .places .name h in
-    let shown : nameIf m (Opened l) .name ≡ bytesFrom m (l .places .name .at + 8) 44 =
-    ap (λ (there : Bool). cond there (bytesFrom m (l .places .name .at + 8) 44) (replicate 44 0)) h in
-    ap (λ (out : Outline). nameIf m out .name) o ∙ shown ∙ bytes-part m 44 (l .places .name .at + 8) (omega (arith, w .nameSize refl, w .inside))
+    let w = module-opens m l o .spans .name h in
+    let shown : nameIf m (Opened l) .name ≡ bytesFrom m (l .spans .name .at + 8) 44 =
+    ap (λ (there : Bool). cond there (bytesFrom m (l .spans .name .at + 8) 44) (replicate 44 0)) h in
+    ap (λ (out : Outline). nameIf m out .name) o ∙ shown ∙ bytes-part m 44 (l .spans .name .at + 8) (omega (arith, w .nameSize refl, w .inside))
 
 -- A block that is found ends in the module.
-pub block-ends : (m : List ℕ) (thing : Thing) (number : ℕ) (b : Block) → found m thing number ≡ At b → b .at + sizeOf (kindOf thing) m (b .at) ≤ length m
-block-ends m thing number b e = let c = block-in-chunk m thing number b e in omega (arith, c .inside, c .whole)
+pub block-ends : (m : List ℕ) (kind : RecordKind) (number : ℕ) (b : Block) → found m kind number ≡ At b → b .at + sizeOf (blockKindOf kind) m (b .at) ≤ length m
+block-ends m kind number b e = let c = block-in-chunk m kind number b e in omega (arith, c .inside, c .whole)
 
 module _ (m : List ℕ) (number : ℕ) (b : Block) where
   pub song-name : found m Song number ≡ At b → songAnswer m number .name ≡ partOf m (b .at) 44

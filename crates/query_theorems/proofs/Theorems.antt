@@ -30,7 +30,7 @@ use mathlib.Core.Bool.{true}
 use lib.ListN.{length}
 use lib.IntN.{pos, negsuc, _-ℤ_}
 use Rattle.refusal.specs.Numbers.{refusal}
-use Rattle.refusal.specs.declared.Cause.the-variants.{NotThere}
+use Rattle.refusal.specs.declared.Reason.the-variants.{NotThere}
 use Rattle.refusal.specs.declared.Refusal.{Refusal}
 use Rattle.refusal.specs.declared.Verdict.the-variants.{Accepted, Refused}
 use Rattle.refusal.specs.Lengths.{lengthIf}
@@ -44,16 +44,16 @@ use Rattle.layout.specs.declared.Outline.the-variants.{Found as Opened}
 use Rattle.blocks.specs.StoredFields.{songLength, patternPackedLength, packedBytes, envelopeSections, envelopeValue}
 use Rattle.blocks.specs.Sizes.{sizeOf, firstBlock}
 use Rattle.blocks.specs.Filling.{dataEnd}
-use Rattle.blocks.specs.Things.{kindOf, chunkOf}
-use Rattle.blocks.specs.declared.Thing.{Thing}
-use Rattle.blocks.specs.declared.Thing.the-variants.{Song, Instrument, Pattern, Sample, PanningEnvelope}
+use Rattle.blocks.specs.RecordKinds.{blockKindOf, chunkOf}
+use Rattle.blocks.specs.declared.RecordKind.{RecordKind}
+use Rattle.blocks.specs.declared.RecordKind.the-variants.{Song, Instrument, Pattern, Sample, PanningEnvelope}
 use Rattle.module.specs.Verdicts.{opened, moduleVerdict}
 use Rattle.queries.specs.Finding.{firstOf, found}
 use Rattle.queries.specs.declared.Block.{Block}
 use Rattle.queries.specs.declared.Found.the-variants.{At, Refused as FindingRefused}
 use Rattle.samples.specs.Shown.{framesPart}
 use Rattle.envelopes.specs.declared.EnvelopeKind.the-variants.{Volume, Panning}
-use Rattle.patterns.specs.Shown.{cellAnswer, unpackAnswer}
+use Rattle.patterns.specs.Shown.{cellAnswer, cellsAnswer}
 use Rattle.songs.specs.Shown.{songAnswer, playlistBytes}
 use Rattle.summary.specs.Shown.{nameAnswer}
 use Rattle.instruments.specs.Shown.{instrumentAnswer}
@@ -71,23 +71,23 @@ pub samples-agree : map (λ (s : Samples.Sample). s .found) Samples.samples ≡ 
 samples-agree = Samples.samples-agree
 
 -- 13.
-pub block-in-chunk : (m : List ℕ) (thing : Thing) (number : ℕ) (b : Block) → found m thing number ≡ At b → InChunk m thing (b .at)
+pub block-in-chunk : (m : List ℕ) (kind : RecordKind) (number : ℕ) (b : Block) → found m kind number ≡ At b → InChunk m kind (b .at)
 block-in-chunk = FoundBlocks.block-in-chunk
 
 -- 14.
-pub first-block : (m : List ℕ) (l : Layout) (thing : Thing) (b : Block) → opened m ≡ Opened l
-    → found m thing (firstOf thing) ≡ At b
-    → b .at ≡ firstBlock (kindOf thing) (chunkOf l thing)
+pub first-block : (m : List ℕ) (l : Layout) (kind : RecordKind) (b : Block) → opened m ≡ Opened l
+    → found m kind (firstOf kind) ≡ At b
+    → b .at ≡ firstBlock (blockKindOf kind) (chunkOf l kind)
 first-block = FoundBlocks.first-block
 
-pub next-block : (m : List ℕ) (thing : Thing) (number : ℕ) (b : Block) → found m thing number ≡ At b → (c : Block)
-    → found m thing (number + 1) ≡ At c
-    → c .at ≡ b .at + sizeOf (kindOf thing) m (b .at)
+pub next-block : (m : List ℕ) (kind : RecordKind) (number : ℕ) (b : Block) → found m kind number ≡ At b → (c : Block)
+    → found m kind (number + 1) ≡ At c
+    → c .at ≡ b .at + sizeOf (blockKindOf kind) m (b .at)
 next-block = FoundBlocks.next-block
 
-pub last-block : (m : List ℕ) (thing : Thing) (number : ℕ) (b : Block) → found m thing number ≡ At b
-    → (l : Layout) (r : Refusal) → opened m ≡ Opened l → found m thing (number + 1) ≡ FindingRefused r
-    → b .at + sizeOf (kindOf thing) m (b .at) ≡ dataEnd (chunkOf l thing)
+pub last-block : (m : List ℕ) (kind : RecordKind) (number : ℕ) (b : Block) → found m kind number ≡ At b
+    → (l : Layout) (r : Refusal) → opened m ≡ Opened l → found m kind (number + 1) ≡ FindingRefused r
+    → b .at + sizeOf (blockKindOf kind) m (b .at) ≡ dataEnd (chunkOf l kind)
 last-block = FoundBlocks.last-block
 
 -- 15.
@@ -105,7 +105,7 @@ module _ (m : List ℕ) (pattern : ℕ) (b : Block) (there : found m Pattern pat
   pub stream-accepted : checkAnswer (packedBytes m (b .at)) (number16 m (b .at)) (b .tracks) ≡ Accepted
   stream-accepted = FoundPatterns.stream-accepted m pattern b there
 
-  pub unpack-length : (room : ℕ) → unpackAnswer m pattern room ≡ lengthIf (cellBytes (number16 m (b .at)) (b .tracks)) room
+  pub unpack-length : (room : ℕ) → cellsAnswer m pattern room ≡ lengthIf (cellBytes (number16 m (b .at)) (b .tracks)) room
   unpack-length = FoundPatterns.unpack-length m pattern b there
 
   pub cell-not-there : (row track : ℕ) → (cellAnswer m pattern row track ≡ CellRefused (refusal NotThere 0)) ↔ (HasCell m b row track → ⊥)
@@ -115,7 +115,7 @@ module _ (m : List ℕ) (pattern : ℕ) (b : Block) (there : found m Pattern pat
   cell-shown = FoundPatterns.cell-shown m pattern b there
 
 -- 17.
-pub module-name : (m : List ℕ) (l : Layout) → opened m ≡ Opened l → l .places .name .present ≡ true → nameAnswer m .name ≡ partOf m (l .places .name .at + 8) 44
+pub module-name : (m : List ℕ) (l : Layout) → opened m ≡ Opened l → l .spans .name .present ≡ true → nameAnswer m .name ≡ partOf m (l .spans .name .at + 8) 44
 module-name = ShownBytes.module-name
 
 pub song-name : (m : List ℕ) (song : ℕ) (b : Block) → found m Song song ≡ At b → songAnswer m song .name ≡ partOf m (b .at) 44

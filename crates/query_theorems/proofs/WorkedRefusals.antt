@@ -17,18 +17,18 @@ use Rattle.refusal.specs.declared.Outcome.{Outcome}
 use Rattle.refusal.specs.declared.Verdict.the-variants.{Refused}
 use Rattle.numbers.specs.Numbers.{byteAt, number16, number32}
 use Rattle.packed_rows.specs.Stream.{readFrom, reading, cellsRead}
-use Rattle.packed_rows.specs.Answers.{unpackAnswer, packAnswer, repackAnswer, cellOf, unpackingNumbers, packingNumbers, cellNumbers}
+use Rattle.packed_rows.specs.Answers.{unpackAnswer, packAnswer, repackStreamAnswer, cellOf, unpackingNumbers, packingNumbers, cellNumbers}
 use Rattle.packed_rows.specs.declared.CellAnswer.{CellAnswer}
 use Rattle.layout.specs.Chunks.{chunksFrom, chunks}
 use Rattle.layout.specs.Outlines.{outlineNumbers}
 use Rattle.blocks.specs.Sizes.{sizeOf}
-use Rattle.blocks.specs.declared.Thing.the-variants.{Instrument}
+use Rattle.blocks.specs.declared.RecordKind.the-variants.{Instrument}
 use Rattle.module.specs.Verdicts.{opened, moduleVerdict}
 use Rattle.queries.specs.Finding.{foundNumbers, found as foundBlock}
 use Rattle.samples.specs.Shown.{sampleAnswer, framesAnswer, frameAnswer, allFramesAnswer}
 use Rattle.envelopes.specs.Shown.{countAnswer, envelopeAnswer}
 use Rattle.envelopes.specs.declared.EnvelopeKind.the-variants.{Volume, Panning}
-use Rattle.patterns.specs.Shown.{rowsAnswer, cellAnswer, unpackAnswer as patternAnswer}
+use Rattle.patterns.specs.Shown.{rowsAnswer, cellAnswer, cellsAnswer as patternAnswer}
 use Rattle.songs.specs.Shown.{songAnswer, entryAnswer, playlistAnswer}
 use Rattle.summary.specs.Shown.{versionAnswer, nameAnswer, infoAnswer}
 use Rattle.instruments.specs.Shown.{instrumentAnswer}
@@ -509,7 +509,7 @@ packed : List ℕ → ℕ → ℕ → ℕ → List ℕ
 packed cells rows tracks room = take 2 (packingNumbers (packAnswer cells rows tracks room))
 
 repacked : List ℕ → ℕ → ℕ → ℕ → List ℕ
-repacked stream rows tracks room = take 2 (packingNumbers (repackAnswer stream rows tracks room))
+repacked stream rows tracks room = take 2 (packingNumbers (repackStreamAnswer stream rows tracks room))
 
 -- A stream that is broken at its front: no mask follows the track.
 broken : List ℕ

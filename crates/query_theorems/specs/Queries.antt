@@ -12,52 +12,52 @@ use lib.Signed.{_≤ℤ_}
 use Rattle.cells.specs.Cells.{rowsOf, emptyCell}
 use Rattle.numbers.specs.Numbers.{number16, number32, partOf}
 use Rattle.packed_rows.specs.Stream.{cellsRead}
-use Rattle.layout.specs.Chunks.{SONG, INST, PATT, SMPL, VENV, PENV}
+use Rattle.layout.specs.Chunks.{songIdentifier, instIdentifier, pattIdentifier, smplIdentifier, venvIdentifier, penvIdentifier}
 use Rattle.layout.specs.declared.Layout.{Layout}
 use Rattle.layout.specs.declared.Outline.the-variants.{Found as Opened}
 use Rattle.blocks.specs.StoredFields.{packedBytes, sampleFrames}
 use Rattle.blocks.specs.Sizes.{sizeOf}
 use Rattle.blocks.specs.Filling.{dataEnd}
-use Rattle.blocks.specs.Things.{kindOf, chunkOf}
-use Rattle.blocks.specs.declared.Thing.{Thing}
-use Rattle.blocks.specs.declared.Thing.the-variants.{Song, Instrument, Pattern, Sample, VolumeEnvelope, PanningEnvelope}
+use Rattle.blocks.specs.RecordKinds.{blockKindOf, chunkOf}
+use Rattle.blocks.specs.declared.RecordKind.{RecordKind}
+use Rattle.blocks.specs.declared.RecordKind.the-variants.{Song, Instrument, Pattern, Sample, VolumeEnvelope, PanningEnvelope}
 use Rattle.module.specs.Verdicts.{opened}
 use Rattle.queries.specs.declared.Block.{Block}
 use Rattle.acceptance.specs.Places.{HeaderAt}
-use Rattle.samples.specs.Shown.{frameBytes, framesPart}
+use Rattle.samples.specs.Shown.{bytesPerFrame, framesPart}
 use Rattle.envelopes.specs.Shown.{envelopeAnswer}
 use Rattle.envelopes.specs.declared.EnvelopeKind.{EnvelopeKind}
 
 -- The identifier of the chunk that holds a thing.
-abbrev pub identifierOf : Thing → ℕ
-identifierOf Song = SONG
-identifierOf Instrument = INST
-identifierOf Pattern = PATT
-identifierOf Sample = SMPL
-identifierOf VolumeEnvelope = VENV
-identifierOf PanningEnvelope = PENV
+abbrev pub identifierOf : RecordKind → ℕ
+identifierOf Song = songIdentifier
+identifierOf Instrument = instIdentifier
+identifierOf Pattern = pattIdentifier
+identifierOf Sample = smplIdentifier
+identifierOf VolumeEnvelope = venvIdentifier
+identifierOf PanningEnvelope = penvIdentifier
 
 -- The block of a thing at a place lies within the data of its chunk. The module is accepted and has this layout; the chunk is there, with
 -- its own identifier and the length that its header says; and it is whole.
-pub record InChunk (m : List ℕ) (thing : Thing) (at : ℕ) : Type 0 where
+pub record InChunk (m : List ℕ) (kind : RecordKind) (at : ℕ) : Type 0 where
   pub layout : Layout
   pub opens : opened m ≡ Opened layout
-  pub present : chunkOf layout thing .present ≡ true
-  pub header : HeaderAt m (chunkOf layout thing .at)
-  pub named : number32 m (chunkOf layout thing .at) ≡ identifierOf thing
-  pub size : number32 m (chunkOf layout thing .at + 4) ≡ chunkOf layout thing .length
-  pub behind : chunkOf layout thing .at + 8 ≤ at
-  pub inside : at + sizeOf (kindOf thing) m at ≤ dataEnd (chunkOf layout thing)
-  pub whole : dataEnd (chunkOf layout thing) ≤ length m
+  pub present : chunkOf layout kind .present ≡ true
+  pub header : HeaderAt m (chunkOf layout kind .at)
+  pub named : number32 m (chunkOf layout kind .at) ≡ identifierOf kind
+  pub size : number32 m (chunkOf layout kind .at + 4) ≡ chunkOf layout kind .length
+  pub behind : chunkOf layout kind .at + 8 ≤ at
+  pub inside : at + sizeOf (blockKindOf kind) m at ≤ dataEnd (chunkOf layout kind)
+  pub whole : dataEnd (chunkOf layout kind) ≤ length m
 
 -- The frames of a sample whose block stands at a place: as many bytes as the block says, behind its flags and its number of frames, and
--- within the data of SMPL; a frame has 1, 2 or 4 bytes.
+-- within the data of smplIdentifier; a frame has 1, 2 or 4 bytes.
 pub record FramesIn (m : List ℕ) (sample at : ℕ) : Type 0 where
   pub chunk : InChunk m Sample at
-  pub width : (frameBytes m at ≡ 1) ⊎ ((frameBytes m at ≡ 2) ⊎ (frameBytes m at ≡ 4))
-  pub bytes : framesPart m sample ≡ partOf m (at + 8) (sampleFrames m at * frameBytes m at)
-  pub size : length (framesPart m sample) ≡ sampleFrames m at * frameBytes m at
-  pub inside : at + 8 + length (framesPart m sample) ≤ dataEnd (chunk .layout .places .smpl)
+  pub width : (bytesPerFrame m at ≡ 1) ⊎ ((bytesPerFrame m at ≡ 2) ⊎ (bytesPerFrame m at ≡ 4))
+  pub bytes : framesPart m sample ≡ partOf m (at + 8) (sampleFrames m at * bytesPerFrame m at)
+  pub size : length (framesPart m sample) ≡ sampleFrames m at * bytesPerFrame m at
+  pub inside : at + 8 + length (framesPart m sample) ≤ dataEnd (chunk .layout .spans .smpl)
 
 -- Q10: the pattern whose block this is has this row and this track. Rows are counted from 0, tracks from 1.
 abbrev pub HasCell : List ℕ → Block → ℕ → ℕ → Type 0

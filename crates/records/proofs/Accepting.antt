@@ -8,27 +8,27 @@ use lib.Dec.{eqb}
 use borrow.Author.Tests.{leb-true}
 use Rattle.vocabulary.specs.Lists.{joined, Every}
 use Rattle.vocabulary.proofs.EveryOne.{every-of}
-use Rattle.layout.specs.declared.Place.{Place}
+use Rattle.layout.specs.declared.ChunkSpan.{ChunkSpan}
 use Rattle.layout.specs.declared.Layout.{Layout}
 use Rattle.layout.specs.declared.Outline.the-variants.{Found}
 use Rattle.blocks.specs.StoredFields.{envelopeValue}
 use Rattle.blocks.specs.Sizes.{sizeOf, placesFrom, blockAt, blocksOf}
-use Rattle.blocks.specs.declared.Kind.{Kind}
-use Rattle.blocks.specs.Things.{kindOf, chunkOf, countOf}
-use Rattle.blocks.specs.declared.Thing.{Thing}
-use Rattle.blocks.specs.declared.Thing.the-variants.{Song, Instrument, Pattern, Sample, VolumeEnvelope, PanningEnvelope}
+use Rattle.blocks.specs.declared.BlockKind.{BlockKind}
+use Rattle.blocks.specs.RecordKinds.{blockKindOf, chunkOf, countOf}
+use Rattle.blocks.specs.declared.RecordKind.{RecordKind}
+use Rattle.blocks.specs.declared.RecordKind.the-variants.{Song, Instrument, Pattern, Sample, VolumeEnvelope, PanningEnvelope}
 use Rattle.fields.specs.Fields.{envelopeRules}
 use Rattle.module.specs.Verdicts.{opened}
 use Rattle.acceptance.proofs.Holding.{AllHold}
 use Rattle.acceptance.proofs.PointsInUse.{value-fits}
 use Rattle.acceptance.proofs.OpenModules.{Opens, module-opens}
 use Rattle.records.specs.Records.{summaryRecord, recordAt, recordsOf, allRecords}
-use Rattle.records.specs.Steps.{recordsFrom, recordsOfThree, ValuesFit}
+use Rattle.records.specs.Steps.{recordsFrom, recordsOfThree, ValuesScale}
 use Rattle.records.proofs.Ahead.{every-any}
 use Rattle.records.proofs.RecordLengths.{summary-length, record-length, equal-lengths, block-lengths}
 
 -- An envelope of panning whose rules hold.
-panning-fits : (m : List ℕ) (instruments version at : ℕ) → AllHold (envelopeRules m instruments (eqb version 3) at) → ValuesFit m version PanningEnvelope at
+panning-fits : (m : List ℕ) (instruments version at : ℕ) → AllHold (envelopeRules m instruments (eqb version 3) at) → ValuesScale m version PanningEnvelope at
 panning-fits m instruments version at hold point h two =
     leb-true (envelopeValue m at point) 64 (rw two at (value-fits m instruments (eqb version 3) at hold point h))
 
@@ -36,7 +36,7 @@ module _ (m : List ℕ) (l : Layout) (o : opened m ≡ Found l) where
   opens : Opens m l
   opens = module-opens m l o
 
-  pub values-fit : (thing : Thing) → Every (ValuesFit m (l .version) thing) (blocksOf m (kindOf thing) (chunkOf l thing) (countOf m l thing))
+  pub values-fit : (kind : RecordKind) → Every (ValuesScale m (l .version) kind) (blocksOf m (blockKindOf kind) (chunkOf l kind) (countOf m l kind))
   values-fit Song = every-any (λ at. tt) _
   values-fit Instrument = every-any (λ at. tt) _
   values-fit Pattern = every-any (λ at. tt) _
@@ -44,44 +44,45 @@ module _ (m : List ℕ) (l : Layout) (o : opened m ≡ Found l) where
   values-fit VolumeEnvelope = every-any (λ at. tt) _
   values-fit PanningEnvelope = every-of (λ at hold. panning-fits m (l .instruments) (l .version) at hold) (opens .content .fields .panningEnvelopes)
 
-  pub songs-length : length (recordsOf m l Song) ≡ l .places .song .length
+  pub songs-length : length (recordsOf m l Song) ≡ l .spans .song .length
   songs-length =
       omega (
         arith,
-        block-lengths (recordAt m (l .version) Song) (sizeOf (kindOf Song) m) (record-length m (l .version) Song) (l .songs)
-            (l .places .song .at + 8),
+        block-lengths (recordAt m (l .version) Song) (sizeOf (blockKindOf Song) m) (record-length m (l .version) Song) (l .songs)
+            (l .spans .song .at + 8),
         opens .content .blocks .songs,
       )
 
 -- The records of a kind that are of one length.
 module _ (m : List ℕ) (l : Layout) where
   pub instruments-length : length (recordsOf m l Instrument) ≡ countOf m l Instrument * 50
-  instruments-length = equal-lengths (recordAt m (l .version) Instrument) (sizeOf (kindOf Instrument) m) 50 (record-length m (l .version) Instrument) _ _
+  instruments-length = equal-lengths (recordAt m (l .version) Instrument) (sizeOf (blockKindOf Instrument) m) 50 (record-length m (l .version) Instrument) _ _
 
   pub patterns-length : length (recordsOf m l Pattern) ≡ countOf m l Pattern * 2
-  patterns-length = equal-lengths (recordAt m (l .version) Pattern) (sizeOf (kindOf Pattern) m) 2 (record-length m (l .version) Pattern) _ _
+  patterns-length = equal-lengths (recordAt m (l .version) Pattern) (sizeOf (blockKindOf Pattern) m) 2 (record-length m (l .version) Pattern) _ _
 
   pub samples-length : length (recordsOf m l Sample) ≡ countOf m l Sample * 6
-  samples-length = equal-lengths (recordAt m (l .version) Sample) (sizeOf (kindOf Sample) m) 6 (record-length m (l .version) Sample) _ _
+  samples-length = equal-lengths (recordAt m (l .version) Sample) (sizeOf (blockKindOf Sample) m) 6 (record-length m (l .version) Sample) _ _
 
   pub volumes-length : length (recordsOf m l VolumeEnvelope) ≡ countOf m l VolumeEnvelope * 136
   volumes-length =
-      equal-lengths (recordAt m (l .version) VolumeEnvelope) (sizeOf (kindOf VolumeEnvelope) m) 136
+      equal-lengths (recordAt m (l .version) VolumeEnvelope) (sizeOf (blockKindOf VolumeEnvelope) m) 136
       (record-length m (l .version) VolumeEnvelope) _ _
 
   pub pannings-length : length (recordsOf m l PanningEnvelope) ≡ countOf m l PanningEnvelope * 136
   pannings-length =
-      equal-lengths (recordAt m (l .version) PanningEnvelope) (sizeOf (kindOf PanningEnvelope) m) 136
+      equal-lengths (recordAt m (l .version) PanningEnvelope) (sizeOf (blockKindOf PanningEnvelope) m) 136
       (record-length m (l .version) PanningEnvelope) _ _
 
   -- The length that is told for each kind.
-  pub songs-told : opened m ≡ Found l → (thing : Thing) (chunk : Place) → thing ≡ Song → chunk ≡ chunkOf l thing → chunk .length ≡ length (recordsOf m l thing)
-  songs-told o thing chunk e c = rw e (ap (λ (p : Place). p .length) (rw e at c) ∙ sym (songs-length m l o))
+  pub songs-reported : opened m ≡ Found l → (kind : RecordKind) (chunk : ChunkSpan) → kind ≡ Song → chunk ≡ chunkOf l kind
+      → chunk .length ≡ length (recordsOf m l kind)
+  songs-reported o kind chunk e c = rw e (ap (λ (p : ChunkSpan). p .length) (rw e at c) ∙ sym (songs-length m l o))
 
-  pub told : (thing kind : Thing) (count w : ℕ) → thing ≡ kind → length (recordsOf m l kind) ≡ countOf m l kind * w
-      → count ≡ countOf m l thing
-      → count * w ≡ length (recordsOf m l thing)
-  told thing kind count w e size c = rw e (ap (λ (n : ℕ). n * w) (rw e at c) ∙ sym size)
+  pub reported : (kind other : RecordKind) (count w : ℕ) → kind ≡ other → length (recordsOf m l other) ≡ countOf m l other * w
+      → count ≡ countOf m l kind
+      → count * w ≡ length (recordsOf m l kind)
+  reported kind other count w e size c = rw e (ap (λ (n : ℕ). n * w) (rw e at c) ∙ sym size)
 
   -- All of them.
   pub all-lengths : length (allRecords m l)
@@ -105,20 +106,20 @@ module _ (m : List ℕ) (l : Layout) where
       )
 
 -- The blocks of a kind, by what the code has of them.
-module _ (m : List ℕ) (l : Layout) (thing : Thing) (kind : Kind) (chunk : Place) (start count : ℕ) (k : kind ≡ kindOf thing)
-    (c : chunk ≡ chunkOf l thing) (s : start ≡ blockAt m kind chunk 0) (n : count ≡ countOf m l thing) where
-  places-same : placesFrom (sizeOf kind m) count start ≡ blocksOf m (kindOf thing) (chunkOf l thing) (countOf m l thing)
+module _ (m : List ℕ) (l : Layout) (kind : RecordKind) (blocks : BlockKind) (chunk : ChunkSpan) (start count : ℕ) (k : blocks ≡ blockKindOf kind)
+    (c : chunk ≡ chunkOf l kind) (s : start ≡ blockAt m blocks chunk 0) (n : count ≡ countOf m l kind) where
+  places-same : placesFrom (sizeOf blocks m) count start ≡ blocksOf m (blockKindOf kind) (chunkOf l kind) (countOf m l kind)
   places-same = rw (s, k, c, n) refl
 
-  pub records-same : recordsFrom m kind thing (l .version) count start ≡ recordsOf m l thing
-  records-same = ap (λ (places : List ℕ). joined (map (recordAt m (l .version) thing) places)) places-same
+  pub records-same : recordsFrom m blocks kind (l .version) count start ≡ recordsOf m l kind
+  records-same = ap (λ (places : List ℕ). joined (map (recordAt m (l .version) kind) places)) places-same
 
-  pub records-ready : opened m ≡ Found l → Every (ValuesFit m (l .version) thing) (placesFrom (sizeOf kind m) count start)
-  records-ready o = subst (Every (ValuesFit m (l .version) thing)) (sym places-same) (values-fit m l o thing)
+  pub records-ready : opened m ≡ Found l → Every (ValuesScale m (l .version) kind) (placesFrom (sizeOf blocks m) count start)
+  records-ready o = subst (Every (ValuesScale m (l .version) kind)) (sym places-same) (values-fit m l o kind)
 
   pub records-written : (out : List ℕ) {out′ : List ℕ} {r : ℕ}
-      → (r ≡ length (recordsFrom m kind thing (l .version) count start)) × (out′ ≡ recordsFrom m kind thing (l .version) count start ++ drop r out)
-      → (r ≡ length (recordsOf m l thing)) × (out′ ≡ recordsOf m l thing ++ drop r out)
+      → (r ≡ length (recordsFrom m blocks kind (l .version) count start)) × (out′ ≡ recordsFrom m blocks kind (l .version) count start ++ drop r out)
+      → (r ≡ length (recordsOf m l kind)) × (out′ ≡ recordsOf m l kind ++ drop r out)
   records-written out w = rw records-same at w
 
 -- All records, as they are written: three kinds, and the three others.

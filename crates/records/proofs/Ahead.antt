@@ -10,7 +10,7 @@ use borrow.Rule.Slice.PartMut.{midOf, putMid}
 use Rattle.vocabulary.specs.Lists.{joined, Every, none, also}
 use Rattle.vocabulary.proofs.EveryOne.{every-first, every-rest}
 use Rattle.numbers.specs.Numbers.{putAt}
-use Rattle.numbers.proofs.PutBytes.{put-behind}
+use Rattle.numbers.proofs.PutBytes.{put-after}
 use Rattle.blocks.specs.Sizes.{placesFrom}
 use Rattle.acceptance.proofs.Ends.{mid-end, put-next, written-length}
 
@@ -82,7 +82,7 @@ module _ {out₀ all : List ℕ} (room : length all ≤ length out₀) (out : Li
       let rest : List ℕ = drop (length (a .done)) out₀ in
       let fits : length xs ≤ length rest = omega (arith, last-small, a .place, length-drop (length (a .done)) out₀) in
       ap (putAt xs to) (a .written)
-      ∙ put-behind (a .done) xs to (a .place) rest fits
+      ∙ put-after (a .done) xs to (a .place) rest fits
       ∙ sym (append-assoc (a .done) xs (drop (length xs) rest))
       ∙ ap (λ (l : List ℕ). l ++ drop (length xs) rest) (a .whole)
       ∙ ap (λ (l : List ℕ). all ++ l) (drop-drop (length xs) (length (a .done)) out₀ ∙ ap (λ (k : ℕ). drop (k + length xs) out₀) (a .place))
@@ -93,44 +93,44 @@ module _ (xs ys zs out₀ : List ℕ) (room : length (xs ++ (ys ++ zs)) ≤ leng
   first-fits = omega (arith, length-append xs (ys ++ zs), room)
 
   module _ (out₁ : List ℕ) {p : ℕ} (e₁ : (p ≡ length xs) × (out₁ ≡ xs ++ drop p out₀)) where
-    behind-first : Ahead out₀ (xs ++ (ys ++ zs)) out₁ p (ys ++ zs)
-    behind-first = ahead-second xs (ys ++ zs) e₁
+    after-first : Ahead out₀ (xs ++ (ys ++ zs)) out₁ p (ys ++ zs)
+    after-first = ahead-second xs (ys ++ zs) e₁
 
     pub second-inside : p ≤ length out₁
-    second-inside = ahead-inside room out₁ (ys ++ zs) behind-first
+    second-inside = ahead-inside room out₁ (ys ++ zs) after-first
 
     pub second-part : length ys ≤ length (midOf p (length out₁ - p) out₁)
-    second-part = ahead-part room out₁ ys zs behind-first
+    second-part = ahead-part room out₁ ys zs after-first
 
     pub second-small : p + length ys ≤ length out₀
-    second-small = ahead-small room out₁ ys zs behind-first
+    second-small = ahead-small room out₁ ys zs after-first
 
     module _ (mid₂ : List ℕ) {q : ℕ} (e₂ : (q ≡ length ys) × (mid₂ ≡ ys ++ drop q (midOf p (length out₁ - p) out₁))) where
       abbrev out₂ : List ℕ
       out₂ = putMid p (length out₁ - p) out₁ mid₂
 
-      behind-second : Ahead out₀ (xs ++ (ys ++ zs)) out₂ (p + q) zs
-      behind-second = ahead-next room out₁ ys zs behind-first mid₂ e₂
+      after-second : Ahead out₀ (xs ++ (ys ++ zs)) out₂ (p + q) zs
+      after-second = ahead-next room out₁ ys zs after-first mid₂ e₂
 
       pub third-inside : p + q ≤ length out₂
-      third-inside = ahead-inside room out₂ zs behind-second
+      third-inside = ahead-inside room out₂ zs after-second
 
       pub third-length : length out₂ ≡ length out₀
-      third-length = ahead-length room out₂ zs behind-second
+      third-length = ahead-length room out₂ zs after-second
 
       pub third-put : putAt zs (p + q) out₂ ≡ (xs ++ (ys ++ zs)) ++ drop (p + q + length zs) out₀
-      third-put = ahead-put room out₂ zs behind-second
+      third-put = ahead-put room out₂ zs after-second
 
       pub third-part : length zs ≤ length (midOf (p + q) (length out₂ - (p + q)) out₂)
-      third-part = last-part room out₂ zs behind-second
+      third-part = last-part room out₂ zs after-second
 
       pub third-small : p + q + length zs ≤ length out₀
-      third-small = last-small room out₂ zs behind-second
+      third-small = last-small room out₂ zs after-second
 
       pub three-written : (mid₃ : List ℕ) {r : ℕ}
           → (r ≡ length zs) × (mid₃ ≡ zs ++ drop r (midOf (p + q) (length out₂ - (p + q)) out₂))
           → (p + q + r ≡ length (xs ++ (ys ++ zs))) × (putMid (p + q) (length out₂ - (p + q)) out₂ mid₃ ≡ (xs ++ (ys ++ zs)) ++ drop (p + q + r) out₀)
-      three-written mid₃ e₃ = ahead-last room out₂ zs behind-second mid₃ e₃
+      three-written mid₃ e₃ = ahead-last room out₂ zs after-second mid₃ e₃
 
 -- Nothing is asked of blocks.
 pub every-any : {P : ℕ → Type 0} → ((x : ℕ) → P x) → (xs : List ℕ) → Every P xs

@@ -9,8 +9,8 @@ use Rattle.numbers.specs.Numbers.{eachFrom}
 use Rattle.layout.specs.declared.Layout.{Layout}
 use Rattle.layout.specs.declared.Outline.the-variants.{Found as Opened}
 use Rattle.blocks.specs.Sizes.{sizeOf, placesFrom, placeAfter, firstBlock, blockAt}
-use Rattle.blocks.specs.Things.{kindOf, chunkOf, countOf}
-use Rattle.blocks.specs.declared.Thing.{Thing}
+use Rattle.blocks.specs.RecordKinds.{blockKindOf, chunkOf, countOf}
+use Rattle.blocks.specs.declared.RecordKind.{RecordKind}
 use Rattle.module.specs.Verdicts.{opened}
 use Rattle.queries.specs.Finding.{firstOf, found}
 use Rattle.queries.specs.declared.Block.{Block}
@@ -30,19 +30,19 @@ each-placed f g size (suc n) k at h =
     each-placed f g size n (k + 1) (at + size at) (λ i less. ap f (omega arith) ∙ h (suc i) (omega arith)) in
     cc
 
-module _ (m : List ℕ) (l : Layout) (o : opened m ≡ Opened l) (thing : Thing) where
+module _ (m : List ℕ) (l : Layout) (o : opened m ≡ Opened l) (kind : RecordKind) where
   -- The block of a number that is counted.
   abbrev numbered : ℕ → Block
-  numbered i = record { at = blockAt m (kindOf thing) (chunkOf l thing) i; version = l .version; tracks = l .tracks }
+  numbered i = record { at = blockAt m (blockKindOf kind) (chunkOf l kind) i; version = l .version; tracks = l .tracks }
 
-  number-found : (i : ℕ) → i < countOf m l thing → found m thing (firstOf thing + i) ≡ At (numbered i)
+  number-found : (i : ℕ) → i < countOf m l kind → found m kind (firstOf kind + i) ≡ At (numbered i)
   number-found i h =
-      let same : firstOf thing + i - firstOf thing ≡ i = omega arith in
-      rw same at (counted-found m l thing (firstOf thing + i) o (omega arith) (omega (arith, h)))
+      let same : firstOf kind + i - firstOf kind ≡ i = omega arith in
+      rw same at (counted-found m l kind (firstOf kind + i) o (omega arith) (omega (arith, h)))
 
-  pub records-numbered : (tell : Found → List ℕ) → ((b : Block) → tell (At b) ≡ recordAt m (b .version) thing (b .at))
-      → joined (eachFrom (λ (number : ℕ). tell (found m thing number)) (firstOf thing) (countOf m l thing)) ≡ recordsOf m l thing
+  pub records-numbered : (tell : Found → List ℕ) → ((b : Block) → tell (At b) ≡ recordAt m (b .version) kind (b .at))
+      → joined (eachFrom (λ (number : ℕ). tell (found m kind number)) (firstOf kind) (countOf m l kind)) ≡ recordsOf m l kind
   records-numbered tell same =
-      ap joined (each-placed (λ (number : ℕ). tell (found m thing number)) (recordAt m (l .version) thing)
-      (sizeOf (kindOf thing) m) (countOf m l thing) (firstOf thing) (firstBlock (kindOf thing) (chunkOf l thing))
+      ap joined (each-placed (λ (number : ℕ). tell (found m kind number)) (recordAt m (l .version) kind)
+      (sizeOf (blockKindOf kind) m) (countOf m l kind) (firstOf kind) (firstBlock (blockKindOf kind) (chunkOf l kind))
       (λ i h. ap tell (number-found i h) ∙ same (numbered i)))

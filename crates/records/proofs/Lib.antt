@@ -6,5 +6,5 @@ pub mod RecordLengths
 pub mod WritingRecords
 pub mod Accepting
 pub mod ByNumber
-pub mod Telling
+pub mod Reporting
 pub mod Theorems

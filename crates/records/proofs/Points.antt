@@ -16,11 +16,11 @@ use Rattle.numbers.specs.Numbers.{Bytes, signed16, bytes16, unsigned16, putAt}
 use Rattle.numbers.proofs.PutBytes.{put-front}
 use Rattle.numbers.proofs.AllBytes.{number16-below}
 use Rattle.blocks.specs.StoredFields.{envelopeSections, envelopeValue}
-use Rattle.envelopes.specs.Shown.{thingOf, positionShown, valueOf, valueShown}
+use Rattle.envelopes.specs.Shown.{recordKind, positionShown, valueOf, valueShown}
 use Rattle.envelopes.proofs.Scaling.{less-mag}
 use Rattle.envelopes.specs.declared.EnvelopeKind.{EnvelopeKind}
 use Rattle.envelopes.specs.declared.EnvelopeKind.the-variants.{Volume, Panning}
-use Rattle.records.specs.Steps.{pointRecord, ValueFits, ValuesFit}
+use Rattle.records.specs.Steps.{pointRecord, ValueScales, ValuesScale}
 
 -- A value as it is shown fits 2 bytes.
 signed-mag : (v : ℕ) → v < 65536 → mag (signed16 v) < 65536
@@ -30,7 +30,7 @@ signed-mag v h = go (ltb v 32768) refl
     go true t = simp t h
     go false t = simp t (omega arith)
 
-value-mag : (kind : EnvelopeKind) (version v : ℕ) → v < 65536 → ValueFits kind version v → mag (valueOf kind version v) < 65536
+value-mag : (kind : EnvelopeKind) (version v : ℕ) → v < 65536 → ValueScales kind version v → mag (valueOf kind version v) < 65536
 value-mag Volume version v h fits = h
 value-mag Panning version v h fits = go (eqb version 2) refl
   where
@@ -39,13 +39,13 @@ value-mag Panning version v h fits = go (eqb version 2) refl
     go false t = simp t (signed-mag v h)
 
 -- What is asked of a value in use.
-value-ready : (m : List ℕ) (kind : EnvelopeKind) (version at : ℕ) → ValuesFit m version (thingOf kind) at → (point : ℕ)
+value-ready : (m : List ℕ) (kind : EnvelopeKind) (version at : ℕ) → ValuesScale m version (recordKind kind) at → (point : ℕ)
     → point ≤ envelopeSections m at
-    → ValueFits kind version (envelopeValue m at point)
+    → ValueScales kind version (envelopeValue m at point)
 value-ready m Volume version at fits point h = tt
 value-ready m Panning version at fits point h = fits point h
 
-shown-mag : (m : List ℕ) (kind : EnvelopeKind) (version at point : ℕ) → Bytes m → ValuesFit m version (thingOf kind) at
+shown-mag : (m : List ℕ) (kind : EnvelopeKind) (version at point : ℕ) → Bytes m → ValuesScale m version (recordKind kind) at
     → mag (valueShown m kind version at (envelopeSections m at) point) < 65536
 shown-mag m kind version at point bytes fits = go (leb point (envelopeSections m at)) refl
   where
@@ -61,7 +61,7 @@ module _ (m : List ℕ) (kind : EnvelopeKind) (version at point sections : ℕ) 
   passed : toZ w32 (ofZ w32 v) ≡ valueShown m kind version at (envelopeSections m at) point
   passed = toZ-ofZ w32 v small ∙ shown ∙ ap (λ (n : ℕ). valueShown m kind version at n point) s
 
-  pub passed-mag : Bytes m → ValuesFit m version (thingOf kind) at → mag (toZ w32 (ofZ w32 v)) < 65536
+  pub passed-mag : Bytes m → ValuesScale m version (recordKind kind) at → mag (toZ w32 (ofZ w32 v)) < 65536
   passed-mag bytes fits = rw passed (shown-mag m kind version at point bytes fits)
 
   pub point-written : (p u : ℕ) (out : List ℕ) → p ≡ positionShown m at sections point → u ≡ unsigned16 (toZ w32 (ofZ w32 v))

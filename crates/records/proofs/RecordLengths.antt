@@ -12,17 +12,17 @@ use Rattle.numbers.proofs.Each.{each-length}
 use Rattle.layout.specs.declared.Layout.{Layout}
 use Rattle.blocks.specs.StoredFields.{songLength}
 use Rattle.blocks.specs.Sizes.{sizeOf, placesFrom, placeAfter}
-use Rattle.blocks.specs.declared.Kind.the-variants.{Song as SongKind}
-use Rattle.blocks.specs.declared.Thing.{Thing}
-use Rattle.blocks.specs.declared.Thing.the-variants.{Song, Instrument, Pattern, Sample, VolumeEnvelope, PanningEnvelope}
+use Rattle.blocks.specs.declared.BlockKind.the-variants.{Song as SongBlock}
+use Rattle.blocks.specs.declared.RecordKind.{RecordKind}
+use Rattle.blocks.specs.declared.RecordKind.the-variants.{Song, Instrument, Pattern, Sample, VolumeEnvelope, PanningEnvelope}
 use Rattle.summary.specs.Shown.{nameOf, shownInfo}
 use Rattle.records.specs.Records.{infoRecord, countsRecord, summaryRecord, recordAt}
 
 -- A name has 44 bytes, and with it the summary 60.
 pub name-length : (m : List ℕ) (l : Layout) → length (nameOf m l) ≡ 44
-name-length m l = go (l .places .name .present)
+name-length m l = go (l .spans .name .present)
   where
-    go : (there : Bool) → length (cond there (bytesFrom m (l .places .name .at + 8) 44) (replicate 44 0)) ≡ 44
+    go : (there : Bool) → length (cond there (bytesFrom m (l .spans .name .at + 8) 44) (replicate 44 0)) ≡ 44
     go true = refl
     go false = refl
 
@@ -30,15 +30,15 @@ pub summary-length : (m : List ℕ) (l : Layout) → length (summaryRecord m l) 
 summary-length m l = omega (arith, length-append (nameOf m l) (infoRecord (shownInfo l) ++ countsRecord m l), name-length m l)
 
 -- A song's record is as long as its block, and those of each other kind have one length.
-abbrev recordLength : List ℕ → Thing → ℕ → ℕ
-recordLength m Song at = sizeOf SongKind m at
+abbrev recordLength : List ℕ → RecordKind → ℕ → ℕ
+recordLength m Song at = sizeOf SongBlock m at
 recordLength m Instrument at = 50
 recordLength m Pattern at = 2
 recordLength m Sample at = 6
 recordLength m VolumeEnvelope at = 136
 recordLength m PanningEnvelope at = 136
 
-pub record-length : (m : List ℕ) (version : ℕ) (thing : Thing) (at : ℕ) → length (recordAt m version thing at) ≡ recordLength m thing at
+pub record-length : (m : List ℕ) (version : ℕ) (kind : RecordKind) (at : ℕ) → length (recordAt m version kind at) ≡ recordLength m kind at
 unfolding recordAt sizeOf
 record-length m version Song at = omega (arith, each-length (byteAt m) (2 * songLength m at) (at + 46))
 record-length m version Instrument at = refl

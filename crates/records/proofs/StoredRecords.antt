@@ -14,7 +14,7 @@ use Rattle.blocks.specs.StoredFields.{instrumentLoopLength, instrumentPanning, 
 use Rattle.blocks.specs.StoredFields.{envelopeLoopFirst, envelopeLoopLast, envelopeSecondSustain}
 use Rattle.blocks.specs.Sizes.{placesFrom}
 use Rattle.samples.proofs.SixteenBits.{stored-again}
-use Rattle.envelopes.specs.Shown.{thingOf, positionShown, valueShown, shownEnvelope}
+use Rattle.envelopes.specs.Shown.{recordKind, positionShown, valueShown, shownEnvelope}
 use Rattle.envelopes.specs.declared.EnvelopeKind.{EnvelopeKind}
 use Rattle.envelopes.specs.declared.EnvelopeKind.the-variants.{Volume, Panning}
 use Rattle.songs.specs.Shown.{shownSong, playlistBytes}
@@ -96,7 +96,7 @@ module _ (m : List ℕ) (bytes : Bytes m) where
       ∙ ap (λ (head : List ℕ). head ++ pointsFrom m kind version at 32 0) (sym (head-stored at))
 
   -- The record of an envelope: what stands before the points, and the points.
-  pub envelope-stored : (kind : EnvelopeKind) (version at : ℕ) → recordAt m version (thingOf kind) at ≡ bytesFrom m at 8 ++ pointsFrom m kind version at 32 0
+  pub envelope-stored : (kind : EnvelopeKind) (version at : ℕ) → recordAt m version (recordKind kind) at ≡ bytesFrom m at 8 ++ pointsFrom m kind version at 32 0
   unfolding recordAt
   envelope-stored Volume version at = envelope-joined Volume version at
   envelope-stored Panning version at = envelope-joined Panning version at

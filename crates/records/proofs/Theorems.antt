@@ -7,7 +7,7 @@
 --     output; with too little room it answers 17 with that length, and the output stays. Of a refused module it answers the refusal, and
 --     the output stays.
 --
--- What the call answers is `allAnswer`, and what it leaves `allOutput`: those that its contract cites. `recordsTold` has the queries' own
+-- What the call answers is `allAnswer`, and what it leaves `allOutput`: those that its contract cites. `reportedRecords` has the queries' own
 -- answers and no place of a block.
 use Prim.Native.Nat.{ℕ}
 use mathlib.Core.Path.{_≡_, ap, _∙_}
@@ -23,12 +23,12 @@ use Rattle.module.specs.Verdicts.{opened, moduleVerdict}
 use Rattle.module.specs.Outputs.{answerOpened, outputOpened}
 use Rattle.acceptance.proofs.OpenModules.{accepted-opens, refused-opens}
 use Rattle.records.specs.Records.{allRecords, allAnswer, allOutput}
-use Rattle.records.specs.Told.{recordsTold}
-use Rattle.records.proofs.Telling as Telling
+use Rattle.records.specs.Reported.{reportedRecords}
+use Rattle.records.proofs.Reporting as Reporting
 
 -- 19.
-pub records-told : (m : List ℕ) → Bytes m → (l : Layout) → opened m ≡ Found l → allRecords m l ≡ recordsTold m
-records-told m bytes l o = Telling.records-told m l o bytes
+pub records-reported : (m : List ℕ) → Bytes m → (l : Layout) → opened m ≡ Found l → allRecords m l ≡ reportedRecords m
+records-reported m bytes l o = Reporting.records-reported m l o bytes
 
 module _ (m : List ℕ) (bytes : Bytes m) (accepted : moduleVerdict m ≡ Accepted) where
   abbrev layout : Layout
@@ -37,14 +37,14 @@ module _ (m : List ℕ) (bytes : Bytes m) (accepted : moduleVerdict m ≡ Accept
   opens : opened m ≡ Found layout
   opens = accepted-opens m accepted .1
 
-  pub all-told : (room : ℕ) → allAnswer m room ≡ lengthIf (length (recordsTold m)) room
-  all-told room =
-      ap (answerOpened (allRecords m) room) opens ∙ ap (λ (records : List ℕ). lengthIf (length records) room) (records-told m bytes layout opens)
+  pub all-reported : (room : ℕ) → allAnswer m room ≡ lengthIf (length (reportedRecords m)) room
+  all-reported room =
+      ap (answerOpened (allRecords m) room) opens ∙ ap (λ (records : List ℕ). lengthIf (length records) room) (records-reported m bytes layout opens)
 
-  pub all-written : (out : List ℕ) → allOutput m out ≡ outputIf (lengthIf (length (recordsTold m)) (length out)) (recordsTold m) out
+  pub all-written : (out : List ℕ) → allOutput m out ≡ outputIf (lengthIf (length (reportedRecords m)) (length out)) (reportedRecords m) out
   all-written out =
       ap (outputOpened (allRecords m) out) opens
-      ∙ ap (λ (records : List ℕ). outputIf (lengthIf (length records) (length out)) records out) (records-told m bytes layout opens)
+      ∙ ap (λ (records : List ℕ). outputIf (lengthIf (length records) (length out)) records out) (records-reported m bytes layout opens)
 
 module _ (m : List ℕ) (r : Refusal) (refused : moduleVerdict m ≡ Refused r) where
   pub all-refused : (room : ℕ) → allAnswer m room ≡ refusedLength r

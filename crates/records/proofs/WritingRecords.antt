@@ -11,12 +11,12 @@ use Rattle.numbers.proofs.PutBytes.{putEach, put-each, put-front}
 use Rattle.layout.specs.declared.Layout.{Layout}
 use Rattle.blocks.specs.StoredFields.{sampleFlags, sampleFrames}
 use Rattle.blocks.specs.Sizes.{widthOf, sizeOf, envelopeCount}
-use Rattle.blocks.specs.declared.Kind.the-variants.{Song as SongKind}
-use Rattle.blocks.specs.declared.Thing.{Thing}
-use Rattle.blocks.specs.declared.Thing.the-variants.{Song, Instrument, Pattern, Sample}
+use Rattle.blocks.specs.declared.BlockKind.the-variants.{Song as SongBlock}
+use Rattle.blocks.specs.declared.RecordKind.{RecordKind}
+use Rattle.blocks.specs.declared.RecordKind.the-variants.{Song, Instrument, Pattern, Sample}
 use Rattle.acceptance.proofs.Ends.{copied}
 use Rattle.samples.specs.Shown.{shownSample}
-use Rattle.envelopes.specs.Shown.{thingOf}
+use Rattle.envelopes.specs.Shown.{recordKind}
 use Rattle.envelopes.specs.declared.EnvelopeKind.{EnvelopeKind}
 use Rattle.summary.specs.Shown.{nameOf, shownInfo}
 use Rattle.records.specs.Records.{infoRecord, countsRecord, sampleRecord, summaryRecord, recordAt}
@@ -32,47 +32,47 @@ pub stored-written : (m : List ℕ) (at n : ℕ) (out copied : List ℕ) → cop
 stored-written m at n out copied e h = ap (λ (l : List ℕ). l ++ drop n out) (e ∙ ap (bytesFrom m at) (length-take-le n out h))
 
 -- What the writer of a record answers and leaves.
-abbrev pub RecordWritten : List ℕ → ℕ → Thing → ℕ → List ℕ → List ℕ → ℕ → Type 0
-RecordWritten m version thing at out out′ r = (r ≡ length (recordAt m version thing at)) × (out′ ≡ recordAt m version thing at ++ drop r out)
+abbrev pub RecordWritten : List ℕ → ℕ → RecordKind → ℕ → List ℕ → List ℕ → ℕ → Type 0
+RecordWritten m version kind at out out′ r = (r ≡ length (recordAt m version kind at)) × (out′ ≡ recordAt m version kind at ++ drop r out)
 
 -- The room that is asked for is there.
-pub room-of : (m : List ℕ) (version at : ℕ) (thing : Thing) {kind : Thing} {n k : ℕ} → thing ≡ kind
-    → length (recordAt m version kind at) ≡ n → length (recordAt m version thing at) ≤ k
+pub room-of : (m : List ℕ) (version at : ℕ) (kind : RecordKind) {other : RecordKind} {n k : ℕ} → kind ≡ other
+    → length (recordAt m version other at) ≡ n → length (recordAt m version kind at) ≤ k
     → n ≤ k
-room-of m version at thing {kind} {n} {k} e size room =
-    let there : length (recordAt m version kind at) ≤ k = rw e at room in
+room-of m version at kind {other} {n} {k} e size room =
+    let there : length (recordAt m version other at) ≤ k = rw e at room in
     omega (arith, there, size)
 
-module _ (m : List ℕ) (bytes : Bytes m) (version at : ℕ) (thing : Thing) where
+module _ (m : List ℕ) (bytes : Bytes m) (version at : ℕ) (kind : RecordKind) where
   module _ (out : List ℕ) {out′ : List ℕ} {n r : ℕ} where
-    written-as : (kind : Thing) (xs : List ℕ) → thing ≡ kind → xs ≡ recordAt m version kind at
-        → length (recordAt m version kind at) ≡ n → (r ≡ n) × (out′ ≡ xs ++ drop n out)
-        → RecordWritten m version thing at out out′ r
-    written-as kind xs e same size w = rw e (w .0 ∙ sym size, w .1 ∙ rw (same, w .0) refl)
+    written-as : (other : RecordKind) (xs : List ℕ) → kind ≡ other → xs ≡ recordAt m version other at
+        → length (recordAt m version other at) ≡ n → (r ≡ n) × (out′ ≡ xs ++ drop n out)
+        → RecordWritten m version kind at out out′ r
+    written-as other xs e same size w = rw e (w .0 ∙ sym size, w .1 ∙ rw (same, w .0) refl)
 
-    pub song-written : thing ≡ Song → n ≡ sizeOf SongKind m at → (r ≡ n) × (out′ ≡ bytesFrom m at n ++ drop n out) → RecordWritten m version thing at out out′ r
+    pub song-written : kind ≡ Song → n ≡ sizeOf SongBlock m at → (r ≡ n) × (out′ ≡ bytesFrom m at n ++ drop n out) → RecordWritten m version kind at out out′ r
     unfolding recordAt sizeOf
     song-written e size w =
         written-as Song (bytesFrom m at n) e (ap (bytesFrom m at) size ∙ song-stored m bytes at)
         (record-length m version Song at ∙ sym size) w
 
   module _ (out : List ℕ) {out′ : List ℕ} {r : ℕ} where
-    pub instrument-written : thing ≡ Instrument → (r ≡ 50) × (out′ ≡ bytesFrom m at 50 ++ drop 50 out) → RecordWritten m version thing at out out′ r
+    pub instrument-written : kind ≡ Instrument → (r ≡ 50) × (out′ ≡ bytesFrom m at 50 ++ drop 50 out) → RecordWritten m version kind at out out′ r
     unfolding recordAt
     instrument-written e w = written-as out Instrument (bytesFrom m at 50) e (instrument-stored m bytes at) (record-length m version Instrument at) w
 
-    pub pattern-written : thing ≡ Pattern → (r ≡ 2) × (out′ ≡ bytesFrom m at 2 ++ drop 2 out) → RecordWritten m version thing at out out′ r
+    pub pattern-written : kind ≡ Pattern → (r ≡ 2) × (out′ ≡ bytesFrom m at 2 ++ drop 2 out) → RecordWritten m version kind at out out′ r
     unfolding recordAt
     pattern-written e w = written-as out Pattern (bytesFrom m at 2) e (two-bytes m bytes at) (record-length m version Pattern at) w
 
-    pub sample-written : thing ≡ Sample → (r ≡ 6) × (out′ ≡ sampleRecord (shownSample m at) ++ drop 6 out) → RecordWritten m version thing at out out′ r
+    pub sample-written : kind ≡ Sample → (r ≡ 6) × (out′ ≡ sampleRecord (shownSample m at) ++ drop 6 out) → RecordWritten m version kind at out out′ r
     unfolding recordAt
     sample-written e w = written-as out Sample (sampleRecord (shownSample m at)) e refl (record-length m version Sample at) w
 
-    pub envelope-written : {kind : Thing} → thing ≡ kind → length (recordAt m version kind at) ≡ 136
-        → (r ≡ 136) × (out′ ≡ recordAt m version kind at ++ drop 136 out)
-        → RecordWritten m version thing at out out′ r
-    envelope-written {kind} e size w = written-as out kind (recordAt m version kind at) e refl size w
+    pub envelope-written : {other : RecordKind} → kind ≡ other → length (recordAt m version other at) ≡ 136
+        → (r ≡ 136) × (out′ ≡ recordAt m version other at ++ drop 136 out)
+        → RecordWritten m version kind at out out′ r
+    envelope-written {other} e size w = written-as out other (recordAt m version other at) e refl size w
 
 -- A sample's record: two numbers.
 module _ (m : List ℕ) (at w frames : ℕ) (out : List ℕ) (e : w ≡ widthOf (sampleFlags m at)) (f : frames ≡ sampleFrames m at) where
@@ -81,40 +81,40 @@ module _ (m : List ℕ) (at w frames : ℕ) (out : List ℕ) (e : w ≡ widthOf 
   bits-frames room = put-front (bytes16 (8 * w) ∷ bytes32 frames ∷ []) out room ∙ rw (e, f) refl
 
 -- The points of an envelope.
-module _ (m : List ℕ) (kind : EnvelopeKind) (version at : ℕ) where
-  pub points-size : length (pointsFrom m kind version at 32 0) ≡ 128
-  points-size = equal-lengths (pointRecord m kind version at) (λ point. 1) 4 (λ point. refl) 32 0
+module _ (m : List ℕ) (other : EnvelopeKind) (version at : ℕ) where
+  pub points-size : length (pointsFrom m other version at 32 0) ≡ 128
+  points-size = equal-lengths (pointRecord m other version at) (λ point. 1) 4 (λ point. refl) 32 0
 
   pub points-last : {P : ℕ → Type 0} (out₀ out : List ℕ) {point to left : ℕ}
-      → AheadBlocks (pointRecord m kind version at) (λ point. 1) P 32 0 out₀ out point to left → left ≤ 0
-      → out ≡ pointsFrom m kind version at 32 0 ++ drop 128 out₀
+      → AheadBlocks (pointRecord m other version at) (λ point. 1) P 32 0 out₀ out point to left → left ≤ 0
+      → out ≡ pointsFrom m other version at 32 0 ++ drop 128 out₀
   points-last out₀ out {to = to} b over =
       let done = blocks-last out₀ out b over in
       let all : to ≡ 128 = done .0 ∙ points-size in
-      done .1 ∙ ap (λ (k : ℕ). pointsFrom m kind version at 32 0 ++ drop k out₀) all
+      done .1 ∙ ap (λ (k : ℕ). pointsFrom m other version at 32 0 ++ drop k out₀) all
 
 -- An envelope's record: what stands before the points by a copy, and the points.
-module _ (m : List ℕ) (bytes : Bytes m) (kind : EnvelopeKind) (version at : ℕ) (out copied mid : List ℕ) where
+module _ (m : List ℕ) (bytes : Bytes m) (other : EnvelopeKind) (version at : ℕ) (out copied mid : List ℕ) where
   abbrev headed : List ℕ
   headed = copied ++ drop 8 out
 
   pub head-points : copied ≡ bytesFrom m at (length (take 8 out)) → 136 ≤ length out
-      → mid ≡ pointsFrom m kind version at 32 0 ++ drop 128 (midOf 8 (length headed - 8) headed)
-      → putMid 8 (length headed - 8) headed mid ≡ recordAt m version (thingOf kind) at ++ drop 136 out
+      → mid ≡ pointsFrom m other version at 32 0 ++ drop 128 (midOf 8 (length headed - 8) headed)
+      → putMid 8 (length headed - 8) headed mid ≡ recordAt m version (recordKind other) at ++ drop 136 out
   head-points e room is =
-      let points : List ℕ = pointsFrom m kind version at 32 0 in
+      let points : List ℕ = pointsFrom m other version at 32 0 in
       let head : headed ≡ bytesFrom m at 8 ++ drop 8 out = stored-written m at 8 out copied e (omega (arith, room)) in
-      let size : 128 ≡ length points = sym (points-size m kind version at) in
+      let size : 128 ≡ length points = sym (points-size m other version at) in
       let a : Ahead out (bytesFrom m at 8 ++ points) headed 8 points = ahead-second (bytesFrom m at 8) points (refl, head) in
       let fits : length (bytesFrom m at 8 ++ points) ≤ length out = omega (arith, size, room) in
-      ahead-last fits headed points a mid (size, is) .1 ∙ ap (λ (l : List ℕ). l ++ drop 136 out) (sym (envelope-stored m bytes kind version at))
+      ahead-last fits headed points a mid (size, is) .1 ∙ ap (λ (l : List ℕ). l ++ drop 136 out) (sym (envelope-stored m bytes other version at))
 
 -- The numbers of INFO and how many envelopes there are: seven numbers, one after the other.
 module _ (m : List ℕ) (l : Layout) where
   abbrev numbers : List ℕ
   numbers = infoRecord (shownInfo l) ++ countsRecord m l
 
-  module _ (out : List ℕ) (volume panning : ℕ) (v : volume ≡ envelopeCount m (l .places .venv)) (p : panning ≡ envelopeCount m (l .places .penv)) where
+  module _ (out : List ℕ) (volume panning : ℕ) (v : volume ≡ envelopeCount m (l .spans .venv)) (p : panning ≡ envelopeCount m (l .spans .penv)) where
     abbrev seven : List (List ℕ)
     seven =
         bytes16 (l .instruments)

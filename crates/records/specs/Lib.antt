@@ -1,3 +1,3 @@
 pub mod Records
-pub mod Told
+pub mod Reported
 pub mod Steps

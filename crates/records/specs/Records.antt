@@ -8,9 +8,9 @@ use Rattle.numbers.specs.Numbers.{bytes16, bytes32, unsigned16}
 use Rattle.layout.specs.declared.Layout.{Layout}
 use Rattle.blocks.specs.StoredFields.{patternRows}
 use Rattle.blocks.specs.Sizes.{blocksOf, envelopeCount}
-use Rattle.blocks.specs.Things.{kindOf, chunkOf, countOf}
-use Rattle.blocks.specs.declared.Thing.{Thing}
-use Rattle.blocks.specs.declared.Thing.the-variants.{Song, Instrument, Pattern, Sample, VolumeEnvelope, PanningEnvelope}
+use Rattle.blocks.specs.RecordKinds.{blockKindOf, chunkOf, countOf}
+use Rattle.blocks.specs.declared.RecordKind.{RecordKind}
+use Rattle.blocks.specs.declared.RecordKind.the-variants.{Song, Instrument, Pattern, Sample, VolumeEnvelope, PanningEnvelope}
 use Rattle.module.specs.Verdicts.{opened}
 use Rattle.module.specs.Outputs.{answerOpened, outputOpened}
 use Rattle.samples.specs.Shown.{shownSample}
@@ -36,7 +36,7 @@ infoRecord a = bytes16 (a .instruments) ++ (bytes16 (a .samples) ++ (bytes16 (a 
 
 -- Q9: how many volume envelopes and panning envelopes there are, 2 bytes each.
 abbrev pub countsRecord : List ℕ → Layout → List ℕ
-countsRecord m l = bytes16 (envelopeCount m (l .places .venv)) ++ bytes16 (envelopeCount m (l .places .penv))
+countsRecord m l = bytes16 (envelopeCount m (l .spans .venv)) ++ bytes16 (envelopeCount m (l .spans .penv))
 
 -- Q4 to Q6, Q9: what a module says of itself, 60 bytes; the name is 44 of them.
 abbrev pub summaryRecord : List ℕ → Layout → List ℕ
@@ -75,7 +75,7 @@ envelopeRecord a =
     ++ (a .flags ∷ a .sections ∷ a .«first_sustain» ∷ a .«loop_first» ∷ a .«loop_last» ∷ a .«second_sustain» ∷ pointRecords (a .positions) (a .values))
 
 -- The record of what stands at a place; of a pattern it is its rows, 2 bytes (Q10).
-unfoldable pub recordAt : List ℕ → ℕ → Thing → ℕ → List ℕ
+unfoldable pub recordAt : List ℕ → ℕ → RecordKind → ℕ → List ℕ
 recordAt m version Song at = songRecord (shownSong m at) (playlistBytes m at)
 recordAt m version Instrument at = instrumentRecord (shownInstrument m at)
 recordAt m version Pattern at = bytes16 (patternRows m at)
@@ -84,8 +84,8 @@ recordAt m version VolumeEnvelope at = envelopeRecord (shownEnvelope m Volume ve
 recordAt m version PanningEnvelope at = envelopeRecord (shownEnvelope m Panning version at)
 
 -- The records of all songs, of all instruments, and so on, in the order of their blocks (B1).
-abbrev pub recordsOf : List ℕ → Layout → Thing → List ℕ
-recordsOf m l thing = joined (map (recordAt m (l .version) thing) (blocksOf m (kindOf thing) (chunkOf l thing) (countOf m l thing)))
+abbrev pub recordsOf : List ℕ → Layout → RecordKind → List ℕ
+recordsOf m l kind = joined (map (recordAt m (l .version) kind) (blocksOf m (blockKindOf kind) (chunkOf l kind) (countOf m l kind)))
 
 -- Q16: all of them.
 abbrev pub allRecords : List ℕ → Layout → List ℕ

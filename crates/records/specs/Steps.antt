@@ -8,9 +8,9 @@ use Rattle.numbers.specs.Numbers.{bytes16, unsigned16}
 use Rattle.layout.specs.declared.Layout.{Layout}
 use Rattle.blocks.specs.StoredFields.{envelopeSections, envelopeValue}
 use Rattle.blocks.specs.Sizes.{sizeOf, placesFrom}
-use Rattle.blocks.specs.declared.Kind.{Kind}
-use Rattle.blocks.specs.declared.Thing.{Thing}
-use Rattle.blocks.specs.declared.Thing.the-variants.{Song, Instrument, Pattern, Sample, VolumeEnvelope, PanningEnvelope}
+use Rattle.blocks.specs.declared.BlockKind.{BlockKind}
+use Rattle.blocks.specs.declared.RecordKind.{RecordKind}
+use Rattle.blocks.specs.declared.RecordKind.the-variants.{Song, Instrument, Pattern, Sample, VolumeEnvelope, PanningEnvelope}
 use Rattle.envelopes.specs.Shown.{positionShown, valueShown}
 use Rattle.envelopes.specs.declared.EnvelopeKind.{EnvelopeKind}
 use Rattle.envelopes.specs.declared.EnvelopeKind.the-variants.{Volume, Panning}
@@ -26,23 +26,23 @@ abbrev pub pointsFrom : List ℕ → EnvelopeKind → ℕ → ℕ → ℕ → �
 pointsFrom m kind version at n point = joined (map (pointRecord m kind version at) (placesFrom (λ point. 1) n point))
 
 -- The records of so many blocks from a place on.
-abbrev pub recordsFrom : List ℕ → Kind → Thing → ℕ → ℕ → ℕ → List ℕ
-recordsFrom m kind thing version n at = joined (map (recordAt m version thing) (placesFrom (sizeOf kind m) n at))
+abbrev pub recordsFrom : List ℕ → BlockKind → RecordKind → ℕ → ℕ → ℕ → List ℕ
+recordsFrom m blocks kind version n at = joined (map (recordAt m version kind) (placesFrom (sizeOf blocks m) n at))
 
 -- The records of three kinds, one kind behind the other.
-abbrev pub recordsOfThree : List ℕ → Layout → Thing → Thing → Thing → List ℕ
+abbrev pub recordsOfThree : List ℕ → Layout → RecordKind → RecordKind → RecordKind → List ℕ
 recordsOfThree m l a b c = recordsOf m l a ++ (recordsOf m l b ++ recordsOf m l c)
 
 -- V5: a value of panning in version 2 is at most 64. Nothing is asked of any other.
-abbrev pub ValueFits : EnvelopeKind → ℕ → ℕ → Type 0
-ValueFits Volume version v = Unit {0}
-ValueFits Panning version v = version ≡ 2 → v ≤ 64
+abbrev pub ValueScales : EnvelopeKind → ℕ → ℕ → Type 0
+ValueScales Volume version v = Unit {0}
+ValueScales Panning version v = version ≡ 2 → v ≤ 64
 
 -- The values in use of the panning envelope at a place are so. Nothing is asked of anything else.
-abbrev pub ValuesFit : List ℕ → ℕ → Thing → ℕ → Type 0
-ValuesFit m version Song at = Unit {0}
-ValuesFit m version Instrument at = Unit {0}
-ValuesFit m version Pattern at = Unit {0}
-ValuesFit m version Sample at = Unit {0}
-ValuesFit m version VolumeEnvelope at = Unit {0}
-ValuesFit m version PanningEnvelope at = (point : ℕ) → point ≤ envelopeSections m at → ValueFits Panning version (envelopeValue m at point)
+abbrev pub ValuesScale : List ℕ → ℕ → RecordKind → ℕ → Type 0
+ValuesScale m version Song at = Unit {0}
+ValuesScale m version Instrument at = Unit {0}
+ValuesScale m version Pattern at = Unit {0}
+ValuesScale m version Sample at = Unit {0}
+ValuesScale m version VolumeEnvelope at = Unit {0}
+ValuesScale m version PanningEnvelope at = (point : ℕ) → point ≤ envelopeSections m at → ValueScales Panning version (envelopeValue m at point)

@@ -1,12 +1,12 @@
 // All records of a module by one call: one check of the module, and one pass over its blocks. Each record tells just what its own query
 // answers.
-use blocks::Kind;
-use blocks::Thing;
+use blocks::BlockKind;
+use blocks::RecordKind;
 use blocks::block_at;
+use blocks::block_kind;
 use blocks::chunk_of;
 use blocks::count_of;
 use blocks::envelope_count;
-use blocks::kind_of;
 use blocks::size;
 use blocks::stored::envelope_sections;
 use blocks::stored::sample_flags;
@@ -20,8 +20,8 @@ use layout::Outline;
 use numbers::copy;
 use numbers::put16;
 use numbers::put32;
-use refusal::Cause;
 use refusal::LengthAnswer;
+use refusal::Reason;
 use refusal::refuse;
 use refusal::refused;
 use refusal::written;
@@ -39,17 +39,17 @@ ghost use Rattle.blocks.specs.Sizes.{sizeOf, placesFrom};
 ghost use Rattle.module.specs.Verdicts.{opened};
 ghost use Rattle.module.specs.Outputs.{answerOpened, outputOpened};
 ghost use Rattle.samples.specs.Shown.{shownSample};
-ghost use Rattle.envelopes.specs.Shown.{thingOf};
+ghost use Rattle.envelopes.specs.Shown.{recordKind};
 ghost use Rattle.summary.specs.Shown.{shownInfo};
 ghost use Rattle.records.specs.Records.{infoRecord, countsRecord, summaryRecord, sampleRecord, recordAt, recordsOf, allRecords, allAnswer, allOutput};
-ghost use Rattle.records.specs.Steps.{pointRecord, pointsFrom, recordsFrom, recordsOfThree, ValuesFit};
+ghost use Rattle.records.specs.Steps.{pointRecord, pointsFrom, recordsFrom, recordsOfThree, ValuesScale};
 
 // Writes the numbers of INFO and how many volume and panning envelopes there are: 14 bytes from 46 on.
 fn write_counts(m: &[u8], l: Layout, out: &mut [u8])
     requires { ⌜ 60 ≤ length (now out) ⌝ }
     ensures { λ r. ⌜ now (out .exit) ≡ putAt (infoRecord (shownInfo l) ++ countsRecord (now (m .entry)) l) 46 (now (out .entry)) ⌝ }
 {
-    let p = l.places;
+    let p = l.spans;
     let volume = envelope_count(m, p.venv);
     let panning = envelope_count(m, p.penv);
     put16(l.instruments, 46, out);
@@ -111,7 +111,7 @@ fn write_point(
     point: u8,
     out: &mut [u8],
 )
-    requires { ⌜ (sections ≡ envelopeSections (now m) at) × ValuesFit (now m) version (thingOf kind) at × (4 ≤ length (now out)) ⌝ }
+    requires { ⌜ (sections ≡ envelopeSections (now m) at) × ValuesScale (now m) version (recordKind kind) at × (4 ≤ length (now out)) ⌝ }
     ensures { λ r. ⌜ now (out .exit) ≡ pointRecord (now (m .entry)) kind version at point ++ drop 4 (now (out .entry)) ⌝ }
 {
     let p = position(m, at, sections, point);
@@ -122,7 +122,7 @@ fn write_point(
 
 // Writes the points of the envelope at a place to the front of an output.
 fn write_points(m: &[u8], kind: EnvelopeKind, version: u8, at: usize, out: &mut [u8])
-    requires { ⌜ ValuesFit (now m) version (thingOf kind) at × (128 ≤ length (now out)) ⌝ }
+    requires { ⌜ ValuesScale (now m) version (recordKind kind) at × (128 ≤ length (now out)) ⌝ }
     ensures { λ r. ⌜ now (out .exit) ≡ pointsFrom (now (m .entry)) kind version at 32 0 ++ drop 128 (now (out .entry)) ⌝ }
 {
     let sections = envelope_sections(m, at);
@@ -139,8 +139,8 @@ fn write_points(m: &[u8], kind: EnvelopeKind, version: u8, at: usize, out: &mut 
 
 // Writes the record of the envelope at a place to the front of an output, and answers its length.
 fn write_envelope(m: &[u8], kind: EnvelopeKind, version: u8, at: usize, out: &mut [u8]) -> usize
-    requires { ⌜ ValuesFit (now m) version (thingOf kind) at × (136 ≤ length (now out)) ⌝ }
-    ensures { λ r. ⌜ (r ≡ 136) × (now (out .exit) ≡ recordAt (now (m .entry)) version (thingOf kind) at ++ drop 136 (now (out .entry))) ⌝ }
+    requires { ⌜ ValuesScale (now m) version (recordKind kind) at × (136 ≤ length (now out)) ⌝ }
+    ensures { λ r. ⌜ (r ≡ 136) × (now (out .exit) ≡ recordAt (now (m .entry)) version (recordKind kind) at ++ drop 136 (now (out .entry))) ⌝ }
 {
     copy(m, at, &mut out[..8]);
     write_points(m, kind, version, at, &mut out[8..]);
@@ -148,72 +148,72 @@ fn write_envelope(m: &[u8], kind: EnvelopeKind, version: u8, at: usize, out: &mu
 }
 
 // Writes the record of what stands at a place to the front of an output, and answers its length.
-fn write_record(m: &[u8], thing: Thing, version: u8, at: usize, out: &mut [u8]) -> usize
-    requires { ⌜ ValuesFit (now m) version thing at × (length (recordAt (now m) version thing at) ≤ length (now out)) ⌝ }
-    ensures { λ r. ⌜ (r ≡ length (recordAt (now (m .entry)) version thing at))
-        × (now (out .exit) ≡ recordAt (now (m .entry)) version thing at ++ drop r (now (out .entry))) ⌝ }
+fn write_record(m: &[u8], kind: RecordKind, version: u8, at: usize, out: &mut [u8]) -> usize
+    requires { ⌜ ValuesScale (now m) version kind at × (length (recordAt (now m) version kind at) ≤ length (now out)) ⌝ }
+    ensures { λ r. ⌜ (r ≡ length (recordAt (now (m .entry)) version kind at))
+        × (now (out .exit) ≡ recordAt (now (m .entry)) version kind at ++ drop r (now (out .entry))) ⌝ }
 {
-    match thing {
-        Thing::Song => write_stored(m, at, size(m, Kind::Song, at), out),
-        Thing::Instrument => write_stored(m, at, 50, out),
-        Thing::Pattern => write_stored(m, at, 2, out),
-        Thing::Sample => write_sample(m, at, out),
-        Thing::VolumeEnvelope => write_envelope(m, EnvelopeKind::Volume, version, at, out),
-        Thing::PanningEnvelope => write_envelope(m, EnvelopeKind::Panning, version, at, out),
+    match kind {
+        RecordKind::Song => write_stored(m, at, size(m, BlockKind::Song, at), out),
+        RecordKind::Instrument => write_stored(m, at, 50, out),
+        RecordKind::Pattern => write_stored(m, at, 2, out),
+        RecordKind::Sample => write_sample(m, at, out),
+        RecordKind::VolumeEnvelope => write_envelope(m, EnvelopeKind::Volume, version, at, out),
+        RecordKind::PanningEnvelope => write_envelope(m, EnvelopeKind::Panning, version, at, out),
     }
 }
 
 // Writes the records of so many blocks from a place on to the front of an output, and answers their length.
 fn write_blocks(
     m: &[u8],
-    kind: Kind,
-    thing: Thing,
+    blocks: BlockKind,
+    kind: RecordKind,
     version: u8,
     start: usize,
     count: u16,
     out: &mut [u8],
 ) -> usize
     requires { ⌜ SmallPlace start
-        × Every (ValuesFit (now m) version thing) (placesFrom (sizeOf kind (now m)) count start)
-        × (length (recordsFrom (now m) kind thing version count start) ≤ length (now out)) ⌝ }
-    ensures { λ r. ⌜ (r ≡ length (recordsFrom (now (m .entry)) kind thing version count start))
-        × (now (out .exit) ≡ recordsFrom (now (m .entry)) kind thing version count start ++ drop r (now (out .entry))) ⌝ }
+        × Every (ValuesScale (now m) version kind) (placesFrom (sizeOf blocks (now m)) count start)
+        × (length (recordsFrom (now m) blocks kind version count start) ≤ length (now out)) ⌝ }
+    ensures { λ r. ⌜ (r ≡ length (recordsFrom (now (m .entry)) blocks kind version count start))
+        × (now (out .exit) ≡ recordsFrom (now (m .entry)) blocks kind version count start ++ drop r (now (out .entry))) ⌝ }
 {
     let mut at = start;
     let mut to: usize = 0;
     let mut left = count;
     while 0 < left {
-        to = to + write_record(m, thing, version, at, &mut out[to..]);
-        at = at + size(m, kind, at);
+        to = to + write_record(m, kind, version, at, &mut out[to..]);
+        at = at + size(m, blocks, at);
         left = left - 1;
     }
     to
 }
 
 // Writes the records of all songs, of all instruments, and so on, to the front of an output, and answers their length.
-fn write_records(m: &[u8], l: Layout, thing: Thing, out: &mut [u8]) -> usize
-    requires { ⌜ (opened (now m) ≡ Found l) × (length (recordsOf (now m) l thing) ≤ length (now out)) ⌝ }
-    ensures { λ r. ⌜ (r ≡ length (recordsOf (now (m .entry)) l thing)) × (now (out .exit) ≡ recordsOf (now (m .entry)) l thing ++ drop r (now (out .entry))) ⌝ }
+fn write_records(m: &[u8], l: Layout, kind: RecordKind, out: &mut [u8]) -> usize
+    requires { ⌜ (opened (now m) ≡ Found l) × (length (recordsOf (now m) l kind) ≤ length (now out)) ⌝ }
+    ensures { λ r. ⌜ (r ≡ length (recordsOf (now (m .entry)) l kind)) × (now (out .exit) ≡ recordsOf (now (m .entry)) l kind ++ drop r (now (out .entry))) ⌝ }
 {
-    let kind = kind_of(thing);
-    let start = block_at(m, kind, chunk_of(l, thing), 0);
-    let count = count_of(m, l, thing);
-    write_blocks(m, kind, thing, l.version, start, count, out)
+    let blocks = block_kind(kind);
+    let start = block_at(m, blocks, chunk_of(l, kind), 0);
+    let count = count_of(m, l, kind);
+    write_blocks(m, blocks, kind, l.version, start, count, out)
 }
 
 // How long the records of all songs, of all instruments, and so on, are. Those of songs are as long as their chunk's data.
-fn records_length(m: &[u8], l: Layout, thing: Thing) -> usize
+fn records_length(m: &[u8], l: Layout, kind: RecordKind) -> usize
     requires { ⌜ opened (now m) ≡ Found l ⌝ }
-    ensures { λ r. ⌜ (r ≡ length (recordsOf (now (m .entry)) l thing)) × (r < 0x100000000) ⌝ }
+    ensures { λ r. ⌜ (r ≡ length (recordsOf (now (m .entry)) l kind)) × (r < 0x100000000) ⌝ }
 {
-    let count = count_of(m, l, thing) as usize;
-    match thing {
-        Thing::Song => chunk_of(l, thing).length as usize,
-        Thing::Instrument => count * 50,
-        Thing::Pattern => count * 2,
-        Thing::Sample => count * 6,
-        Thing::VolumeEnvelope => count * 136,
-        Thing::PanningEnvelope => count * 136,
+    let count = count_of(m, l, kind) as usize;
+    match kind {
+        RecordKind::Song => chunk_of(l, kind).length as usize,
+        RecordKind::Instrument => count * 50,
+        RecordKind::Pattern => count * 2,
+        RecordKind::Sample => count * 6,
+        RecordKind::VolumeEnvelope => count * 136,
+        RecordKind::PanningEnvelope => count * 136,
     }
 }
 
@@ -222,17 +222,24 @@ fn all_length(m: &[u8], l: Layout) -> usize
     requires { ⌜ opened (now m) ≡ Found l ⌝ }
     ensures { λ r. ⌜ r ≡ length (allRecords (now (m .entry)) l) ⌝ }
 {
-    let songs = records_length(m, l, Thing::Song);
-    let instruments = records_length(m, l, Thing::Instrument);
-    let patterns = records_length(m, l, Thing::Pattern);
-    let samples = records_length(m, l, Thing::Sample);
-    let volume = records_length(m, l, Thing::VolumeEnvelope);
-    let panning = records_length(m, l, Thing::PanningEnvelope);
+    let songs = records_length(m, l, RecordKind::Song);
+    let instruments = records_length(m, l, RecordKind::Instrument);
+    let patterns = records_length(m, l, RecordKind::Pattern);
+    let samples = records_length(m, l, RecordKind::Sample);
+    let volume = records_length(m, l, RecordKind::VolumeEnvelope);
+    let panning = records_length(m, l, RecordKind::PanningEnvelope);
     60 + songs + instruments + patterns + samples + volume + panning
 }
 
 // Writes the records of three kinds to the front of an output, one kind behind the other, and answers their length.
-fn write_three(m: &[u8], l: Layout, a: Thing, b: Thing, c: Thing, out: &mut [u8]) -> usize
+fn write_three(
+    m: &[u8],
+    l: Layout,
+    a: RecordKind,
+    b: RecordKind,
+    c: RecordKind,
+    out: &mut [u8],
+) -> usize
     requires { ⌜ (opened (now m) ≡ Found l) × (length (recordsOfThree (now m) l a b c) ≤ length (now out)) ⌝ }
     ensures { λ r. ⌜ (r ≡ length (recordsOfThree (now (m .entry)) l a b c))
         × (now (out .exit) ≡ recordsOfThree (now (m .entry)) l a b c ++ drop r (now (out .entry))) ⌝ }
@@ -252,18 +259,18 @@ fn write_all(m: &[u8], l: Layout, out: &mut [u8]) -> usize
         + write_three(
             m,
             l,
-            Thing::Song,
-            Thing::Instrument,
-            Thing::Pattern,
+            RecordKind::Song,
+            RecordKind::Instrument,
+            RecordKind::Pattern,
             &mut out[60..],
         );
     to
         + write_three(
             m,
             l,
-            Thing::Sample,
-            Thing::VolumeEnvelope,
-            Thing::PanningEnvelope,
+            RecordKind::Sample,
+            RecordKind::VolumeEnvelope,
+            RecordKind::PanningEnvelope,
             &mut out[to..],
         )
 }
@@ -276,7 +283,7 @@ fn all_opened(m: &[u8], l: Layout, out: &mut [u8]) -> LengthAnswer
 {
     let needed = all_length(m, l);
     if out.len() < needed {
-        return refused(refuse(Cause::Room, needed));
+        return refused(refuse(Reason::Room, needed));
     }
     written(write_all(m, l, out))
 }

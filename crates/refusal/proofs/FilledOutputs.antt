@@ -7,7 +7,7 @@ use lib.ListN.{length, drop}
 use borrow.Author.Tests.{lt-ltb, le-ltb}
 use Rattle.refusal.specs.Numbers.{refusal}
 use Rattle.refusal.specs.Lengths.{refusedLength, writtenLength, lengthIf, outputIf}
-use Rattle.refusal.specs.declared.Cause.the-variants.{Room}
+use Rattle.refusal.specs.declared.Reason.the-variants.{Room}
 use Rattle.refusal.specs.declared.LengthAnswer.{LengthAnswer}
 
 module _ (needed : ℕ) (written out : List ℕ) where

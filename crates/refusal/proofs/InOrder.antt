@@ -8,11 +8,11 @@ use Rattle.refusal.specs.declared.Verdict.the-variants.{Accepted, Refuse
 use Rattle.refusal.proofs.RuleLists.{broken-stopped, broken-passed}
 
 -- What was told of the first rules, on the way to the verdict of all.
-module _ (xs ys : List Rule) {told : Verdict} (checked : told ≡ firstBroken xs) where
-  pub rules-stopped : {r : Refusal} → told ≡ Refused r → Refused r ≡ firstBroken (xs ++ ys)
+module _ (xs ys : List Rule) {reported : Verdict} (checked : reported ≡ firstBroken xs) where
+  pub rules-stopped : {r : Refusal} → reported ≡ Refused r → Refused r ≡ firstBroken (xs ++ ys)
   rules-stopped e = sym (broken-stopped ys xs (sym checked ∙ e))
 
-  pub rules-passed : {v : Verdict} → told ≡ Accepted → v ≡ firstBroken ys → v ≡ firstBroken (xs ++ ys)
+  pub rules-passed : {v : Verdict} → reported ≡ Accepted → v ≡ firstBroken ys → v ≡ firstBroken (xs ++ ys)
   rules-passed e later = later ∙ sym (broken-passed ys xs (sym checked ∙ e))
 
 -- Four parts, one behind the other.
@@ -25,11 +25,11 @@ module _ (first second third last : List Rule) {v : Verdict} (v-is : v ≡ first
     second-stopped e = rules-passed first (second ++ (third ++ last)) v-is v-passed (rules-stopped second (third ++ last) w-is e)
 
     module _ {x : Verdict} (w-passed : w ≡ Accepted) (x-is : x ≡ firstBroken third) where
-      behind-two : {y : Verdict} → y ≡ firstBroken (third ++ last) → y ≡ firstBroken (first ++ (second ++ (third ++ last)))
-      behind-two e = rules-passed first (second ++ (third ++ last)) v-is v-passed (rules-passed second (third ++ last) w-is w-passed e)
+      after-two : {y : Verdict} → y ≡ firstBroken (third ++ last) → y ≡ firstBroken (first ++ (second ++ (third ++ last)))
+      after-two e = rules-passed first (second ++ (third ++ last)) v-is v-passed (rules-passed second (third ++ last) w-is w-passed e)
 
       pub third-stopped : {r : Refusal} → x ≡ Refused r → Refused r ≡ firstBroken (first ++ (second ++ (third ++ last)))
-      third-stopped e = behind-two (rules-stopped third last x-is e)
+      third-stopped e = after-two (rules-stopped third last x-is e)
 
-      pub last-told : {y : Verdict} → x ≡ Accepted → y ≡ firstBroken last → y ≡ firstBroken (first ++ (second ++ (third ++ last)))
-      last-told e y-is = behind-two (rules-passed third last x-is e y-is)
+      pub last-follows : {y : Verdict} → x ≡ Accepted → y ≡ firstBroken last → y ≡ firstBroken (first ++ (second ++ (third ++ last)))
+      last-follows e y-is = after-two (rules-passed third last x-is e y-is)

@@ -5,7 +5,7 @@ use mathlib.Core.Bool.{cond}
 use lib.ListN.{length, drop}
 use lib.Dec.{eqb, ltb}
 use Rattle.refusal.specs.Numbers.{refusal, noRefusal, refusedOutcome, outcomeNumbers}
-use Rattle.refusal.specs.declared.Cause.the-variants.{Room}
+use Rattle.refusal.specs.declared.Reason.the-variants.{Room}
 use Rattle.refusal.specs.declared.Refusal.{Refusal}
 use Rattle.refusal.specs.declared.LengthAnswer.{LengthAnswer}
 

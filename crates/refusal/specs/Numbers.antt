@@ -1,19 +1,19 @@
--- FORMAT.md, "Refusals" (document 01, "Refusal numbers and their order"): the number of each cause, and an answer in numbers.
+-- FORMAT.md, "Refusals" (document 01, "Refusal numbers and their order"): the number of each reason, and an answer in numbers.
 use Prim.Native.Nat.{ℕ}
 use mathlib.Core.Path.{_≡_}
 use mathlib.Core.List.{List, [], _∷_, _++_}
 use lib.ListN.{replicate}
-use Rattle.refusal.specs.declared.Cause.{Cause}
-use Rattle.refusal.specs.declared.Cause.the-variants.{TooLong, NotAModule, Version, ChunkCut, Identifier, Repeated}
-use Rattle.refusal.specs.declared.Cause.the-variants.{BeforeInfo, Missing, FixedLength, InfoRange, Blocks, Reference}
-use Rattle.refusal.specs.declared.Cause.the-variants.{FieldRange, Loop, Stream, Sizes, Room, NotThere}
+use Rattle.refusal.specs.declared.Reason.{Reason}
+use Rattle.refusal.specs.declared.Reason.the-variants.{TooLong, NotAModule, Version, ChunkCut, Identifier, Repeated}
+use Rattle.refusal.specs.declared.Reason.the-variants.{BeforeInfo, Missing, FixedLength, InfoRange, Blocks, Reference}
+use Rattle.refusal.specs.declared.Reason.the-variants.{FieldRange, Loop, Stream, Sizes, Room, NotThere}
 use Rattle.refusal.specs.declared.Refusal.{Refusal}
 use Rattle.refusal.specs.declared.Outcome.{Outcome}
 use Rattle.refusal.specs.declared.Verdict.{Verdict}
 use Rattle.refusal.specs.declared.Verdict.the-variants.{Accepted, Refused}
 
 -- F1: the table's numbers.
-abbrev pub numberOf : Cause → ℕ
+abbrev pub numberOf : Reason → ℕ
 numberOf TooLong = 1
 numberOf NotAModule = 2
 numberOf Version = 3
@@ -34,8 +34,8 @@ numberOf Room = 17
 numberOf NotThere = 18
 
 -- A refusal is one number and one place.
-abbrev pub refusal : Cause → ℕ → Refusal
-refusal cause place = record { number = numberOf cause; place = place }
+abbrev pub refusal : Reason → ℕ → Refusal
+refusal reason place = record { number = numberOf reason; place = place }
 
 -- F1: the head of every answer: the refusal's number and place, 0 and 0 where there is none.
 abbrev pub noRefusal : Outcome

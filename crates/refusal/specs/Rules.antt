@@ -3,23 +3,23 @@ use Prim.Native.Nat.{ℕ}
 use mathlib.Core.List.{List, [], _∷_, _++_}
 use mathlib.Core.Bool.{Bool, true, false, cond}
 use Rattle.refusal.specs.Numbers.{refusal}
-use Rattle.refusal.specs.declared.Cause.{Cause}
+use Rattle.refusal.specs.declared.Reason.{Reason}
 use Rattle.refusal.specs.declared.Verdict.{Verdict}
 use Rattle.refusal.specs.declared.Verdict.the-variants.{Accepted, Refused}
 
--- A rule: whether it holds, and the cause and the place of the refusal where it does not.
+-- A rule: whether it holds, and the reason and the place of the refusal where it does not.
 pub record Rule : Type 0 where
   pub holds : Bool
-  pub cause : Cause
+  pub reason : Reason
   pub place : ℕ
 
-abbrev pub rule : Bool → Cause → ℕ → Rule
-rule holds cause place = record { holds = holds; cause = cause; place = place }
+abbrev pub rule : Bool → Reason → ℕ → Rule
+rule holds reason place = record { holds = holds; reason = reason; place = place }
 
 -- F10: the refusal of the first rule that does not hold.
 abbrev pub firstBroken : List Rule → Verdict
 firstBroken [] = Accepted
-firstBroken (r ∷ rs) = cond (r .holds) (firstBroken rs) (Refused (refusal (r .cause) (r .place)))
+firstBroken (r ∷ rs) = cond (r .holds) (firstBroken rs) (Refused (refusal (r .reason) (r .place)))
 
 -- The rules of each of these places, one after the other.
 abbrev pub rulesOfEach : (ℕ → List Rule) → List ℕ → List Rule

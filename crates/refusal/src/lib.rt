@@ -5,7 +5,7 @@ ghost use Rattle.refusal.specs.Numbers.{numberOf, refusal, outcomeOf};
 ghost use Rattle.refusal.specs.Lengths.{refusedLength, writtenLength};
 
 // What a refusal is given for, in the order of document 01's table.
-pub enum Cause {
+pub enum Reason {
     // The module has over 16,777,216 bytes.
     TooLong,
     // Under 8 bytes, or not DBM0.
@@ -70,38 +70,38 @@ pub struct LengthAnswer {
     pub length: usize,
 }
 
-// The number of a cause.
-pub fn number(cause: Cause) -> u8
-    ensures { λ r. ⌜ r ≡ numberOf cause ⌝ }
+// The number of a reason.
+pub fn number(reason: Reason) -> u8
+    ensures { λ r. ⌜ r ≡ numberOf reason ⌝ }
 {
-    match cause {
-        Cause::TooLong => 1,
-        Cause::NotAModule => 2,
-        Cause::Version => 3,
-        Cause::ChunkCut => 4,
-        Cause::Identifier => 5,
-        Cause::Repeated => 6,
-        Cause::BeforeInfo => 7,
-        Cause::Missing => 8,
-        Cause::FixedLength => 9,
-        Cause::InfoRange => 10,
-        Cause::Blocks => 11,
-        Cause::Reference => 12,
-        Cause::FieldRange => 13,
-        Cause::Loop => 14,
-        Cause::Stream => 15,
-        Cause::Sizes => 16,
-        Cause::Room => 17,
-        Cause::NotThere => 18,
+    match reason {
+        Reason::TooLong => 1,
+        Reason::NotAModule => 2,
+        Reason::Version => 3,
+        Reason::ChunkCut => 4,
+        Reason::Identifier => 5,
+        Reason::Repeated => 6,
+        Reason::BeforeInfo => 7,
+        Reason::Missing => 8,
+        Reason::FixedLength => 9,
+        Reason::InfoRange => 10,
+        Reason::Blocks => 11,
+        Reason::Reference => 12,
+        Reason::FieldRange => 13,
+        Reason::Loop => 14,
+        Reason::Stream => 15,
+        Reason::Sizes => 16,
+        Reason::Room => 17,
+        Reason::NotThere => 18,
     }
 }
 
-// The refusal for a cause at a place.
-pub fn refuse(cause: Cause, place: usize) -> Refusal
-    ensures { λ r. ⌜ r ≡ refusal cause place ⌝ }
+// The refusal for a reason at a place.
+pub fn refuse(reason: Reason, place: usize) -> Refusal
+    ensures { λ r. ⌜ r ≡ refusal reason place ⌝ }
 {
     Refusal {
-        number: number(cause),
+        number: number(reason),
         place,
     }
 }

@@ -8,7 +8,7 @@ use lib.ListN.{length, drop}
 use Rattle.vocabulary.specs.Lists.{Every}
 use Rattle.vocabulary.proofs.EveryOne.{every-first, every-rest}
 use Rattle.refusal.specs.Numbers.{refusal}
-use Rattle.refusal.specs.declared.Cause.the-variants.{Room}
+use Rattle.refusal.specs.declared.Reason.the-variants.{Room}
 use Rattle.refusal.specs.Lengths.{refusedLength, writtenLength}
 use Rattle.refusal.proofs.FilledOutputs.{all-lacking, all-enough}
 use Rattle.refusal.specs.declared.LengthAnswer.{LengthAnswer}
@@ -16,7 +16,7 @@ use Rattle.numbers.specs.Numbers.{Bytes}
 use Rattle.layout.specs.declared.Layout.{Layout}
 use Rattle.layout.specs.declared.Outline.the-variants.{Found}
 use Rattle.blocks.specs.Sizes.{sizeOf, placesFrom}
-use Rattle.blocks.specs.declared.Kind.the-variants.{Pattern}
+use Rattle.blocks.specs.declared.BlockKind.the-variants.{Pattern}
 use Rattle.module.specs.Streams.{patternStreamRules}
 use Rattle.module.specs.Verdicts.{opened}
 use Rattle.module.specs.Outputs.{answerOpened, outputOpened}
@@ -27,12 +27,12 @@ use Rattle.acceptance.proofs.ChunkHalf.{Outlined, outline-chunks}
 use Rattle.acceptance.proofs.ChangedData.{data-at}
 use Rattle.acceptance.proofs.OpenModules.{Opens, module-opens}
 use Rattle.repack.specs.Repacked.{repackedPatterns, repackedModule}
-use Rattle.repack.specs.Steps.{replaced, AllSound, PatternsIn}
-use Rattle.repack.proofs.ChunksAnew.{module-anew}
+use Rattle.repack.specs.Steps.{replaced, StreamsSound, PatternsIn}
+use Rattle.repack.proofs.RewrittenChunks.{module-rewritten}
 
 all-sound : (m : List ℕ) (tracks n at : ℕ)
     → Every (λ place. AllHold (patternStreamRules m tracks place)) (placesFrom (sizeOf Pattern m) n at)
-    → AllSound m tracks n at
+    → StreamsSound m tracks n at
 all-sound m tracks zero at e = tt
 all-sound m tracks (suc n) at e = (accepted-says _ .0 (every-first (every-first e)), all-sound m tracks n (at + sizeOf Pattern m at) (every-rest e))
 
@@ -40,37 +40,37 @@ module _ (m : List ℕ) (bytes : Bytes m) (l : Layout) (o : opened m ≡ Found l
   opens : Opens m l
   opens = module-opens m l o
 
-  pub patterns-in : PatternsIn m (l .places .patt) (l .patterns) (l .tracks)
+  pub patterns-in : PatternsIn m (l .spans .patt) (l .patterns) (l .tracks)
   patterns-in = record {
-    sound = all-sound m (l .tracks) (l .patterns) (l .places .patt .at + 8) (opens .content .streams);
+    sound = all-sound m (l .tracks) (l .patterns) (l .spans .patt .at + 8) (opens .content .streams);
     ends = opens .content .blocks .patterns;
-    inside = opens .places .patt .inside;
+    inside = opens .spans .patt .inside;
   }
 
   pub outlined : Outlined m l
   outlined = outline-chunks m l bytes (opens .outlined)
 
-  pub module-replaced : repackedModule m l ≡ replaced m (l .places .patt) (repackedPatterns m l)
+  pub module-replaced : repackedModule m l ≡ replaced m (l .spans .patt) (repackedPatterns m l)
   module-replaced =
-      module-anew (outlined .rules) l
-      ∙ data-at Covered.patt (repackedPatterns m l) (outlined .rules) (outlined .mandatory .patt .1) (l .places .patt) (outlined .layout .patt)
+      module-rewritten (outlined .rules) l
+      ∙ data-at Covered.patt (repackedPatterns m l) (outlined .rules) (outlined .mandatory .patt .1) (l .spans .patt) (outlined .layout .patt)
 
   -- 17, and what is written, by the length of the module with PATT's data anew.
   module _ (out : List ℕ) where
-    abbrev anew : List ℕ
-    anew = replaced m (l .places .patt) (repackedPatterns m l)
+    abbrev rewritten : List ℕ
+    rewritten = replaced m (l .spans .patt) (repackedPatterns m l)
 
-    same-length : length (repackedModule m l) ≡ length anew
+    same-length : length (repackedModule m l) ≡ length rewritten
     same-length = ap length module-replaced
 
-    pub module-lacks : (needed : ℕ) → length out < needed → (length out < needed → needed ≡ length anew)
+    pub module-lacks : (needed : ℕ) → length out < needed → (length out < needed → needed ≡ length rewritten)
         → (answer : LengthAnswer)
         → answer ≡ refusedLength (refusal Room needed)
         → (answer ≡ answerOpened (repackedModule m) (length out) (Found l)) × (out ≡ outputOpened (repackedModule m) out (Found l))
     module-lacks needed h same answer e = all-lacking (repackedModule m l) out needed (same h ∙ sym same-length) h answer e
 
-    pub module-done : length anew ≤ length out → (n : ℕ) (answer : LengthAnswer) (out′ : List ℕ) → answer ≡ writtenLength n
-        → (n ≡ length anew) × (out′ ≡ anew ++ drop n out)
+    pub module-done : length rewritten ≤ length out → (n : ℕ) (answer : LengthAnswer) (out′ : List ℕ) → answer ≡ writtenLength n
+        → (n ≡ length rewritten) × (out′ ≡ rewritten ++ drop n out)
         → (answer ≡ answerOpened (repackedModule m) (length out) (Found l)) × (out′ ≡ outputOpened (repackedModule m) out (Found l))
     module-done h n answer out′ e done =
         all-enough (repackedModule m l) out (omega (arith, same-length)) n answer out′ e (done .0 ∙ sym same-length, done .1 ∙ rw module-replaced refl)

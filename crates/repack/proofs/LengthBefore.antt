@@ -41,8 +41,8 @@ module _ (front out first : List ℕ) (a : ℕ) (size : length front ≡ a) (roo
         ∙ ap (λ (rest : List ℕ). xs ++ drop n rest) (mid-end (a + 4) first ∙ first-rest)
         ∙ ap (λ (rest : List ℕ). xs ++ rest) (drop-drop n (a + 4) out))
 
-    behind-length : drop (a + 4) second ≡ xs ++ drop (a + 4 + n) out
-    behind-length = ap (drop (a + 4)) second-is ∙ drop-at (take (a + 4) first) (xs ++ drop (a + 4 + n) out) (a + 4) four-more
+    after-length : drop (a + 4) second ≡ xs ++ drop (a + 4 + n) out
+    after-length = ap (drop (a + 4)) second-is ∙ drop-at (take (a + 4) first) (xs ++ drop (a + 4 + n) out) (a + 4) four-more
 
     front-stays : take a second ≡ front
     front-stays =
@@ -60,4 +60,4 @@ module _ (front out first : List ℕ) (a : ℕ) (size : length front ≡ a) (roo
     third-is =
         put-there (bytes32 n) a second place-inside
         ∙ ap (λ (l : List ℕ). l ++ (bytes32 n ++ drop (a + 4) second)) front-stays
-        ∙ ap (λ (rest : List ℕ). front ++ (bytes32 n ++ rest)) behind-length
+        ∙ ap (λ (rest : List ℕ). front ++ (bytes32 n ++ rest)) after-length

@@ -1,7 +1,7 @@
-pub mod Anew
+pub mod Rewritten
 pub mod LengthBefore
 pub mod WritingBlock
 pub mod PassingPatterns
 pub mod WritingModule
-pub mod ChunksAnew
+pub mod RewrittenChunks
 pub mod Accepting

@@ -6,23 +6,23 @@ use native.Mathlib.Omega.{arith}
 use lib.ListN.{length, drop, length-append, length-drop}
 use borrow.Rule.Slice.PartMut.{midOf, putMid}
 use Rattle.refusal.specs.declared.Verdict.the-variants.{Accepted}
-use Rattle.layout.specs.declared.Place.{Place}
+use Rattle.layout.specs.declared.ChunkSpan.{ChunkSpan}
 use Rattle.blocks.specs.Sizes.{sizeOf, placeAfter, firstBlock}
 use Rattle.blocks.specs.Filling.{dataEnd}
-use Rattle.blocks.specs.declared.Kind.the-variants.{Pattern}
+use Rattle.blocks.specs.declared.BlockKind.the-variants.{Pattern}
 use Rattle.module.specs.Streams.{streamVerdict}
 use Rattle.acceptance.proofs.Cutting.{after-least, size-least}
 use Rattle.acceptance.proofs.Ends.{mid-end, put-next, written-length}
 use Rattle.repack.specs.Repacked.{repackedBlock}
-use Rattle.repack.specs.Steps.{blocksAnew, PatternsTo, PatternsIn}
-use Rattle.repack.proofs.Anew.{block-shorter}
+use Rattle.repack.specs.Steps.{rewrittenBlocks, PatternsTo, PatternsIn}
+use Rattle.repack.proofs.Rewritten.{block-shorter}
 
 -- The first of the patterns that are left: its stream is sound, its block ends before the end, and the others follow.
 pub record NextPattern (m : List ℕ) (tracks left at end : ℕ) : Type 0 where
   pub sound : streamVerdict m tracks at ≡ Accepted
   pub inside : at + sizeOf Pattern m at ≤ end
   pub later : PatternsTo m tracks (left - 1) (at + sizeOf Pattern m at) end
-  pub splits : blocksAnew m tracks left at ≡ repackedBlock m tracks at ++ blocksAnew m tracks (left - 1) (at + sizeOf Pattern m at)
+  pub splits : rewrittenBlocks m tracks left at ≡ repackedBlock m tracks at ++ rewrittenBlocks m tracks (left - 1) (at + sizeOf Pattern m at)
 
 module _ {m : List ℕ} {tracks at end : ℕ} where
   pub pattern-next : (left : ℕ) → 0 < left → PatternsTo m tracks left at end → NextPattern m tracks left at end
@@ -43,13 +43,13 @@ module _ {m : List ℕ} {tracks at end : ℕ} where
       (omega (arith, next .inside, p .inside, size-least Pattern m at), omega (arith, next .inside), next .sound)
 
 -- The patterns of a chunk, from the place on at which a loop begins.
-pub patterns-from : {m : List ℕ} (chunk : Place) {n tracks at : ℕ} → PatternsIn m chunk n tracks
+pub patterns-from : {m : List ℕ} (chunk : ChunkSpan) {n tracks at : ℕ} → PatternsIn m chunk n tracks
     → at ≡ firstBlock Pattern chunk
     → PatternsTo m tracks n at (placeAfter (sizeOf Pattern m) n at)
 patterns-from chunk p e = rw e (record { sound = p .sound; ends = refl; inside = rw (p .ends) (p .inside) })
 
 -- The blocks anew are no longer than the blocks that stand there.
-pub blocks-shorter : (m : List ℕ) (tracks n at end : ℕ) → PatternsTo m tracks n at end → length (blocksAnew m tracks n at) + at ≤ end
+pub blocks-shorter : (m : List ℕ) (tracks n at end : ℕ) → PatternsTo m tracks n at end → length (rewrittenBlocks m tracks n at) + at ≤ end
 blocks-shorter m tracks zero at end p = omega (arith, p .ends)
 blocks-shorter m tracks (suc n) at end p =
     let next = pattern-next (suc n) (omega arith) p in
@@ -58,19 +58,19 @@ blocks-shorter m tracks (suc n) at end p =
     omega (
       arith,
       blocks-shorter m tracks n (at + sizeOf Pattern m at) end later,
-      length-append (repackedBlock m tracks at) (blocksAnew m tracks n (at + sizeOf Pattern m at)),
+      length-append (repackedBlock m tracks at) (rewrittenBlocks m tracks n (at + sizeOf Pattern m at)),
       block-shorter m tracks at (next .sound) (omega (arith, ready .0)),
     )
 
 -- Those of a chunk, by the place at which a loop begins.
-pub data-shorter : {m : List ℕ} (chunk : Place) {n tracks start : ℕ} → PatternsIn m chunk n tracks
+pub data-shorter : {m : List ℕ} (chunk : ChunkSpan) {n tracks start : ℕ} → PatternsIn m chunk n tracks
     → start ≡ firstBlock Pattern chunk
-    → length (blocksAnew m tracks n start) ≤ chunk .length
+    → length (rewrittenBlocks m tracks n start) ≤ chunk .length
 data-shorter {m} chunk {n} {tracks} p e = rw e (omega (arith, blocks-shorter m tracks n (firstBlock Pattern chunk) (dataEnd chunk) p))
 
 -- The lengths of the blocks anew, counted.
 pub record Counting (m : List ℕ) (tracks n start end at counted left : ℕ) : Type 0 where
-  pub same : counted + length (blocksAnew m tracks left at) ≡ length (blocksAnew m tracks n start)
+  pub same : counted + length (rewrittenBlocks m tracks left at) ≡ length (rewrittenBlocks m tracks n start)
   pub rest : PatternsTo m tracks left at end
 
 module _ {m : List ℕ} {tracks n start end : ℕ} where
@@ -87,7 +87,7 @@ module _ {m : List ℕ} {tracks n start end : ℕ} where
             arith,
             c .same,
             ap length (next .splits)
-                ∙ length-append (repackedBlock m tracks at) (blocksAnew m tracks (left - 1) (at + sizeOf Pattern m at)),
+                ∙ length-append (repackedBlock m tracks at) (rewrittenBlocks m tracks (left - 1) (at + sizeOf Pattern m at)),
             sized,
           ));
           rest = rw e (next .later);
@@ -95,12 +95,13 @@ module _ {m : List ℕ} {tracks n start end : ℕ} where
 
     -- The sums stay small.
     pub counting-small : {size s : ℕ} → 0 < left → size ≡ length (repackedBlock m tracks at) → s ≡ sizeOf Pattern m at
-        → (counted + size ≤ length (blocksAnew m tracks n start)) × (at + s ≤ length m)
+        → (counted + size ≤ length (rewrittenBlocks m tracks n start)) × (at + s ≤ length m)
     counting-small some sized e =
         let next = pattern-next left some (c .rest) in
         (omega (arith, counting-turn some sized e .same), omega (arith, next .inside, c .rest .inside))
 
-    pub counting-last : (chunk : Place) → start ≡ firstBlock Pattern chunk → left ≤ 0 → counted ≡ length (blocksAnew m tracks n (firstBlock Pattern chunk))
+    pub counting-last : (chunk : ChunkSpan) → start ≡ firstBlock Pattern chunk → left ≤ 0
+        → counted ≡ length (rewrittenBlocks m tracks n (firstBlock Pattern chunk))
     counting-last chunk e over =
         let none : left ≡ 0 = omega arith in
         rw (← e) (omega (arith, rw none at (c .same)))
@@ -110,7 +111,7 @@ pub record WritingBlocks (m : List ℕ) (tracks n start end : ℕ) (out₀ out :
   pub done : List ℕ
   pub written : out ≡ done ++ drop (length done) out₀
   pub place : length done ≡ to
-  pub all : done ++ blocksAnew m tracks left at ≡ blocksAnew m tracks n start
+  pub all : done ++ rewrittenBlocks m tracks left at ≡ rewrittenBlocks m tracks n start
   pub rest : PatternsTo m tracks left at end
 
 module _ {m : List ℕ} {tracks n start end : ℕ} (out₀ : List ℕ) where
@@ -118,9 +119,9 @@ module _ {m : List ℕ} {tracks n start end : ℕ} (out₀ : List ℕ) where
   blocks-first p = record { done = []; written = refl; place = refl; all = refl; rest = p }
 
   module _ (out : List ℕ) {at to left : ℕ} (w : WritingBlocks m tracks n start end out₀ out at to left)
-      (room : length (blocksAnew m tracks n start) ≤ length out₀) where
-    blocks-place : to + length (blocksAnew m tracks left at) ≡ length (blocksAnew m tracks n start)
-    blocks-place = omega (arith, ap length (w .all), length-append (w .done) (blocksAnew m tracks left at), w .place)
+      (room : length (rewrittenBlocks m tracks n start) ≤ length out₀) where
+    blocks-place : to + length (rewrittenBlocks m tracks left at) ≡ length (rewrittenBlocks m tracks n start)
+    blocks-place = omega (arith, ap length (w .all), length-append (w .done) (rewrittenBlocks m tracks left at), w .place)
 
     pub blocks-length : length out ≡ length out₀
     blocks-length = written-length (w .done) out₀ out (w .written) (omega (arith, blocks-place, w .place))
@@ -135,7 +136,7 @@ module _ {m : List ℕ} {tracks n start end : ℕ} (out₀ : List ℕ) where
           arith,
           blocks-place,
           ap length (next .splits)
-              ∙ length-append (repackedBlock m tracks at) (blocksAnew m tracks (left - 1) (at + sizeOf Pattern m at)),
+              ∙ length-append (repackedBlock m tracks at) (rewrittenBlocks m tracks (left - 1) (at + sizeOf Pattern m at)),
         )
 
     pub blocks-part : 0 < left → length (repackedBlock m tracks at) ≤ length (midOf to (length out - to) out)
@@ -161,20 +162,20 @@ module _ {m : List ℕ} {tracks n start end : ℕ} (out₀ : List ℕ) where
         }
 
 -- The same of the patterns of a chunk, by the place at which the loop begins.
-module _ (m : List ℕ) (chunk : Place) (n tracks : ℕ) {start : ℕ} where
-  pub blocks-enough : {size : ℕ} → length (blocksAnew m tracks n (firstBlock Pattern chunk)) ≤ size
+module _ (m : List ℕ) (chunk : ChunkSpan) (n tracks : ℕ) {start : ℕ} where
+  pub blocks-enough : {size : ℕ} → length (rewrittenBlocks m tracks n (firstBlock Pattern chunk)) ≤ size
       → start ≡ firstBlock Pattern chunk
-      → length (blocksAnew m tracks n start) ≤ size
+      → length (rewrittenBlocks m tracks n start) ≤ size
   blocks-enough room e = rw e room
 
   pub blocks-last : (out₀ out : List ℕ) {end at to left : ℕ} → WritingBlocks m tracks n start end out₀ out at to left
       → start ≡ firstBlock Pattern chunk → left ≤ 0
-      → (to ≡ length (blocksAnew m tracks n (firstBlock Pattern chunk))) × (out ≡ blocksAnew m tracks n (firstBlock Pattern chunk) ++ drop to out₀)
+      → (to ≡ length (rewrittenBlocks m tracks n (firstBlock Pattern chunk))) × (out ≡ rewrittenBlocks m tracks n (firstBlock Pattern chunk) ++ drop to out₀)
   blocks-last out₀ out {at = at} {to = to} {left = left} w e over =
       let none : left ≡ 0 = omega arith in
-      let whole : w .done ≡ blocksAnew m tracks n (firstBlock Pattern chunk) =
+      let whole : w .done ≡ rewrittenBlocks m tracks n (firstBlock Pattern chunk) =
       sym (append-nil (w .done))
-      ∙ ap (λ (k : ℕ). w .done ++ blocksAnew m tracks k at) (sym none)
+      ∙ ap (λ (k : ℕ). w .done ++ rewrittenBlocks m tracks k at) (sym none)
       ∙ w .all
-      ∙ ap (blocksAnew m tracks n) e in
+      ∙ ap (rewrittenBlocks m tracks n) e in
       (omega (arith, w .place, ap length whole), w .written ∙ rw (w .place, whole) refl)

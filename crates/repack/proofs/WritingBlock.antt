@@ -15,7 +15,7 @@ use Rattle.module.specs.Streams.{streamVerdict}
 use Rattle.acceptance.proofs.Locating.{part-length}
 use Rattle.acceptance.proofs.Ends.{copied}
 use Rattle.repack.specs.Repacked.{packed, repackedStream, repackedBlock}
-use Rattle.repack.proofs.Anew.{block-size}
+use Rattle.repack.proofs.Rewritten.{block-size}
 use Rattle.repack.proofs.LengthBefore.{lent-length, third-is}
 
 -- An even stream ends the block; behind an odd one a filler stands.
@@ -60,7 +60,7 @@ module _ (m : List ℕ) (tracks at : ℕ) (inside : at + 6 ≤ length m) (sound 
     rows-fit = omega (arith, ap length s, two, six-fit)
 
     module _ {first : List ℕ} (copy : first ≡ take (length source) source ++ drop (length source) out) {n : ℕ} {mid : List ℕ}
-        (told : (n ≡ length (repackedStream m tracks at))
+        (reported : (n ≡ length (repackedStream m tracks at))
         × (n ≤ patternPackedLength m at)
         × (n < 0x100000000)
         × (n ≤ length (midOf 6 (length first - 6) first) → mid ≡ repackedStream m tracks at ++ drop n (midOf 6 (length first - 6) first)))
@@ -69,23 +69,24 @@ module _ (m : List ℕ) (tracks at : ℕ) (inside : at + 6 ≤ length m) (sound 
         rows-first = copied source (partOf m at 2) out first s copy ∙ ap (λ (k : ℕ). partOf m at 2 ++ drop k out) two
 
         enough : 6 + n ≤ length out
-        enough = omega (arith, told .0, room, block-long)
+        enough = omega (arith, reported .0, room, block-long)
 
         stream-next : mid ≡ repackedStream m tracks at ++ drop n (midOf 6 (length first - 6) first)
-        stream-next = told .3 (omega (arith, lent-length (partOf m at 2) out first 2 two six-fit rows-first, enough))
+        stream-next = reported .3 (omega (arith, lent-length (partOf m at 2) out first 2 two six-fit rows-first, enough))
 
         abbrev behind : List ℕ
         behind = putMid 6 (length first - 6) first mid
 
         module _ {whole : List ℕ} (put : whole ≡ putAt (bytes32 n) 2 behind) where
           whole-is : whole ≡ partOf m at 2 ++ (bytes32 n ++ (repackedStream m tracks at ++ drop (6 + n) out))
-          whole-is = put ∙ third-is (partOf m at 2) out first 2 two six-fit rows-first (repackedStream m tracks at) mid n (told .0) enough stream-next
+          whole-is = put ∙ third-is (partOf m at 2) out first 2 two six-fit rows-first (repackedStream m tracks at) mid n (reported .0) enough stream-next
 
           pub even-block : n % 2 ≡ 0 → (6 + n ≡ length (repackedBlock m tracks at)) × (whole ≡ repackedBlock m tracks at ++ drop (6 + n) out)
-          even-block = even-written (partOf m at 2) (repackedStream m tracks at) out whole n two (told .0) whole-is
+          even-block = even-written (partOf m at 2) (repackedStream m tracks at) out whole n two (reported .0) whole-is
 
           pub odd-block : n % 2 ≢ 0
               → (6 + n + 1 ≡ length (repackedBlock m tracks at)) × (set whole (6 + n) 0 ≡ repackedBlock m tracks at ++ drop (6 + n + 1) out)
           odd-block h =
               let odd : n % 2 ≡ 1 = omega arith in
-              odd-written (partOf m at 2) (repackedStream m tracks at) out whole n two (told .0) whole-is odd (omega (arith, odd, told .0, room, block-long))
+              odd-written (partOf m at 2) (repackedStream m tracks at) out whole n two (reported .0) whole-is odd
+              (omega (arith, odd, reported .0, room, block-long))

@@ -1,5 +1,5 @@
 -- FORMAT.md, X1 to X4 (document 01, "Repacking a module keeps .."): a module repacked. Its header and its chunks stand in order and byte
--- for byte, except that PATT holds the packer's streams and the lengths that follow.
+-- for byte, except that pattIdentifier holds the packer's streams and the lengths that follow.
 use Prim.Native.Nat.{ℕ, _+_, _%_}
 use mathlib.Core.List.{List, [], _++_, map}
 use mathlib.Core.Bool.{cond}
@@ -11,7 +11,7 @@ use Rattle.numbers.specs.Numbers.{partOf, bytes32}
 use Rattle.packed_rows.specs.Entries.{rowsFrom}
 use Rattle.packed_rows.specs.Stream.{readStream, entriesRead}
 use Rattle.packed_rows.specs.Packer.{packedStream}
-use Rattle.layout.specs.Chunks.{PATT, Chunk, Walk, whole, stopped, chunks}
+use Rattle.layout.specs.Chunks.{pattIdentifier, ChunkHeader, Walk, complete, stopped, chunks}
 use Rattle.layout.specs.declared.Layout.{Layout}
 use Rattle.layout.specs.declared.Outline.{Outline}
 use Rattle.layout.specs.declared.Outline.the-variants.{Found, Refused}
@@ -32,26 +32,26 @@ packed stream = bytes32 (length stream) ++ (stream ++ replicate (length stream %
 abbrev pub repackedBlock : List ℕ → ℕ → ℕ → List ℕ
 repackedBlock m tracks at = partOf m at 2 ++ packed (repackedStream m tracks at)
 
--- X2: the data of PATT, anew: the blocks of the patterns, in order.
+-- X2: the data of pattIdentifier, anew: the blocks of the patterns, in order.
 abbrev pub repackedPatterns : List ℕ → Layout → List ℕ
 repackedPatterns m l = joined (map (repackedBlock m (l .tracks)) (patternBlocks m l))
 
--- X2: PATT, anew: its identifier, the length of its data, and the data.
-abbrev pub repackedPatt : List ℕ → Layout → Chunk → List ℕ
+-- X2: pattIdentifier, anew: its identifier, the length of its data, and the data.
+abbrev pub repackedPatt : List ℕ → Layout → ChunkHeader → List ℕ
 repackedPatt m l c = partOf m (c .at) 4 ++ (bytes32 (length (repackedPatterns m l)) ++ repackedPatterns m l)
 
 -- X1: every other chunk byte for byte: its header of 8 bytes, and its data.
-abbrev pub repackedChunk : List ℕ → Layout → Chunk → List ℕ
-repackedChunk m l c = cond (eqb (c .identifier) PATT) (repackedPatt m l c) (partOf m (c .at) (8 + c .length))
+abbrev pub repackedChunkBytes : List ℕ → Layout → ChunkHeader → List ℕ
+repackedChunkBytes m l c = cond (eqb (c .identifier) pattIdentifier) (repackedPatt m l c) (partOf m (c .at) (8 + c .length))
 
 -- The chunks that were read.
-abbrev pub chunksRead : Walk → List Chunk
-chunksRead (whole cs) = cs
+abbrev pub chunksRead : Walk → List ChunkHeader
+chunksRead (complete cs) = cs
 chunksRead (stopped r) = []
 
 -- X1: the header, and the chunks in order.
 abbrev pub repackedModule : List ℕ → Layout → List ℕ
-repackedModule m l = partOf m 0 8 ++ joined (map (repackedChunk m l) (chunksRead (chunks m)))
+repackedModule m l = partOf m 0 8 ++ joined (map (repackedChunkBytes m l) (chunksRead (chunks m)))
 
 -- The module repacked; nothing of a module that is refused.
 abbrev pub repackedIf : List ℕ → Outline → List ℕ

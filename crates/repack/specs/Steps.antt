@@ -7,35 +7,35 @@ use lib.ListN.{length, take, drop}
 use Rattle.vocabulary.specs.Lists.{joined}
 use Rattle.refusal.specs.declared.Verdict.the-variants.{Accepted}
 use Rattle.numbers.specs.Numbers.{bytes32}
-use Rattle.layout.specs.declared.Place.{Place}
+use Rattle.layout.specs.declared.ChunkSpan.{ChunkSpan}
 use Rattle.blocks.specs.Sizes.{sizeOf, placeAfter, placesFrom, firstBlock}
 use Rattle.blocks.specs.Filling.{dataEnd}
-use Rattle.blocks.specs.declared.Kind.the-variants.{Pattern}
+use Rattle.blocks.specs.declared.BlockKind.the-variants.{Pattern}
 use Rattle.module.specs.Streams.{streamVerdict}
 use Rattle.repack.specs.Repacked.{repackedBlock}
 
 -- The blocks anew of so many patterns from a place on.
-abbrev pub blocksAnew : List ℕ → ℕ → ℕ → ℕ → List ℕ
-blocksAnew m tracks n at = joined (map (repackedBlock m tracks) (placesFrom (sizeOf Pattern m) n at))
+abbrev pub rewrittenBlocks : List ℕ → ℕ → ℕ → ℕ → List ℕ
+rewrittenBlocks m tracks n at = joined (map (repackedBlock m tracks) (placesFrom (sizeOf Pattern m) n at))
 
 -- PATT's data put in the place of those that stand there: the module up to PATT's end, and all of it.
-abbrev pub frontAnew : List ℕ → Place → List ℕ → List ℕ
-frontAnew m chunk anew = take (chunk .at + 4) m ++ (bytes32 (length anew) ++ anew)
+abbrev pub rewrittenFront : List ℕ → ChunkSpan → List ℕ → List ℕ
+rewrittenFront m chunk rewritten = take (chunk .at + 4) m ++ (bytes32 (length rewritten) ++ rewritten)
 
-abbrev pub replaced : List ℕ → Place → List ℕ → List ℕ
-replaced m chunk anew = take (chunk .at + 4) m ++ (bytes32 (length anew) ++ (anew ++ drop (dataEnd chunk) m))
+abbrev pub replaced : List ℕ → ChunkSpan → List ℕ → List ℕ
+replaced m chunk rewritten = take (chunk .at + 4) m ++ (bytes32 (length rewritten) ++ (rewritten ++ drop (dataEnd chunk) m))
 
 -- So many patterns from a place on have sound streams.
-abbrev pub AllSound : List ℕ → ℕ → ℕ → ℕ → Type 0
-AllSound m tracks zero at = Unit {0}
-AllSound m tracks (suc n) at = (streamVerdict m tracks at ≡ Accepted) × AllSound m tracks n (at + sizeOf Pattern m at)
+abbrev pub StreamsSound : List ℕ → ℕ → ℕ → ℕ → Type 0
+StreamsSound m tracks zero at = Unit {0}
+StreamsSound m tracks (suc n) at = (streamVerdict m tracks at ≡ Accepted) × StreamsSound m tracks n (at + sizeOf Pattern m at)
 
 -- So many patterns from a place on end at another, inside the module, and have sound streams.
 pub record PatternsTo (m : List ℕ) (tracks n at end : ℕ) : Type 0 where
-  pub sound : AllSound m tracks n at
+  pub sound : StreamsSound m tracks n at
   pub ends : placeAfter (sizeOf Pattern m) n at ≡ end
   pub inside : end ≤ length m
 
 -- The patterns of a chunk fill it, and have sound streams.
-abbrev pub PatternsIn : List ℕ → Place → ℕ → ℕ → Type 0
+abbrev pub PatternsIn : List ℕ → ChunkSpan → ℕ → ℕ → Type 0
 PatternsIn m chunk n tracks = PatternsTo m tracks n (firstBlock Pattern chunk) (dataEnd chunk)

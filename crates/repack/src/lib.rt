@@ -1,19 +1,19 @@
 // Repacking a whole module: the packer's streams in the place of those that PATT holds, with the lengths that follow; all else byte for
 // byte. Of the packed rows only the promises of `packed_rows` are used. The module is read in place, and no memory is needed beyond one
 // row.
-use blocks::Kind;
+use blocks::BlockKind;
 use blocks::block_at;
 use blocks::size;
 use blocks::stored::packed_bytes;
 use blocks::stored::pattern_rows;
+use layout::ChunkSpan;
 use layout::Layout;
 use layout::Outline;
-use layout::Place;
 use numbers::part;
 use numbers::put32;
 use packed_rows::Packing;
-use refusal::Cause;
 use refusal::LengthAnswer;
+use refusal::Reason;
 use refusal::refuse;
 use refusal::refused;
 use refusal::written;
@@ -25,12 +25,12 @@ ghost use Rattle.refusal.specs.declared.Verdict.the-variants.{Accepted};
 ghost use Rattle.layout.specs.declared.Outline.the-variants.{Found};
 ghost use Rattle.blocks.specs.StoredFields.{patternPackedLength};
 ghost use Rattle.blocks.specs.Sizes.{firstBlock};
-ghost use Rattle.blocks.specs.declared.Kind.the-variants.{Pattern};
+ghost use Rattle.blocks.specs.declared.BlockKind.the-variants.{Pattern};
 ghost use Rattle.module.specs.Streams.{streamVerdict};
 ghost use Rattle.module.specs.Verdicts.{opened};
 ghost use Rattle.module.specs.Outputs.{answerOpened, outputOpened};
 ghost use Rattle.repack.specs.Repacked.{repackedStream, repackedBlock, repackedModule, repackAnswer, repackOutput};
-ghost use Rattle.repack.specs.Steps.{blocksAnew, frontAnew, replaced, PatternsIn};
+ghost use Rattle.repack.specs.Steps.{rewrittenBlocks, rewrittenFront, replaced, PatternsIn};
 
 // Writes the packer's stream of the pattern at a place to the front of an output that has room for it, and answers its length, also
 // where there is no room.
@@ -58,16 +58,16 @@ fn block_length(m: &[u8], tracks: u16, at: usize) -> usize
 }
 
 // The length of PATT's data anew.
-fn data_length(m: &[u8], chunk: Place, patterns: u16, tracks: u16) -> usize
+fn data_length(m: &[u8], chunk: ChunkSpan, patterns: u16, tracks: u16) -> usize
     requires { ⌜ PatternsIn (now m) chunk patterns tracks ⌝ }
-    ensures { λ r. ⌜ r ≡ length (blocksAnew (now (m .entry)) tracks patterns (firstBlock Pattern chunk)) ⌝ }
+    ensures { λ r. ⌜ r ≡ length (rewrittenBlocks (now (m .entry)) tracks patterns (firstBlock Pattern chunk)) ⌝ }
 {
-    let mut at = block_at(m, Kind::Pattern, chunk, 0);
+    let mut at = block_at(m, BlockKind::Pattern, chunk, 0);
     let mut length: usize = 0;
     let mut left = patterns;
     while 0 < left {
         length = length + block_length(m, tracks, at);
-        at = at + size(m, Kind::Pattern, at);
+        at = at + size(m, BlockKind::Pattern, at);
         left = left - 1;
     }
     length
@@ -91,17 +91,17 @@ fn write_block(m: &[u8], tracks: u16, at: usize, out: &mut [u8]) -> usize
 }
 
 // Writes PATT's data anew to the front of an output that has room for them, and answers their length.
-fn write_data(m: &[u8], chunk: Place, patterns: u16, tracks: u16, out: &mut [u8]) -> usize
-    requires { ⌜ PatternsIn (now m) chunk patterns tracks × (length (blocksAnew (now m) tracks patterns (firstBlock Pattern chunk)) ≤ length (now out)) ⌝ }
-    ensures { λ r. ⌜ (r ≡ length (blocksAnew (now (m .entry)) tracks patterns (firstBlock Pattern chunk)))
-        × (now (out .exit) ≡ blocksAnew (now (m .entry)) tracks patterns (firstBlock Pattern chunk) ++ drop r (now (out .entry))) ⌝ }
+fn write_data(m: &[u8], chunk: ChunkSpan, patterns: u16, tracks: u16, out: &mut [u8]) -> usize
+    requires { ⌜ PatternsIn (now m) chunk patterns tracks × (length (rewrittenBlocks (now m) tracks patterns (firstBlock Pattern chunk)) ≤ length (now out)) ⌝ }
+    ensures { λ r. ⌜ (r ≡ length (rewrittenBlocks (now (m .entry)) tracks patterns (firstBlock Pattern chunk)))
+        × (now (out .exit) ≡ rewrittenBlocks (now (m .entry)) tracks patterns (firstBlock Pattern chunk) ++ drop r (now (out .entry))) ⌝ }
 {
-    let mut at = block_at(m, Kind::Pattern, chunk, 0);
+    let mut at = block_at(m, BlockKind::Pattern, chunk, 0);
     let mut to: usize = 0;
     let mut left = patterns;
     while 0 < left {
         to = to + write_block(m, tracks, at, &mut out[to..]);
-        at = at + size(m, Kind::Pattern, at);
+        at = at + size(m, BlockKind::Pattern, at);
         left = left - 1;
     }
     to
@@ -109,28 +109,28 @@ fn write_data(m: &[u8], chunk: Place, patterns: u16, tracks: u16, out: &mut [u8]
 
 // Writes the module up to PATT's end, with PATT's data anew, to the front of an output that has room for that, and answers the place
 // behind it. The data are written before their length, which is not known until then.
-fn write_front(m: &[u8], chunk: Place, patterns: u16, tracks: u16, out: &mut [u8]) -> usize
+fn write_front(m: &[u8], chunk: ChunkSpan, patterns: u16, tracks: u16, out: &mut [u8]) -> usize
     requires { ⌜ PatternsIn (now m) chunk patterns tracks
-        × (length (frontAnew (now m) chunk (blocksAnew (now m) tracks patterns (firstBlock Pattern chunk))) ≤ length (now out)) ⌝ }
-    ensures { λ r. ⌜ (r ≡ length (frontAnew (now (m .entry)) chunk (blocksAnew (now (m .entry)) tracks patterns (firstBlock Pattern chunk))))
+        × (length (rewrittenFront (now m) chunk (rewrittenBlocks (now m) tracks patterns (firstBlock Pattern chunk))) ≤ length (now out)) ⌝ }
+    ensures { λ r. ⌜ (r ≡ length (rewrittenFront (now (m .entry)) chunk (rewrittenBlocks (now (m .entry)) tracks patterns (firstBlock Pattern chunk))))
         × (now (out .exit)
-        ≡ frontAnew (now (m .entry)) chunk (blocksAnew (now (m .entry)) tracks patterns (firstBlock Pattern chunk)) ++ drop r (now (out .entry))) ⌝ }
+        ≡ rewrittenFront (now (m .entry)) chunk (rewrittenBlocks (now (m .entry)) tracks patterns (firstBlock Pattern chunk)) ++ drop r (now (out .entry))) ⌝ }
 {
     let front = (chunk.at as usize) + 4;
     let start = front + 4;
     bytes::copy(&m[..front], out);
-    let anew = write_data(m, chunk, patterns, tracks, &mut out[start..]);
-    put32(anew as u32, front, out);
-    start + anew
+    let rewritten = write_data(m, chunk, patterns, tracks, &mut out[start..]);
+    put32(rewritten as u32, front, out);
+    start + rewritten
 }
 
 // Writes the module with PATT's data anew to the front of an output that has room for it, and answers its length.
-fn write_module(m: &[u8], chunk: Place, patterns: u16, tracks: u16, out: &mut [u8]) -> usize
+fn write_module(m: &[u8], chunk: ChunkSpan, patterns: u16, tracks: u16, out: &mut [u8]) -> usize
     requires { ⌜ PatternsIn (now m) chunk patterns tracks
-        × (length (replaced (now m) chunk (blocksAnew (now m) tracks patterns (firstBlock Pattern chunk))) ≤ length (now out)) ⌝ }
-    ensures { λ r. ⌜ (r ≡ length (replaced (now (m .entry)) chunk (blocksAnew (now (m .entry)) tracks patterns (firstBlock Pattern chunk))))
+        × (length (replaced (now m) chunk (rewrittenBlocks (now m) tracks patterns (firstBlock Pattern chunk))) ≤ length (now out)) ⌝ }
+    ensures { λ r. ⌜ (r ≡ length (replaced (now (m .entry)) chunk (rewrittenBlocks (now (m .entry)) tracks patterns (firstBlock Pattern chunk))))
         × (now (out .exit)
-        ≡ replaced (now (m .entry)) chunk (blocksAnew (now (m .entry)) tracks patterns (firstBlock Pattern chunk)) ++ drop r (now (out .entry))) ⌝ }
+        ≡ replaced (now (m .entry)) chunk (rewrittenBlocks (now (m .entry)) tracks patterns (firstBlock Pattern chunk)) ++ drop r (now (out .entry))) ⌝ }
 {
     let end = write_front(m, chunk, patterns, tracks, out);
     let behind = (chunk.at as usize) + 8 + (chunk.length as usize);
@@ -140,16 +140,16 @@ fn write_module(m: &[u8], chunk: Place, patterns: u16, tracks: u16, out: &mut [u
 
 // The length that an output with so much room needs: that of the module repacked. Where there is room for the module as it is, its own
 // length is answered, which is no less: so the streams need not be gone over to count.
-fn room_needed(m: &[u8], chunk: Place, patterns: u16, tracks: u16, room: usize) -> usize
+fn room_needed(m: &[u8], chunk: ChunkSpan, patterns: u16, tracks: u16, room: usize) -> usize
     requires { ⌜ PatternsIn (now m) chunk patterns tracks ⌝ }
-    ensures { λ r. ⌜ (length (replaced (now (m .entry)) chunk (blocksAnew (now (m .entry)) tracks patterns (firstBlock Pattern chunk))) ≤ r)
-        × (room < r → r ≡ length (replaced (now (m .entry)) chunk (blocksAnew (now (m .entry)) tracks patterns (firstBlock Pattern chunk)))) ⌝ }
+    ensures { λ r. ⌜ (length (replaced (now (m .entry)) chunk (rewrittenBlocks (now (m .entry)) tracks patterns (firstBlock Pattern chunk))) ≤ r)
+        × (room < r → r ≡ length (replaced (now (m .entry)) chunk (rewrittenBlocks (now (m .entry)) tracks patterns (firstBlock Pattern chunk)))) ⌝ }
 {
     if m.len() <= room {
         return m.len();
     }
-    let anew = data_length(m, chunk, patterns, tracks);
-    m.len() - (chunk.length as usize) + anew
+    let rewritten = data_length(m, chunk, patterns, tracks);
+    m.len() - (chunk.length as usize) + rewritten
 }
 
 // Repacks a module that is accepted: 17.
@@ -158,11 +158,11 @@ fn repack_opened(m: &[u8], l: Layout, out: &mut [u8]) -> LengthAnswer
     ensures { λ r. ⌜ (r ≡ answerOpened (repackedModule (now (m .entry))) (length (now (out .entry))) (Found l))
         × (now (out .exit) ≡ outputOpened (repackedModule (now (m .entry))) (now (out .entry)) (Found l)) ⌝ }
 {
-    let p = l.places;
+    let p = l.spans;
     let chunk = p.patt;
     let needed = room_needed(m, chunk, l.patterns, l.tracks, out.len());
     if out.len() < needed {
-        return refused(refuse(Cause::Room, needed));
+        return refused(refuse(Reason::Room, needed));
     }
     written(write_module(m, chunk, l.patterns, l.tracks, out))
 }

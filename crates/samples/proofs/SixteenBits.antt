@@ -11,7 +11,7 @@ use Rattle.refusal.specs.Numbers.{noRefusal}
 use Rattle.refusal.specs.declared.Outcome.{Outcome}
 use Rattle.numbers.specs.Numbers.{signedBy, signed16, unsigned16}
 use Rattle.blocks.specs.StoredFields.{sampleFrames}
-use Rattle.samples.specs.Shown.{frameBytes, dividedDown, frame16, frameOf, frameIn}
+use Rattle.samples.specs.Shown.{bytesPerFrame, dividedDown, frame16, frameOf, frameIn}
 use Rattle.samples.specs.declared.FrameAnswer.{FrameAnswer}
 
 -- 8 bits: times 256.
@@ -50,7 +50,7 @@ stored-again v h = go (ltb v 32768) refl
 
 -- A frame that is there is shown.
 pub frame-shown : (m : List ℕ) (at frame count bytes : ℕ) (outcome : Outcome) (z : ℤ) → outcome ≡ noRefusal
-    → count ≡ sampleFrames m at → frame < count → bytes ≡ frameBytes m at → z ≡ frame16 m bytes (at + 8 + frame * bytes)
+    → count ≡ sampleFrames m at → frame < count → bytes ≡ bytesPerFrame m at → z ≡ frame16 m bytes (at + 8 + frame * bytes)
     → _≡_ {A = FrameAnswer} (record { outcome = outcome; frame = z }) (frameIn m at frame)
 frame-shown m at frame count bytes outcome z none counted less width e =
     let shown : z ≡ frameOf m at frame = e ∙ ap (λ (b : ℕ). frame16 m b (at + 8 + frame * b)) width in

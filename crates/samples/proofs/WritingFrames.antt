@@ -12,7 +12,7 @@ use lib.ListN.{length, drop, set, length-append, length-drop}
 use lib.IntN.{ℤ}
 use Rattle.vocabulary.specs.Lists.{joined}
 use Rattle.numbers.specs.Numbers.{signed16, eachFrom, bytes16, unsigned16, putAt}
-use Rattle.numbers.proofs.PutBytes.{put-behind, put-sets}
+use Rattle.numbers.proofs.PutBytes.{put-after, put-sets}
 use Rattle.samples.proofs.SixteenBits.{stored-again}
 
 module _ (f : ℕ → ℤ) where
@@ -60,7 +60,7 @@ module _ (f : ℕ → ℤ) (n : ℕ) where
         same =
             stores
             ∙ ap (putAt (bytes16 v) (2 * i)) (h .same)
-            ∙ put-behind front (bytes16 v) (2 * i) (pairs-length f i 0) (h .rest) two
+            ∙ put-after front (bytes16 v) (2 * i) (pairs-length f i 0) (h .rest) two
             ∙ ap (λ (k : ℕ). front ++ (bytes16 k ++ drop 2 (h .rest))) same
             ∙ sym (pairs-more f i 0 (drop 2 (h .rest)))
             ∙ ap (λ (k : ℕ). pairs f 0 k ++ drop 2 (h .rest)) (sym (add-one i));

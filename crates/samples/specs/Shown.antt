@@ -7,13 +7,13 @@ use lib.Dec.{eqb, ltb}
 use lib.IntN.{ℤ, pos, negsuc, _*ℤ_}
 use Rattle.vocabulary.specs.Lists.{joined}
 use Rattle.refusal.specs.Numbers.{refusal, noRefusal, refusedOutcome}
-use Rattle.refusal.specs.declared.Cause.the-variants.{NotThere}
+use Rattle.refusal.specs.declared.Reason.the-variants.{NotThere}
 use Rattle.refusal.specs.declared.Refusal.{Refusal}
 use Rattle.refusal.specs.declared.LengthAnswer.{LengthAnswer}
 use Rattle.numbers.specs.Numbers.{byteAt, number16, number32, partOf, signedBy, signed16, eachFrom, bytes16, unsigned16}
 use Rattle.blocks.specs.StoredFields.{sampleFlags, sampleFrames}
 use Rattle.blocks.specs.Sizes.{widthOf}
-use Rattle.blocks.specs.declared.Thing.the-variants.{Sample}
+use Rattle.blocks.specs.declared.RecordKind.the-variants.{Sample}
 use Rattle.queries.specs.Finding.{found, answerFound, outputFound}
 use Rattle.queries.specs.declared.Found.{Found}
 use Rattle.queries.specs.declared.Found.the-variants.{At, Refused}
@@ -22,15 +22,15 @@ use Rattle.samples.specs.declared.FramesAnswer.{FramesAnswer}
 use Rattle.samples.specs.declared.FrameAnswer.{FrameAnswer}
 
 -- B5: the bytes of a frame, by the flags.
-abbrev pub frameBytes : List ℕ → ℕ → ℕ
-frameBytes m at = widthOf (sampleFlags m at)
+abbrev pub bytesPerFrame : List ℕ → ℕ → ℕ
+bytesPerFrame m at = widthOf (sampleFlags m at)
 
 abbrev pub noSample : Refusal → SampleAnswer
 noSample r = record { outcome = refusedOutcome r; width = 0; frames = 0 }
 
 -- Q11: the bits of a frame, and how many frames there are.
 abbrev pub shownSample : List ℕ → ℕ → SampleAnswer
-shownSample m at = record { outcome = noRefusal; width = 8 * frameBytes m at; frames = sampleFrames m at }
+shownSample m at = record { outcome = noRefusal; width = 8 * bytesPerFrame m at; frames = sampleFrames m at }
 
 abbrev pub sampleIf : List ℕ → Found → SampleAnswer
 sampleIf m (At b) = shownSample m (b .at)
@@ -45,7 +45,7 @@ noFrames r = record { outcome = refusedOutcome r; offset = 0; length = 0 }
 
 -- B5, Q12: the frames stand behind flags and number.
 abbrev pub shownFrames : List ℕ → ℕ → FramesAnswer
-shownFrames m at = record { outcome = noRefusal; offset = at + 8; length = sampleFrames m at * frameBytes m at }
+shownFrames m at = record { outcome = noRefusal; offset = at + 8; length = sampleFrames m at * bytesPerFrame m at }
 
 abbrev pub framesIf : List ℕ → Found → FramesAnswer
 framesIf m (At b) = shownFrames m (b .at)
@@ -73,7 +73,7 @@ frame16 m bytes at =
 
 -- Q13: a frame of the sample at a place, counted from 0.
 abbrev pub frameOf : List ℕ → ℕ → ℕ → ℤ
-frameOf m at frame = frame16 m (frameBytes m at) (at + 8 + frame * frameBytes m at)
+frameOf m at frame = frame16 m (bytesPerFrame m at) (at + 8 + frame * bytesPerFrame m at)
 
 abbrev pub noFrame : Refusal → FrameAnswer
 noFrame r = record { outcome = refusedOutcome r; frame = pos 0 }

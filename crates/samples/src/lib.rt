@@ -1,6 +1,6 @@
 // Samples: width and frames, the frames as the part of the module that they are, one frame and all frames at 16 bits. Each query
 // gives the module's own refusal, then 18, then 17.
-use blocks::Thing;
+use blocks::RecordKind;
 use blocks::stored::SAMPLE_BYTES;
 use blocks::stored::sample_flags;
 use blocks::stored::sample_frames;
@@ -12,9 +12,9 @@ use numbers::part;
 use numbers::signed;
 use queries::Found;
 use queries::find;
-use refusal::Cause;
 use refusal::LengthAnswer;
 use refusal::Outcome;
+use refusal::Reason;
 use refusal::Refusal;
 use refusal::Verdict;
 use refusal::outcome_of;
@@ -26,7 +26,7 @@ ghost use Prim.Native.Nat.{_*_, _/_, _<_, _+_, min};
 ghost use lib.ListN.{length};
 ghost use Rattle.refusal.specs.Lengths.{lengthIf, outputOf};
 ghost use Rattle.numbers.specs.Numbers.{SmallPlace, signed16};
-ghost use Rattle.samples.specs.Shown.{frameBytes, frame16, noSample, shownSample, sampleAnswer, noFrames, shownFrames};
+ghost use Rattle.samples.specs.Shown.{bytesPerFrame, frame16, noSample, shownSample, sampleAnswer, noFrames, shownFrames};
 ghost use Rattle.samples.specs.Shown.{framesAnswer, framesPart, noFrame, frameIn, frameAnswer, allFramesSize};
 ghost use Rattle.samples.specs.Shown.{allFrames, allFramesAnswer, allFramesOutput};
 ghost use Rattle.samples.specs.Steps.{framesFrom};
@@ -56,7 +56,7 @@ pub struct FrameAnswer {
 
 // How many bytes a frame of the sample at a place has: 1, 2 or 4 in an accepted module.
 fn frame_bytes(m: &[u8], at: usize) -> usize
-    ensures { λ r. ⌜ (r ≡ frameBytes (now (m .entry)) at) × (r < 5) ⌝ }
+    ensures { λ r. ⌜ (r ≡ bytesPerFrame (now (m .entry)) at) × (r < 5) ⌝ }
 {
     width(sample_flags(m, at))
 }
@@ -86,7 +86,7 @@ fn sample_at(m: &[u8], at: usize) -> SampleAnswer
 pub fn sample(m: &[u8], sample: usize) -> SampleAnswer
     ensures { λ r. ⌜ r ≡ sampleAnswer (now (m .entry)) sample ⌝ }
 {
-    match find(m, Thing::Sample, sample) {
+    match find(m, RecordKind::Sample, sample) {
         Found::At(b) => sample_at(m, b.at),
         Found::Refused(r) => no_sample(r),
     }
@@ -118,7 +118,7 @@ fn frames_at(m: &[u8], at: usize) -> FramesAnswer
 pub fn frames_place(m: &[u8], sample: usize) -> FramesAnswer
     ensures { λ r. ⌜ r ≡ framesAnswer (now (m .entry)) sample ⌝ }
 {
-    match find(m, Thing::Sample, sample) {
+    match find(m, RecordKind::Sample, sample) {
         Found::At(b) => frames_at(m, b.at),
         Found::Refused(r) => no_frames(r),
     }
@@ -170,7 +170,7 @@ fn frame_in(m: &[u8], at: usize, frame: usize) -> FrameAnswer
     ensures { λ r. ⌜ r ≡ frameIn (now (m .entry)) at frame ⌝ }
 {
     if (sample_frames(m, at) as usize) <= frame {
-        return no_frame(refuse(Cause::NotThere, 0));
+        return no_frame(refuse(Reason::NotThere, 0));
     }
     let bytes = frame_bytes(m, at);
     FrameAnswer {
@@ -183,7 +183,7 @@ fn frame_in(m: &[u8], at: usize, frame: usize) -> FrameAnswer
 pub fn frame(m: &[u8], sample: usize, frame: usize) -> FrameAnswer
     ensures { λ r. ⌜ r ≡ frameAnswer (now (m .entry)) sample frame ⌝ }
 {
-    match find(m, Thing::Sample, sample) {
+    match find(m, RecordKind::Sample, sample) {
         Found::At(b) => frame_in(m, b.at, frame),
         Found::Refused(r) => no_frame(r),
     }
@@ -212,7 +212,7 @@ fn all_frames_in(m: &[u8], at: usize, out: &mut [u8]) -> LengthAnswer
     let frames = sample_frames(m, at) as usize;
     let needed = 2 * frames;
     if out.len() < needed {
-        return refused(refuse(Cause::Room, needed));
+        return refused(refuse(Reason::Room, needed));
     }
     write_frames(m, frame_bytes(m, at), at, frames, &mut out[..needed]);
     written(needed)
@@ -223,7 +223,7 @@ pub fn all_frames(m: &[u8], sample: usize, out: &mut [u8]) -> LengthAnswer
     ensures { λ r. ⌜ (r ≡ allFramesAnswer (now (m .entry)) sample (length (now (out .entry))))
         × (now (out .exit) ≡ allFramesOutput (now (m .entry)) sample (now (out .entry))) ⌝ }
 {
-    match find(m, Thing::Sample, sample) {
+    match find(m, RecordKind::Sample, sample) {
         Found::At(b) => all_frames_in(m, b.at, out),
         Found::Refused(r) => refused(r),
     }

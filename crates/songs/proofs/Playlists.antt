@@ -6,7 +6,7 @@ use native.Mathlib.Omega.{arith}
 use lib.ListN.{length, take, drop}
 use lib.Seq.{length-take-le}
 use Rattle.refusal.specs.Numbers.{refusal}
-use Rattle.refusal.specs.declared.Cause.the-variants.{Room}
+use Rattle.refusal.specs.declared.Reason.the-variants.{Room}
 use Rattle.refusal.specs.Lengths.{refusedLength, writtenLength, lengthIf, outputOf}
 use Rattle.refusal.proofs.FilledOutputs.{lacking, enough}
 use Rattle.numbers.specs.Numbers.{byteAt, bytesFrom}

@@ -6,12 +6,12 @@ use mathlib.Core.Bool.{cond}
 use lib.ListN.{replicate}
 use lib.Dec.{ltb}
 use Rattle.refusal.specs.Numbers.{refusal, noRefusal, refusedOutcome}
-use Rattle.refusal.specs.declared.Cause.the-variants.{NotThere}
+use Rattle.refusal.specs.declared.Reason.the-variants.{NotThere}
 use Rattle.refusal.specs.declared.Refusal.{Refusal}
 use Rattle.refusal.specs.declared.LengthAnswer.{LengthAnswer}
 use Rattle.numbers.specs.Numbers.{bytesFrom}
 use Rattle.blocks.specs.StoredFields.{songName, songLength, songEntry}
-use Rattle.blocks.specs.declared.Thing.the-variants.{Song}
+use Rattle.blocks.specs.declared.RecordKind.the-variants.{Song}
 use Rattle.queries.specs.Finding.{found, answerFound, outputFound}
 use Rattle.queries.specs.declared.Found.{Found}
 use Rattle.queries.specs.declared.Found.the-variants.{At, Refused}

@@ -1,5 +1,5 @@
 // Songs: name and length, one entry of a playlist, and a whole playlist. Each query gives the module's own refusal, then 18, then 17.
-use blocks::Thing;
+use blocks::RecordKind;
 use blocks::stored::SONG_ENTRIES;
 use blocks::stored::song_entry;
 use blocks::stored::song_length;
@@ -7,9 +7,9 @@ use numbers::copy;
 use queries::Found;
 use queries::find;
 use queries::name44;
-use refusal::Cause;
 use refusal::LengthAnswer;
 use refusal::Outcome;
+use refusal::Reason;
 use refusal::Refusal;
 use refusal::Verdict;
 use refusal::outcome_of;
@@ -63,7 +63,7 @@ fn song_at(m: &[u8], at: usize) -> SongAnswer
 pub fn song(m: &[u8], song: usize) -> SongAnswer
     ensures { λ r. ⌜ r ≡ songAnswer (now (m .entry)) song ⌝ }
 {
-    match find(m, Thing::Song, song) {
+    match find(m, RecordKind::Song, song) {
         Found::At(b) => song_at(m, b.at),
         Found::Refused(r) => no_song(r),
     }
@@ -83,7 +83,7 @@ fn entry_in(m: &[u8], at: usize, entry: usize) -> EntryAnswer
     ensures { λ r. ⌜ r ≡ entryIn (now (m .entry)) at entry ⌝ }
 {
     if (song_length(m, at) as usize) <= entry {
-        return no_entry(refuse(Cause::NotThere, 0));
+        return no_entry(refuse(Reason::NotThere, 0));
     }
     EntryAnswer {
         outcome: outcome_of(Verdict::Accepted),
@@ -95,7 +95,7 @@ fn entry_in(m: &[u8], at: usize, entry: usize) -> EntryAnswer
 pub fn entry(m: &[u8], song: usize, entry: usize) -> EntryAnswer
     ensures { λ r. ⌜ r ≡ entryAnswer (now (m .entry)) song entry ⌝ }
 {
-    match find(m, Thing::Song, song) {
+    match find(m, RecordKind::Song, song) {
         Found::At(b) => entry_in(m, b.at, entry),
         Found::Refused(r) => no_entry(r),
     }
@@ -109,7 +109,7 @@ fn write_playlist(m: &[u8], at: usize, out: &mut [u8]) -> LengthAnswer
 {
     let needed = 2 * (song_length(m, at) as usize);
     if out.len() < needed {
-        return refused(refuse(Cause::Room, needed));
+        return refused(refuse(Reason::Room, needed));
     }
     copy(m, at + SONG_ENTRIES, &mut out[..needed]);
     written(needed)
@@ -120,7 +120,7 @@ pub fn playlist(m: &[u8], song: usize, out: &mut [u8]) -> LengthAnswer
     ensures { λ r. ⌜ (r ≡ playlistAnswer (now (m .entry)) song (length (now (out .entry))))
         × (now (out .exit) ≡ playlistOutput (now (m .entry)) song (now (out .entry))) ⌝ }
 {
-    match find(m, Thing::Song, song) {
+    match find(m, RecordKind::Song, song) {
         Found::At(b) => write_playlist(m, b.at, out),
         Found::Refused(r) => refused(r),
     }

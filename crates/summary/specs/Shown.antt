@@ -35,7 +35,7 @@ noName r = record { outcome = refusedOutcome r; name = replicate 44 0 }
 
 -- Q5: the 44 bytes of NAME's data, and 44 zeros where it is missing.
 abbrev pub nameOf : List ℕ → Layout → List ℕ
-nameOf m l = cond (l .places .name .present) (bytesFrom m (l .places .name .at + 8) 44) (replicate 44 0)
+nameOf m l = cond (l .spans .name .present) (bytesFrom m (l .spans .name .at + 8) 44) (replicate 44 0)
 
 abbrev pub shownName : List ℕ → Layout → NameAnswer
 shownName m l = record { outcome = noRefusal; name = nameOf m l }

@@ -72,7 +72,7 @@ fn no_name(r: Refusal) -> NameAnswer
 pub fn name_of(m: &[u8], l: Layout) -> [u8; 44]
     ensures { λ r. ⌜ r ≡ nameOf (now (m .entry)) l ⌝ }
 {
-    let p = l.places.name;
+    let p = l.spans.name;
     if !p.present {
         return [0; 44];
     }

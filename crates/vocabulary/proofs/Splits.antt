@@ -17,8 +17,8 @@ module _ {A : Type 0} where
   pub within-front : (x : A) (xs : List A) → Within (x ∷ xs) x
   within-front x xs = record { before = []; after = xs; splits = refl }
 
-  pub within-behind : {xs : List A} {x : A} (first : A) → Within xs x → Within (first ∷ xs) x
-  within-behind first w = record { before = first ∷ w .before; after = w .after; splits = ap (λ (l : List A). first ∷ l) (w .splits) }
+  pub within-after : {xs : List A} {x : A} (first : A) → Within xs x → Within (first ∷ xs) x
+  within-after first w = record { before = first ∷ w .before; after = w .after; splits = ap (λ (l : List A). first ∷ l) (w .splits) }
 
   -- Each, and every one.
   module _ {P : A → Type 0} where
@@ -27,7 +27,7 @@ module _ {A : Type 0} where
 
     pub every-within : (xs : List A) → ((x : A) → Within xs x → P x) → Every P xs
     every-within [] h = none
-    every-within (x ∷ xs) h = also (h x (within-front x xs)) (every-within xs (λ y w. h y (within-behind x w)))
+    every-within (x ∷ xs) h = also (h x (within-front x xs)) (every-within xs (λ y w. h y (within-after x w)))
 
   -- In the list that a function gives.
   pub within-mapped : {B : Type 0} (f : A → B) {xs : List A} {x : A} → Within xs x → Within (map f xs) (f x)

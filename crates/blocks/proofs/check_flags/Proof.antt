@@ -3,7 +3,7 @@ use borrow.Author.Tests.{eq-eqb, ne-eqb}
 use mathlib.Core.Path.{refl}
 use Rattle.blocks.specs.Sizes.{sizeOf}
 use Rattle.blocks.specs.Filling.{flagsRules}
-use Rattle.blocks.specs.declared.Kind.the-variants.{Sample}
+use Rattle.blocks.specs.declared.BlockKind.the-variants.{Sample}
 use Rattle.blocks.proofs.Passing.{Passing, passing-first, passing-last, rule-turn, rule-stopped}
 use Rattle.blocks.proofs.check_flags.Statement.{statement}
 use Rattle.blocks.proofs.check_flags.Tie as tie

@@ -12,7 +12,7 @@ returns c =
       counted .outcome-of .ensures,
       c .envelope-count .ensures,
       c .before .chunk-of .ensures,
-      c .before .before .thing-of .ensures,
+      c .before .before .record-kind .ensures,
     )
 
 returns-2 : tie.Need-returns-2

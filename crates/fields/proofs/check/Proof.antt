@@ -1,6 +1,6 @@
 use borrow.Author.Needs.{needs}
 use Rattle.refusal.specs.Numbers.{verdictNumbers}
-use Rattle.refusal.proofs.InOrder.{first-stopped, second-stopped, third-stopped, last-told}
+use Rattle.refusal.proofs.InOrder.{first-stopped, second-stopped, third-stopped, last-follows}
 use Rattle.refusal.proofs.Outcomes.{is-answer}
 use Rattle.fields.proofs.FieldOrder.{songPart, instrumentPart, volumePart, panningPart}
 use Rattle.fields.proofs.check.Statement.{statement}
@@ -47,7 +47,7 @@ returns-4 c =
     let enum-told2 = c .before .before .before .before .enum-told2 in
     let m = entry .args .m .now in
     let l = entry .args .l in
-    is-answer verdictNumbers (last-told (songPart m l) (instrumentPart m l) (volumePart m l) (panningPart m l)
+    is-answer verdictNumbers (last-follows (songPart m l) (instrumentPart m l) (volumePart m l) (panningPart m l)
     (check-blocks .ensures) (enum-told .given .1) (check-blocks2 .ensures) (enum-told2 .given .1)
     (c .before .before .before .check-envelopes .ensures) (c .before .enum-told3 .given .1) (c .check-envelopes2 .ensures))
 

@@ -1,5 +1,5 @@
 use borrow.Author.Needs.{needs}
-use Rattle.refusal.proofs.InOrder.{first-stopped, second-stopped, third-stopped, last-told}
+use Rattle.refusal.proofs.InOrder.{first-stopped, second-stopped, third-stopped, last-follows}
 use Rattle.blocks.specs.Filling.{blockRules}
 use Rattle.fields.specs.Fields.{fieldRules}
 use Rattle.module.specs.Loops.{loopRules}
@@ -47,7 +47,7 @@ returns-4 c =
     let enum-told2 = c .before .before .before .before .enum-told2 in
     let m = entry .args .m .now in
     let l = entry .args .l in
-    last-told (blockRules m l) (fieldRules m l) (loopRules m l) (streamRules m l) (check .ensures .0) (enum-told .given .1)
+    last-follows (blockRules m l) (fieldRules m l) (loopRules m l) (streamRules m l) (check .ensures .0) (enum-told .given .1)
     (check2 .ensures .0) (enum-told2 .given .1) (c .before .before .before .check-loops .ensures)
     (c .before .enum-told3 .given .1) (c .check-streams .ensures)
 

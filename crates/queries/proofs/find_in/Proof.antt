@@ -36,7 +36,7 @@ returns-3 c =
         ← count-of .ensures,
         lt-ltb _ _ (c .before .before .before .if2 .left),
         c .block-at .ensures .0,
-        c .before .before .kind-of .ensures,
+        c .before .before .block-kind .ensures,
         c .before .chunk-of .ensures,
       ),
       search needs,

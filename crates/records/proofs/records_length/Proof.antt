@@ -1,7 +1,7 @@
 use borrow.Author.Needs.{needs}
 use native.Mathlib.Omega.{arith}
-use Rattle.blocks.specs.declared.Thing.the-variants.{Instrument, Pattern, Sample, VolumeEnvelope, PanningEnvelope}
-use Rattle.records.proofs.Accepting.{songs-told, told, instruments-length, patterns-length, samples-length, volumes-length, pannings-length}
+use Rattle.blocks.specs.declared.RecordKind.the-variants.{Instrument, Pattern, Sample, VolumeEnvelope, PanningEnvelope}
+use Rattle.records.proofs.Accepting.{songs-reported, reported, instruments-length, patterns-length, samples-length, volumes-length, pannings-length}
 use Rattle.records.proofs.records_length.Statement.{statement}
 use Rattle.records.proofs.records_length.Tie as tie
 
@@ -12,7 +12,7 @@ returns : tie.Need-returns
 returns c =
     let entry = c .before .before .before .before .before .before in
     let chunk-of = c .before .chunk-of in (
-      songs-told (entry .args .m .now) (entry .args .l) (entry .pre) (entry .args .thing) (chunk-of .result)
+      songs-reported (entry .args .m .now) (entry .args .l) (entry .pre) (entry .args .kind) (chunk-of .result)
           (c .before .before .enum-told .given .1) (chunk-of .ensures),
       search needs,
     )
@@ -23,7 +23,7 @@ returns-2 c =
     let m = entry .args .m .now in
     let l = entry .args .l in
     let count-of = c .before .before .count-of in (
-      told m l (entry .args .thing) Instrument (count-of .result) 50 (c .enum-told2 .given .1) (instruments-length m l)
+      reported m l (entry .args .kind) Instrument (count-of .result) 50 (c .enum-told2 .given .1) (instruments-length m l)
           (count-of .ensures),
       omega (arith, count-of .ok),
     )
@@ -34,7 +34,7 @@ returns-3 c =
     let m = entry .args .m .now in
     let l = entry .args .l in
     let count-of = c .before .before .count-of in (
-      told m l (entry .args .thing) Pattern (count-of .result) 2 (c .enum-told3 .given .1) (patterns-length m l)
+      reported m l (entry .args .kind) Pattern (count-of .result) 2 (c .enum-told3 .given .1) (patterns-length m l)
           (count-of .ensures),
       omega (arith, count-of .ok),
     )
@@ -45,7 +45,7 @@ returns-4 c =
     let m = entry .args .m .now in
     let l = entry .args .l in
     let count-of = c .before .before .count-of in (
-      told m l (entry .args .thing) Sample (count-of .result) 6 (c .enum-told4 .given .1) (samples-length m l)
+      reported m l (entry .args .kind) Sample (count-of .result) 6 (c .enum-told4 .given .1) (samples-length m l)
           (count-of .ensures),
       omega (arith, count-of .ok),
     )
@@ -56,7 +56,7 @@ returns-5 c =
     let m = entry .args .m .now in
     let l = entry .args .l in
     let count-of = c .before .before .count-of in (
-      told m l (entry .args .thing) VolumeEnvelope (count-of .result) 136 (c .enum-told5 .given .1) (volumes-length m l)
+      reported m l (entry .args .kind) VolumeEnvelope (count-of .result) 136 (c .enum-told5 .given .1) (volumes-length m l)
           (count-of .ensures),
       omega (arith, count-of .ok),
     )
@@ -67,7 +67,7 @@ returns-6 c =
     let m = entry .args .m .now in
     let l = entry .args .l in
     let count-of = c .before .before .count-of in (
-      told m l (entry .args .thing) PanningEnvelope (count-of .result) 136 (c .enum-told6 .given .1) (pannings-length m l)
+      reported m l (entry .args .kind) PanningEnvelope (count-of .result) 136 (c .enum-told6 .given .1) (pannings-length m l)
           (count-of .ensures),
       omega (arith, count-of .ok),
     )

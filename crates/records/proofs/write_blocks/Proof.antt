@@ -3,19 +3,19 @@ use native.Mathlib.Omega.{arith}
 use Rattle.blocks.specs.Sizes.{sizeOf}
 use Rattle.blocks.proofs.Leading.{Leading, leading-first, leading-turn}
 use Rattle.records.specs.Records.{recordAt}
-use Rattle.records.specs.Steps.{ValuesFit}
+use Rattle.records.specs.Steps.{ValuesScale}
 use Rattle.records.proofs.Ahead.{AheadBlocks, blocks-first, blocks-length, blocks-inside, blocks-each, blocks-small}
 use Rattle.records.proofs.Ahead.{blocks-part, blocks-turn, blocks-last}
 use Rattle.records.proofs.write_blocks.Statement.{statement}
 use Rattle.records.proofs.write_blocks.Tie as tie
 
 abbrev Inv-loop : tie.InvT-loop
-Inv-loop m kind thing version start count out₀ at₀ to₀ left₀ out at to left =
-    AheadBlocks (recordAt m version thing) (sizeOf kind m) (ValuesFit m version thing) count start out₀ out at to left
-    × Leading (sizeOf kind m) count start left at
+Inv-loop m blocks kind version start count out₀ at₀ to₀ left₀ out at to left =
+    AheadBlocks (recordAt m version kind) (sizeOf blocks m) (ValuesScale m version kind) count start out₀ out at to left
+    × Leading (sizeOf blocks m) count start left at
 
 abbrev μ-loop : tie.MeasureT-loop
-μ-loop m kind thing version start count out₀ at₀ to₀ left₀ out at to left = left
+μ-loop m blocks kind version start count out₀ at₀ to₀ left₀ out at to left = left
 
 loop-holds : tie.Need-loop-holds Inv-loop μ-loop
 loop-holds c = (blocks-first (c .before .before .args .out .now) (c .before .before .pre .1) (c .before .before .pre .2), leading-first)

@@ -1,4 +1,4 @@
-use Rattle.blocks.specs.declared.Thing.the-variants.{Song, Instrument, Pattern, Sample, VolumeEnvelope, PanningEnvelope}
+use Rattle.blocks.specs.declared.RecordKind.the-variants.{Song, Instrument, Pattern, Sample, VolumeEnvelope, PanningEnvelope}
 use borrow.Author.Needs.{needs}
 use mathlib.Core.Path.{_∙_, sym}
 use Rattle.numbers.proofs.AllBytes.{slice-bytes}
@@ -16,7 +16,7 @@ write-stored-requires c κs =
     let m = entry .args .m .now in
     let version = entry .args .version in
     let place = entry .args .at in
-    room-of m version place (entry .args .thing) (c .before .before .enum-told .given .1)
+    room-of m version place (entry .args .kind) (c .before .before .enum-told .given .1)
     (record-length m version Song place ∙ sym (c .before .size .ensures .0)) (entry .pre .1)
 
 write-stored-requires-2 : tie.Need-write-stored-requires-2
@@ -25,7 +25,7 @@ write-stored-requires-2 c κs =
     let m = entry .args .m .now in
     let version = entry .args .version in
     let place = entry .args .at in
-    room-of m version place (entry .args .thing) (c .before .enum-told2 .given .1) (record-length m version Instrument place)
+    room-of m version place (entry .args .kind) (c .before .enum-told2 .given .1) (record-length m version Instrument place)
     (entry .pre .1)
 
 write-stored-requires-3 : tie.Need-write-stored-requires-3
@@ -34,7 +34,7 @@ write-stored-requires-3 c κs =
     let m = entry .args .m .now in
     let version = entry .args .version in
     let place = entry .args .at in
-    room-of m version place (entry .args .thing) (c .before .enum-told3 .given .1) (record-length m version Pattern place)
+    room-of m version place (entry .args .kind) (c .before .enum-told3 .given .1) (record-length m version Pattern place)
     (entry .pre .1)
 
 write-sample-requires : tie.Need-write-sample-requires
@@ -43,7 +43,7 @@ write-sample-requires c κs =
     let m = entry .args .m .now in
     let version = entry .args .version in
     let place = entry .args .at in
-    (room-of m version place (entry .args .thing) (c .before .enum-told4 .given .1) (record-length m version Sample place)
+    (room-of m version place (entry .args .kind) (c .before .enum-told4 .given .1) (record-length m version Sample place)
     (entry .pre .1))
 
 write-envelope-requires : tie.Need-write-envelope-requires
@@ -54,7 +54,7 @@ write-envelope-requires c κs =
     let place = entry .args .at in
     let enum-told5 = c .before .enum-told5 in (
       rw (enum-told5 .given .1) at (entry .pre .0),
-      room-of m version place (entry .args .thing) (enum-told5 .given .1) (record-length m version VolumeEnvelope place)
+      room-of m version place (entry .args .kind) (enum-told5 .given .1) (record-length m version VolumeEnvelope place)
           (entry .pre .1),
     )
 
@@ -66,7 +66,7 @@ write-envelope-requires-2 c κs =
     let place = entry .args .at in
     let enum-told6 = c .before .enum-told6 in (
       rw (enum-told6 .given .1) at (entry .pre .0),
-      room-of m version place (entry .args .thing) (enum-told6 .given .1) (record-length m version PanningEnvelope place)
+      room-of m version place (entry .args .kind) (enum-told6 .given .1) (record-length m version PanningEnvelope place)
           (entry .pre .1),
     )
 
@@ -77,7 +77,7 @@ returns c =
     let shared-slice-known = c .before .before .before .before .before .before .before .before .shared-slice-known in
     let variant = c .before .before .before .before .before .enum-told in
     let size = c .before .before .before .before .size in
-    song-written m (slice-bytes m (shared-slice-known .given)) (entry .args .version) (entry .args .at) (entry .args .thing)
+    song-written m (slice-bytes m (shared-slice-known .given)) (entry .args .version) (entry .args .at) (entry .args .kind)
     (entry .args .out .now) (variant .given .1) (size .ensures .0) (c .before .before .write-stored .ensures)
 
 returns-2 : tie.Need-returns-2
@@ -87,7 +87,7 @@ returns-2 c =
     let shared-slice-known = c .before .before .before .before .before .before .before .shared-slice-known in
     let enum-told2 = c .before .before .before .before .enum-told2 in
     instrument-written m (slice-bytes m (shared-slice-known .given)) (entry .args .version) (entry .args .at)
-    (entry .args .thing) (entry .args .out .now) (enum-told2 .given .1) (c .before .before .write-stored2 .ensures)
+    (entry .args .kind) (entry .args .out .now) (enum-told2 .given .1) (c .before .before .write-stored2 .ensures)
 
 returns-3 : tie.Need-returns-3
 returns-3 c =
@@ -96,7 +96,7 @@ returns-3 c =
     let shared-slice-known = c .before .before .before .before .before .before .before .shared-slice-known in
     let enum-told3 = c .before .before .before .before .enum-told3 in
     pattern-written m (slice-bytes m (shared-slice-known .given)) (entry .args .version) (entry .args .at)
-    (entry .args .thing) (entry .args .out .now) (enum-told3 .given .1) (c .before .before .write-stored3 .ensures)
+    (entry .args .kind) (entry .args .out .now) (enum-told3 .given .1) (c .before .before .write-stored3 .ensures)
 
 returns-4 : tie.Need-returns-4
 returns-4 c =
@@ -104,7 +104,7 @@ returns-4 c =
     let m = entry .args .m .now in
     let shared-slice-known = c .before .before .before .before .before .before .before .shared-slice-known in
     let enum-told4 = c .before .before .before .before .enum-told4 in
-    sample-written m (slice-bytes m (shared-slice-known .given)) (entry .args .version) (entry .args .at) (entry .args .thing)
+    sample-written m (slice-bytes m (shared-slice-known .given)) (entry .args .version) (entry .args .at) (entry .args .kind)
     (entry .args .out .now) (enum-told4 .given .1) (c .before .before .write-sample .ensures)
 
 returns-5 : tie.Need-returns-5
@@ -115,7 +115,7 @@ returns-5 c =
     let place = entry .args .at in
     let shared-slice-known = c .before .before .before .before .before .before .before .shared-slice-known in
     let enum-told5 = c .before .before .before .before .enum-told5 in
-    envelope-written m (slice-bytes m (shared-slice-known .given)) version place (entry .args .thing) (entry .args .out .now)
+    envelope-written m (slice-bytes m (shared-slice-known .given)) version place (entry .args .kind) (entry .args .out .now)
     (enum-told5 .given .1) (record-length m version VolumeEnvelope place) (c .before .before .write-envelope .ensures)
 
 returns-6 : tie.Need-returns-6
@@ -126,7 +126,7 @@ returns-6 c =
     let place = entry .args .at in
     let shared-slice-known = c .before .before .before .before .before .before .before .shared-slice-known in
     let enum-told6 = c .before .before .before .before .enum-told6 in
-    envelope-written m (slice-bytes m (shared-slice-known .given)) version place (entry .args .thing) (entry .args .out .now)
+    envelope-written m (slice-bytes m (shared-slice-known .given)) version place (entry .args .kind) (entry .args .out .now)
     (enum-told6 .given .1) (record-length m version PanningEnvelope place) (c .before .before .write-envelope2 .ensures)
 
 pub write-record-spec : {M : Type 1} → statement M

@@ -8,26 +8,26 @@ write-blocks-requires c κs =
     let entry = c .before .before .before .before .before .before .before in
     let m = entry .args .m .now in
     let l = entry .args .l in
-    let thing = entry .args .thing in
-    let kind-of = c .before .before .before .before .kind-of in
+    let kind = entry .args .kind in
+    let block-kind = c .before .before .before .before .block-kind in
     let chunk-of = c .before .before .before .chunk-of in
     let block-at = c .before .before .block-at in
     let count-of = c .before .count-of in (
       search needs,
-      records-ready m l thing _ _ _ _ (kind-of .ensures) (chunk-of .ensures) (block-at .ensures .0) (count-of .ensures)
+      records-ready m l kind _ _ _ _ (block-kind .ensures) (chunk-of .ensures) (block-at .ensures .0) (count-of .ensures)
           (entry .pre .0),
-      rw (records-same m l thing _ _ _ _ (kind-of .ensures) (chunk-of .ensures) (block-at .ensures .0) (count-of .ensures))
+      rw (records-same m l kind _ _ _ _ (block-kind .ensures) (chunk-of .ensures) (block-at .ensures .0) (count-of .ensures))
           (entry .pre .1),
     )
 
 returns : tie.Need-returns
 returns c =
     let entry = c .before .before .before .before .before .before .before .before .before .before in
-    let kind-of = c .before .before .before .before .before .before .before .kind-of in
+    let block-kind = c .before .before .before .before .before .before .before .block-kind in
     let chunk-of = c .before .before .before .before .before .before .chunk-of in
     let block-at = c .before .before .before .before .before .block-at in
     let count-of = c .before .before .before .before .count-of in
-    records-written (entry .args .m .now) (entry .args .l) (entry .args .thing) _ _ _ _ (kind-of .ensures) (chunk-of .ensures)
+    records-written (entry .args .m .now) (entry .args .l) (entry .args .kind) _ _ _ _ (block-kind .ensures) (chunk-of .ensures)
     (block-at .ensures .0) (count-of .ensures) (entry .args .out .now) (c .before .before .write-blocks .ensures)
 
 pub write-records-spec : {M : Type 1} → statement M

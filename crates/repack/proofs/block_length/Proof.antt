@@ -1,6 +1,6 @@
 use borrow.Author.Needs.{needs}
 use native.Mathlib.Omega.{arith}
-use Rattle.repack.proofs.Anew.{block-size}
+use Rattle.repack.proofs.Rewritten.{block-size}
 use Rattle.repack.proofs.block_length.Statement.{statement}
 use Rattle.repack.proofs.block_length.Tie as tie
 

@@ -2,7 +2,7 @@ use borrow.Author.Needs.{needs}
 use native.Mathlib.Omega.{arith}
 use mathlib.Core.Path.{refl}
 use Rattle.blocks.specs.Sizes.{sizeOf, placeAfter}
-use Rattle.blocks.specs.declared.Kind.the-variants.{Pattern}
+use Rattle.blocks.specs.declared.BlockKind.the-variants.{Pattern}
 use Rattle.repack.proofs.PassingPatterns.{Counting, pattern-ready, patterns-from, counting-first, counting-turn}
 use Rattle.repack.proofs.PassingPatterns.{counting-small, counting-last, data-shorter}
 use Rattle.repack.proofs.data_length.Statement.{statement}

@@ -2,10 +2,10 @@ use borrow.Author.Needs.{needs}
 use mathlib.Core.Path.{refl}
 use native.Mathlib.Omega.{arith}
 use Rattle.blocks.specs.Sizes.{firstBlock}
-use Rattle.blocks.specs.declared.Kind.the-variants.{Pattern}
+use Rattle.blocks.specs.declared.BlockKind.the-variants.{Pattern}
 use Rattle.repack.proofs.PassingPatterns.{data-shorter}
 use Rattle.repack.proofs.WritingModule.{room-enough, room-counted}
-use Rattle.repack.specs.Steps.{blocksAnew}
+use Rattle.repack.specs.Steps.{rewrittenBlocks}
 use Rattle.repack.proofs.room_needed.Statement.{statement}
 use Rattle.repack.proofs.room_needed.Tie as tie
 
@@ -14,7 +14,7 @@ returns c =
     let entry = c .before .before in
     let m = entry .args .m .now in
     let chunk = entry .args .chunk in
-    room-enough m chunk (blocksAnew m (entry .args .tracks) (entry .args .patterns) (firstBlock Pattern chunk))
+    room-enough m chunk (rewrittenBlocks m (entry .args .tracks) (entry .args .patterns) (firstBlock Pattern chunk))
     (entry .pre .inside) (data-shorter chunk (entry .pre) refl) (c .if1 .taken)
 
 add-result : tie.Need-add-result
@@ -28,7 +28,7 @@ returns-2 c =
     let entry = c .before .before .before .before in
     let m = entry .args .m .now in
     let chunk = entry .args .chunk in
-    room-counted m chunk (blocksAnew m (entry .args .tracks) (entry .args .patterns) (firstBlock Pattern chunk))
+    room-counted m chunk (rewrittenBlocks m (entry .args .tracks) (entry .args .patterns) (firstBlock Pattern chunk))
     (entry .pre .inside) (c .before .data-length .ensures)
 
 pub room-needed-spec : {M : Type 1} → statement M

@@ -3,8 +3,8 @@ use native.Mathlib.Omega.{arith}
 use lib.ListN.{length}
 use Prim.Native.Nat.{_≤_}
 use Rattle.blocks.specs.Sizes.{sizeOf, placeAfter}
-use Rattle.blocks.specs.declared.Kind.the-variants.{Pattern}
-use Rattle.repack.specs.Steps.{blocksAnew}
+use Rattle.blocks.specs.declared.BlockKind.the-variants.{Pattern}
+use Rattle.repack.specs.Steps.{rewrittenBlocks}
 use Rattle.repack.proofs.PassingPatterns.{WritingBlocks, pattern-ready, patterns-from, blocks-first, blocks-enough}
 use Rattle.repack.proofs.PassingPatterns.{blocks-length, blocks-inside, blocks-room, blocks-part, blocks-small}
 use Rattle.repack.proofs.PassingPatterns.{blocks-turn, blocks-last}
@@ -14,7 +14,7 @@ use Rattle.repack.proofs.write_data.Tie as tie
 abbrev Inv-loop : tie.InvT-loop
 Inv-loop m patterns tracks out₀ at₀ to₀ left₀ out at to left =
     WritingBlocks m tracks left₀ at₀ (placeAfter (sizeOf Pattern m) left₀ at₀) out₀ out at to left
-    × (length (blocksAnew m tracks left₀ at₀) ≤ length out₀)
+    × (length (rewrittenBlocks m tracks left₀ at₀) ≤ length out₀)
 
 abbrev μ-loop : tie.MeasureT-loop
 μ-loop m patterns tracks out₀ at₀ to₀ left₀ out at to left = left

@@ -1,7 +1,7 @@
 use borrow.Author.Needs.{needs}
 use Rattle.blocks.specs.Sizes.{firstBlock}
-use Rattle.blocks.specs.declared.Kind.the-variants.{Pattern}
-use Rattle.repack.specs.Steps.{blocksAnew}
+use Rattle.blocks.specs.declared.BlockKind.the-variants.{Pattern}
+use Rattle.repack.specs.Steps.{rewrittenBlocks}
 use native.Mathlib.Omega.{arith}
 use mathlib.Core.Path.{refl, sym, _∙_}
 use Rattle.repack.proofs.PassingPatterns.{data-shorter}
@@ -14,14 +14,14 @@ slice-aggregate-copy c =
     let entry = c .before .before .before .before in
     let m = entry .args .m .now in
     let chunk = entry .args .chunk in
-    sym (front-size m chunk (blocksAnew m (entry .args .tracks) (entry .args .patterns) (firstBlock Pattern chunk)) (entry .pre .0 .inside))
+    sym (front-size m chunk (rewrittenBlocks m (entry .args .tracks) (entry .args .patterns) (firstBlock Pattern chunk)) (entry .pre .0 .inside))
 
 copy-requires : tie.Need-copy-requires
 copy-requires c κs =
     let entry = c .before .before .before .before .before in
     let m = entry .args .m .now in
     let chunk = entry .args .chunk in
-    let blocks = blocksAnew m (entry .args .tracks) (entry .args .patterns) (firstBlock Pattern chunk) in
+    let blocks = rewrittenBlocks m (entry .args .tracks) (entry .args .patterns) (firstBlock Pattern chunk) in
     let room = start-room m chunk blocks (entry .pre .0 .inside) (entry .args .out .now) (entry .pre .1) in
     omega (arith, front-size m chunk blocks (entry .pre .0 .inside))
 
@@ -30,7 +30,7 @@ sub-write-data c =
     let entry = c .before .before .before .before .before .before .before .before in
     let m = entry .args .m .now in
     let chunk = entry .args .chunk in
-    let room = start-room m chunk (blocksAnew m (entry .args .tracks) (entry .args .patterns) (firstBlock Pattern chunk))
+    let room = start-room m chunk (rewrittenBlocks m (entry .args .tracks) (entry .args .patterns) (firstBlock Pattern chunk))
     (entry .pre .0 .inside) (entry .args .out .now) (entry .pre .1) in
     search needs
 
@@ -43,7 +43,7 @@ write-data-requires c κs =
     let m = entry .args .m .now in
     let chunk = entry .args .chunk in (
       entry .pre .0,
-      let room = start-room m chunk (blocksAnew m (entry .args .tracks) (entry .args .patterns) (firstBlock Pattern chunk))
+      let room = start-room m chunk (rewrittenBlocks m (entry .args .tracks) (entry .args .patterns) (firstBlock Pattern chunk))
           (entry .pre .0 .inside) (entry .args .out .now) (entry .pre .1) in
           search needs,
     )
@@ -60,7 +60,7 @@ add-result c =
     let m = entry .args .m .now in
     let chunk = entry .args .chunk in
     let write-data = c .before .before .before .before .before .before .write-data in
-    let room = start-room m chunk (blocksAnew m (entry .args .tracks) (entry .args .patterns) (firstBlock Pattern chunk))
+    let room = start-room m chunk (rewrittenBlocks m (entry .args .tracks) (entry .args .patterns) (firstBlock Pattern chunk))
     (entry .pre .0 .inside) (entry .args .out .now) (entry .pre .1) in
     omega (arith, write-data .ensures .0)
 
@@ -77,7 +77,7 @@ returns c =
     let chunk = entry .args .chunk in
     let copy = c .before .before .before .before .before .before .before .before .before .before .copy in
     let write-data = c .before .before .before .before .before .before .write-data in
-    front-written m chunk (blocksAnew m (entry .args .tracks) (entry .args .patterns) (firstBlock Pattern chunk))
+    front-written m chunk (rewrittenBlocks m (entry .args .tracks) (entry .args .patterns) (firstBlock Pattern chunk))
     (entry .pre .0 .inside) (entry .args .out .now) (entry .pre .1) (copy .ensures .1) (write-data .ensures)
     (c .before .before .put32 .ensures)
 

@@ -1,8 +1,8 @@
 use borrow.Author.Needs.{needs}
 use Rattle.blocks.specs.Sizes.{firstBlock}
-use Rattle.blocks.specs.declared.Kind.the-variants.{Pattern}
+use Rattle.blocks.specs.declared.BlockKind.the-variants.{Pattern}
 use Rattle.repack.proofs.WritingModule.{front-room, rest-length, rest-room, module-written}
-use Rattle.repack.specs.Steps.{blocksAnew}
+use Rattle.repack.specs.Steps.{rewrittenBlocks}
 use native.Mathlib.Omega.{arith}
 use Rattle.repack.proofs.WritingModule.{front-room, rest-length, module-written}
 use Rattle.repack.proofs.write_module.Statement.{statement}
@@ -14,7 +14,7 @@ write-front-requires c κs =
     let m = entry .args .m .now in
     let chunk = entry .args .chunk in (
       entry .pre .0,
-      front-room m chunk (blocksAnew m (entry .args .tracks) (entry .args .patterns) (firstBlock Pattern chunk))
+      front-room m chunk (rewrittenBlocks m (entry .args .tracks) (entry .args .patterns) (firstBlock Pattern chunk))
           (entry .pre .0 .inside) (entry .pre .1),
     )
 
@@ -24,7 +24,7 @@ sub-copy-2 c =
     let m = entry .args .m .now in
     let chunk = entry .args .chunk in
     let write-front = c .before .before .before .before .before .write-front in
-    let room = rest-room m chunk (blocksAnew m (entry .args .tracks) (entry .args .patterns) (firstBlock Pattern chunk))
+    let room = rest-room m chunk (rewrittenBlocks m (entry .args .tracks) (entry .args .patterns) (firstBlock Pattern chunk))
     (entry .pre .0 .inside) (entry .args .out .now) (entry .pre .1) (write-front .ensures) in
     search needs
 
@@ -36,7 +36,7 @@ copy-requires c κs =
     let entry = c .before .before .before .before .before .before .before .before .before .before in
     let m = entry .args .m .now in
     let chunk = entry .args .chunk in
-    let blocks = blocksAnew m (entry .args .tracks) (entry .args .patterns) (firstBlock Pattern chunk) in
+    let blocks = rewrittenBlocks m (entry .args .tracks) (entry .args .patterns) (firstBlock Pattern chunk) in
     let out = entry .args .out .now in
     let write-front = c .before .before .before .before .before .before .write-front in
     let room = rest-room m chunk blocks (entry .pre .0 .inside) out (entry .pre .1) (write-front .ensures) in
@@ -48,7 +48,7 @@ add-result c =
     let m = entry .args .m .now in
     let chunk = entry .args .chunk in
     let write-front = c .before .before .before .before .before .before .before .before .before .write-front in
-    let room = rest-room m chunk (blocksAnew m (entry .args .tracks) (entry .args .patterns) (firstBlock Pattern chunk))
+    let room = rest-room m chunk (rewrittenBlocks m (entry .args .tracks) (entry .args .patterns) (firstBlock Pattern chunk))
     (entry .pre .0 .inside) (entry .args .out .now) (entry .pre .1) (write-front .ensures) in
     search needs
 
@@ -58,7 +58,7 @@ returns c =
     let m = entry .args .m .now in
     let chunk = entry .args .chunk in
     let write-front = c .before .before .before .before .before .before .before .before .before .write-front in
-    module-written m chunk (blocksAnew m (entry .args .tracks) (entry .args .patterns) (firstBlock Pattern chunk))
+    module-written m chunk (rewrittenBlocks m (entry .args .tracks) (entry .args .patterns) (firstBlock Pattern chunk))
     (entry .pre .0 .inside) (entry .args .out .now) (entry .pre .1) (write-front .ensures)
     (c .before .before .copy .ensures .1)
 

@@ -1,5 +1,5 @@
 use borrow.Author.Needs.{needs}
-use Rattle.fields.proofs.FieldOrder.{head-stopped, points-stopped, values-told}
+use Rattle.fields.proofs.FieldOrder.{head-stopped, points-stopped, values-follow}
 use Rattle.fields.proofs.envelopes.check_envelope.Statement.{statement}
 use Rattle.fields.proofs.envelopes.check_envelope.Tie as tie
 
@@ -27,7 +27,7 @@ returns-3 c =
     let enum-told = c .before .before .before .before .before .before .enum-told in
     let envelope-sections = c .before .before .before .before .before .envelope-sections in
     let envelope-flags = c .before .before .before .before .envelope-flags in
-    values-told (entry .args .m .now) (entry .args .instruments) (entry .args .signed) (entry .args .at) (check-head .ensures)
+    values-follow (entry .args .m .now) (entry .args .instruments) (entry .args .signed) (entry .args .at) (check-head .ensures)
     (enum-told .given .1) (envelope-flags .ensures) (envelope-sections .ensures)
     (c .before .before .before .check-points .ensures) (c .before .enum-told2 .given .1) (c .check-values .ensures)
 

@@ -5,13 +5,14 @@ use borrow.Author.Needs.{needs}
 use native.Mathlib.Omega.{arith}
 use Rattle.refusal.specs.declared.Verdict.the-variants.{Refused}
 use Rattle.packed_rows.specs.Stream.{reading, readStream}
-use Rattle.packed_rows.specs.Answers.{verdictOf}
+use Rattle.packed_rows.specs.Answers.{verdictOfReading}
 use Rattle.packed_rows.proofs.Checking.{check-broken, check-row-end, check-entry, check-over, check-end, front-inside}
 use Rattle.packed_rows.proofs.reader.check_stream.Statement.{statement}
 use Rattle.packed_rows.proofs.reader.check_stream.Tie as tie
 
 abbrev Inv-loop : tie.InvT-loop
-Inv-loop s rows tracks lengths left₀ at₀ left at = (at ≤ length s) × (verdictOf (reading tracks left at (drop at s)) ≡ verdictOf (readStream rows tracks s))
+Inv-loop s rows tracks lengths left₀ at₀ left at =
+    (at ≤ length s) × (verdictOfReading (reading tracks left at (drop at s)) ≡ verdictOfReading (readStream rows tracks s))
 
 abbrev μ-loop : tie.MeasureT-loop
 μ-loop s rows tracks lengths left₀ at₀ left at = length s - at

@@ -2,13 +2,13 @@ use Prim.Native.Nat.{suc, _-_, _*_}
 use mathlib.Core.Path.{_≡_}
 use borrow.Author.Needs.{needs}
 use native.Mathlib.Omega.{arith}
-use Rattle.packed_rows.specs.Steps.{RowsRead}
+use Rattle.packed_rows.specs.Steps.{MoreRows}
 use Rattle.packed_rows.proofs.SkippingRows.{SkippingRows, skips-first, skips-ahead, skips-turn, skips-last}
 use Rattle.packed_rows.proofs.reader.skip_rows.Statement.{statement}
 use Rattle.packed_rows.proofs.reader.skip_rows.Tie as tie
 
 abbrev Inv-loop : tie.InvT-loop
-Inv-loop s n at₀ left₀ at left = (all : RowsRead s n) → SkippingRows s n all at left
+Inv-loop s n at₀ left₀ at left = (all : MoreRows s n) → SkippingRows s n all at left
 
 abbrev μ-loop : tie.MeasureT-loop
 μ-loop s n at₀ left₀ at left = left

@@ -1,0 +1,9 @@
+pub mod PackedBytes
+pub mod PackedAgain
+pub mod RewrittenBlock
+pub mod RewrittenModule
+pub mod RewrittenAlike
+pub mod RewrittenAgain
+pub mod RewrittenSame
+pub mod Opening
+pub mod Theorems

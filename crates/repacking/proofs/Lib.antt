@@ -1,9 +1,0 @@
-pub mod PackedBytes
-pub mod PackedAgain
-pub mod BlockAnew
-pub mod ModuleAnew
-pub mod AlikeAnew
-pub mod AgainAnew
-pub mod SameAnew
-pub mod Opening
-pub mod Theorems
