@@ -1,5 +1,5 @@
--- Theorem 8 put together: the check accepts where the outline is found, which is the rules of the chunks, and where the rules for the
--- content all hold, which is the rest of the rules.
+-- Theorem 8, assembled: the check accepts exactly if the outline is found, which is the rules of the chunks, and all rules for the content
+-- hold, which is the rest of the rules.
 use Prim.Native.Nat.{ℕ}
 use mathlib.Core.Path.{_≡_, refl, ap}
 use mathlib.Core.Logic.{_↔_}
@@ -21,7 +21,7 @@ use Rattle.acceptance.proofs.Recorded.{There}
 use Rattle.acceptance.proofs.ChunkHalf.{Outlined, outline-chunks, chunks-outline}
 use Rattle.acceptance.proofs.ContentHalf.{content-exactly}
 
--- The verdict behind a layout that was found.
+-- The verdict after a layout that was found.
 pub verdict-found : (l : Layout) (v : Verdict) → verdictOfOutline (outlineIf v (Found l)) ≡ v
 verdict-found l Accepted = refl
 verdict-found l (VerdictRefused r) = refl
@@ -56,7 +56,7 @@ module _ (m : List ℕ) (bytes : Bytes m) where
       go (Found l) h e = rules-follow l (outline-chunks m l bytes h) (rw (verdict-found l (firstBroken (contentRules m l))) at e)
       go (Refused r) h e = let z : _≡_ {A = ℕ} 0 1 = cc in absurd (omega arith)
 
-  -- A module of which the rules hold opens, with a layout of its chunks.
+  -- A module for which the rules hold opens, with a layout of its chunks.
   pub rules-open : (r : Rules m) → (l : Layout) × (opened m ≡ Found l) × LayoutOf m (r .header) (r .chunks) l
   rules-open r =
       let found = chunks-outline m (r .header) (r .chunks) (r .chunkRules)

@@ -1,5 +1,5 @@
--- The fields of songs, instruments, samples and envelopes. The check reads them in the module, from the block's place on, the rules
--- in the block; and the check's tests say what the rules say in plain words.
+-- The fields of songs, instruments, samples and envelopes. The check reads them in the module, from the block's place on; the rules read
+-- them in the block. The check's tests are equivalent to what the rules state.
 use Prim.Native.Nat.{ℕ, _+_, _-_, _*_, _/_, _%_, _≤_, _<_}
 use mathlib.Core.Path.{_≡_, refl, sym, subst}
 use mathlib.Core.Logic.{_↔_, _⊎_, inl, inr, Iff·rfl}
@@ -112,7 +112,8 @@ module _ {m block : List ℕ} {at : ℕ} (p : PartAt m at block) (s : Sized Inst
         number16-at p 48 (omega (arith, instrument-size)),
       ) Iff·rfl
 
-  -- The samples are as many as are counted, and their frames are those of the blocks.
+  -- The rules and the loop rules of an instrument hold in the module exactly if they hold for its block. The count of samples is that of
+  -- their blocks, and the frames of each sample are those of its block.
   pub instrument-holds : (chunk : ChunkSpan) (samples : List (List ℕ))
       → ((sample : ℕ) → 1 ≤ sample → sample ≤ length samples → framesOfSample m chunk sample ≡ number32 (getD samples (sample - 1) []) 4)
       → (AllHold (instrumentRules m (length samples) at) × AllHold (instrumentLoopRules m chunk at)) ↔ InstrumentRules samples block

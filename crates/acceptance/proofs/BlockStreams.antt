@@ -1,5 +1,5 @@
--- The packed streams of patterns: the check reads a stream in the module, the rules in the pattern's block; and the check accepts
--- a stream exactly when it is that of some rows of sound entries (theorem 6 of `packed_rows`).
+-- The packed streams of patterns. The check reads a stream in the module, the rules read it in the pattern's block. The check accepts a
+-- stream exactly if it is the stream of some rows of sound entries (theorem 6 of `packed_rows`).
 use Prim.Native.Nat.{ℕ, _+_, _%_, _≤_}
 use mathlib.Core.Path.{_≡_, refl, sym, ap, _∙_}
 use mathlib.Core.Logic.{_↔_, Iff·rfl}
@@ -37,7 +37,7 @@ use Rattle.acceptance.proofs.Cutting.{Sized}
 abbrev pub TracksFit : ℕ → Type 0
 TracksFit tracks = (4 ≤ tracks) × (tracks ≤ 254) × (tracks % 2 ≡ 0)
 
--- What the check of a stream says.
+-- What the check of a stream answers.
 pub accepted-says : (v : Verdict) → (accepted v ≡ true) ↔ (v ≡ Accepted)
 accepted-says Accepted = (λ e. refl, λ e. refl)
 accepted-says (Refused r) = (λ e. false-never e, λ e. let z : _≡_ {A = ℕ} 0 1 = cc in absurd (omega arith))
@@ -53,7 +53,7 @@ module _ (stream : List ℕ) (rows tracks : ℕ) where
   stream-read : checkAnswer stream rows tracks ≡ Accepted → (entries : List (List Entry)) × SoundStream rows tracks stream entries
   stream-read e = accepts-exactly rows tracks stream (accepted-sizes e) .0 e
 
-  -- The cells that an accepted stream holds.
+  -- An accepted stream is accepted as the cells that are read from it.
   pub holds : checkAnswer stream rows tracks ≡ Accepted → AcceptedAs rows tracks stream (cellsRead rows tracks stream)
   holds e =
       let entries : List (List Entry) = stream-read e .0 in
@@ -67,7 +67,7 @@ module _ (stream : List ℕ) (rows tracks : ℕ) where
       (rw (le-leb rows 65535 h, le-leb 4 tracks (t .0), le-leb tracks 254 (t .1), eq-eqb (tracks % 2) 0 (t .2))) .1
       (entries, s)
 
--- A 2-byte number of bytes.
+-- The bound of a 2-byte number.
 number16-bound : (m : List ℕ) → Bytes m → (at : ℕ) → number16 m at ≤ 65535
 unfolding number16
 number16-bound m b at = omega (arith, b at, b (at + 1))
@@ -111,7 +111,7 @@ pattern-holds {m} {block} {at} p s tracks e = record {
         stream-read stream (number16 block 0) tracks
         (stream-says p (omega arith) stream (part-there block 6 size (omega arith)) (sym long) tracks .0 e)
 
--- A stream that is sound is accepted: that of the packed bytes.
+-- The packed bytes are accepted if they are a sound stream.
 module _ {m block : List ℕ} {at : ℕ} (p : PartAt m at block) (s : Sized Pattern block) (below : Bytes m) (tracks : ℕ) (t : TracksFit tracks) where
   abbrev pub Sound : List (List Entry) → Type 0
   Sound entries = SoundStream (number16 block 0) tracks (partOf block 6 (number32 block 2)) entries

@@ -1,5 +1,5 @@
--- Where the outline of a module is found: its chunks, those with blocks and how many they have, as the rules count them and as the check
--- does; and where the blocks fill their chunks, each block of the rules at the place where the check looks for it (for theorem 10).
+-- A module whose outline is found: its chunks, those with blocks and their number of blocks, as the rules count them and as the check does.
+-- If the blocks fill their chunks, each block of the rules is at the place that the check computes for it (for theorem 10).
 use Prim.Native.Nat.{ℕ, _+_, _≤_}
 use mathlib.Core.Path.{_≡_, refl, sym, subst}
 use mathlib.Core.List.{List}
@@ -34,7 +34,7 @@ first-is Sample span = refl
 first-is VolumeEnvelope span = refl
 first-is PanningEnvelope span = refl
 
--- The size of a block, as the rules have it and as the check computes it.
+-- The size of a block, as the rules state it and as the check computes it.
 pub sized-of : (kind : RecordKind) (block : List ℕ) → SizeFits kind block → Sized (blockKindOf kind) block
 unfolding sizeOf
 sized-of Song block s = s
@@ -64,7 +64,7 @@ module _ {m : List ℕ} {l : Layout} (o : Outlined m l) where
   pub counts : CountsOf l (all-chunks .info)
   counts = o .layout .counts (all-chunks .info) (all-chunks .infoThere)
 
-  -- The chunk of a thing, and how many blocks it has.
+  -- The chunk of a record kind, and the number of its blocks.
   pub found-of : (kind : RecordKind) → Found m (o .chunks) (lettersOf kind) (chunkOf l kind)
   found-of Song = o .layout .song
   found-of Instrument = o .layout .inst
@@ -92,19 +92,19 @@ module _ {m : List ℕ} {l : Layout} (o : Outlined m l) where
     abbrev pub blocks-at : BlocksAt all-chunks kind (chunkOf l kind .at)
     blocks-at = record { chunk = there .0; among = there .1; there = sym (found-of kind .begins (there .0) (there .1)) }
 
-    -- Blocks of which the rules say that the chunk is made are those that the check counts.
+    -- The blocks of a chunk by the rules are those that the check counts.
     pub blocks-there : (list : List (List ℕ)) → MadeOf kind (all-chunks .info) (there .0) list → BlocksThere kind (there .0) list
     blocks-there list b =
         filled-blocks span-of (blockKindOf kind) (frontOf kind) (countOf m l kind) list
         (counted (sym (count-is kind span-of (b .filled .fronts))) (b .filled)) (every-of (sized-of kind) (b .sizes))
 
-  -- A block of a thing begins at this place, where the module has its bytes.
+  -- A block of this record kind begins at this place, and the module has its bytes there.
   pub record Begins (kind : RecordKind) (at : ℕ) : Type 0 where
     pub here : BlockBegins all-chunks kind at
     pub part : PartAt m at (here .block)
     pub sized : Sized (blockKindOf kind) (here .block)
 
-  -- Where the blocks fill their chunks.
+  -- If the blocks fill their chunks.
   module _ (fill : BlocksHold m l) where
     sizes-of : (kind : RecordKind) {chunk : List ℕ} {list : List (List ℕ)} → BlocksThere kind chunk list → Every (SizeFits kind) list
     unfolding sizeOf

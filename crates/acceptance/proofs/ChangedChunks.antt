@@ -1,6 +1,6 @@
--- Chunks that are changed one by one, each in a way that keeps its letters and leaves it whole, where only chunks with certain identifiers
--- change: a chunk is among the changed ones exactly where it was before, the rules that go by letters stay, and so M2 to M9 hold of the
--- changed module. Its bytes and its length, where one chunk changes, are said by that chunk.
+-- Chunks that are changed one by one. A change keeps the letters of a chunk, leaves it whole, and affects only chunks with certain
+-- identifiers. So a chunk is among the changed ones exactly if it was among the chunks before, the rules that depend on letters still hold,
+-- and M2 to M9 hold for the changed module. If one chunk changes, the bytes and the length of the module follow from that chunk.
 use Prim.Native.Nat.{ℕ, _+_, _≤_}
 use mathlib.Core.Path.{_≡_, refl, sym, ap, subst, _∙_}
 use mathlib.Core.List.{List, [], _∷_, _++_, map, append-assoc, append-nil}
@@ -31,8 +31,7 @@ use Rattle.acceptance.proofs.Chunking.{read-whole}
 use Rattle.acceptance.proofs.Turns.{fits-turn}
 use Rattle.acceptance.proofs.ChunkHalf.{bytes-split, chunks-part, not-before}
 
--- A change of chunks: it keeps the letters of a whole chunk, makes a whole chunk of it (M5), and changes only chunks with certain
--- identifiers.
+-- A change of chunks: it keeps the letters of a whole chunk, returns a whole chunk (M5), and changes only chunks with certain identifiers.
 pub record Change (changes : ℕ → Bool) (f : List ℕ → List ℕ) : Type 0 where
   pub letters : (chunk : List ℕ) → IsChunk chunk → take 4 (f chunk) ≡ take 4 chunk
   pub whole : (chunk : List ℕ) → IsChunk chunk → IsChunk (f chunk)
@@ -42,11 +41,11 @@ module _ {changes : ℕ → Bool} {f : List ℕ → List ℕ} (change : Change c
   pub whole-changed : Every IsChunk (map f all)
   whole-changed = every-map f all .1 (every-of (change .whole) whole)
 
-  -- One of the changed chunks has the letters of the chunk that it was.
+  -- A changed chunk has the letters of the chunk before the change.
   letters-were : {letters : List ℕ} (one : List ℕ) → Within all one → take 4 (f one) ≡ letters → take 4 one ≡ letters
   letters-were one w named = sym (change .letters one (within-every whole w)) ∙ named
 
-  -- The chunk found by its letters is the change of the one found before.
+  -- The changed chunk with these letters is the change of the chunk with these letters.
   pub among-changed : {letters chunk : List ℕ} → Among all letters chunk → Among (map f all) letters (f chunk)
   among-changed {chunk = chunk} a = within-among (within-mapped f (among-within a)) (change .letters chunk (every-among whole a) ∙ a .named)
 
@@ -55,7 +54,7 @@ module _ {changes : ℕ → Bool} {f : List ℕ → List ℕ} (change : Change c
       let (one, within, same) = mapped-within f (among-within a) in
       (one, within-among within (letters-were one within (ap (take 4) (sym same) ∙ a .named)), same)
 
-  -- A chunk that does not change is among the changed ones exactly where it is among the chunks.
+  -- A chunk that does not change is among the changed ones exactly if it is among the chunks.
   module _ {letters : List ℕ} (covers : Covered letters) (left : changes (identifierOf covers) ≡ false) where
     pub stays-as : {chunk : List ℕ} → Among all letters chunk → f chunk ≡ chunk
     stays-as {chunk} a = let c = every-among whole a in change .stays chunk c (ap changes (chunk-named c covers .1 (a .named)) ∙ left)
@@ -68,11 +67,11 @@ module _ {changes : ℕ → Bool} {f : List ℕ → List ℕ} (change : Change c
         let (one, there, same) = changed-among a in
         subst (λ (c : List ℕ). Among all letters c) (sym (same ∙ stays-as there)) there
 
-  -- M6.
+  -- M6 still holds.
   once-changed : {letters : List ℕ} → AtMostOnce all letters → AtMostOnce (map f all) letters
   once-changed {letters} once = no-two-mapped f (λ (chunk : List ℕ). take 4 chunk ≡ letters) letters-were once
 
--- M7.
+-- M7 still holds.
 module _ {changes : ℕ → Bool} {f : List ℕ → List ℕ} (change : Change changes f) {all : List (List ℕ)} (whole : Every IsChunk all) where
   after-changed : {letters : List ℕ} → AfterInfo all letters → AfterInfo (map f all) letters
   after-changed behind before after chunk e named =
@@ -85,11 +84,11 @@ module _ {changes : ℕ → Bool} {f : List ℕ → List ℕ} (change : Change c
 
 module _ {m header : List ℕ} {all : List (List ℕ)} (rules : ChunkRules m header all) {changes : ℕ → Bool} {f : List ℕ → List ℕ}
     (change : Change changes f) where
-  -- M9 of infoIdentifier where it does not change.
+  -- M9 still holds if INFO does not change.
   pub info-left : changes infoIdentifier ≡ false → (info : List ℕ) → Among all infoLetters info → InfoRules (f info)
   info-left left info a = subst InfoRules (sym (stays-as change (rules .whole) Covered.info left a)) (rules .info info a)
 
-  -- M2 to M9 of the changed module, where it is short enough, nameIdentifier does not change and infoIdentifier changed is as M9 says.
+  -- M2 to M9 hold for the changed module, if it is short enough, NAME does not change and the changed INFO satisfies M9.
   module _ {n : List ℕ} (bytes : n ≡ header ++ joined (map f all)) (limit : length n ≤ 16777216) where
     pub rules-changed : changes nameIdentifier ≡ false → ((info : List ℕ) → Among all infoLetters info → InfoRules (f info)) → ChunkRules n header (map f all)
     rules-changed name info = record {
@@ -106,14 +105,14 @@ module _ {m header : List ℕ} {all : List (List ℕ)} (rules : ChunkRules m hea
       info = λ chunk a. let (one, there, same) = changed-among change (rules .whole) a in subst InfoRules (sym same) (info one there);
     }
 
--- The changed module is bytes, where each changed chunk is.
+-- The changed module consists of bytes if each changed chunk does.
 module _ (f : List ℕ → List ℕ) (each : (chunk : List ℕ) → Bytes chunk → Bytes (f chunk)) (header : List ℕ) (all : List (List ℕ)) where
   pub bytes-changed : Bytes (header ++ joined all) → Bytes (header ++ joined (map f all))
   bytes-changed below =
       let old : Every Bytes all = bytes-joined all .1 (bytes-after header (joined all) below) in
       bytes-append header (joined (map f all)) (bytes-front header (joined all) below) (bytes-joined (map f all) .0 (every-map f all .1 (every-of each old)))
 
--- Two changes that differ in the chunk with one identifier at most.
+-- Two changes that agree on all chunks except those with one identifier.
 abbrev pub SameBut : ℕ → (List ℕ → List ℕ) → (List ℕ → List ℕ) → Type 0
 SameBut identifier f g = (chunk : List ℕ) → IsChunk chunk → eqb (number32 chunk 0) identifier ≡ false → f chunk ≡ g chunk
 
@@ -151,7 +150,7 @@ module _ {letters : List ℕ} (covers : Covered letters) {f g : List ℕ → Lis
         let there = joined-length first last (g chunk) (ap (map g) (a .splits) ∙ map-append g (a .before) (chunk ∷ a .after)) in
         omega (arith, here, there)
 
--- One chunk changes and no other.
+-- Only one chunk changes.
 module _ {letters : List ℕ} (covers : Covered letters) {f : List ℕ → List ℕ} (alone : SameBut (identifierOf covers) f (λ chunk. chunk)) where
   module _ {m header : List ℕ} {all : List (List ℕ)} (rules : ChunkRules m header all) {chunk : List ℕ} (a : Among all letters chunk) where
     pub split-alone : map f all ≡ a .before ++ (f chunk ∷ a .after)
@@ -163,7 +162,7 @@ module _ {letters : List ℕ} (covers : Covered letters) {f : List ℕ → List 
         let same = ap (λ (l : List (List ℕ)). length (joined l)) (map-itself all) in
         omega (arith, grown, same, ap length (rules .bytes), length-append header (joined all), length-append header (joined (map f all)))
 
-    -- By its place.
+    -- The changed module, by the span of the chunk.
     pub alone-at : (span : ChunkSpan) → Found m all letters span → header ++ joined (map f all) ≡ take (span .at) m ++ (f chunk ++ drop (dataEnd span) m)
     alone-at span found =
         let before : List ℕ = header ++ joined (a .before) in
@@ -176,7 +175,7 @@ module _ {letters : List ℕ} (covers : Covered letters) {f : List ℕ → List 
         let rest : drop (dataEnd span) m ≡ after = ap (drop (dataEnd span)) parts ∙ drop-at (before ++ chunk) after (dataEnd span) end in
         rw (split-alone, joined-append (a .before) (f chunk ∷ a .after), front, rest) (simp append-assoc)
 
--- Chunks as the check reads them: what is made of each record, by its place, is the change of the chunk that begins there.
+-- Chunks as the check reads them: what is made from each recorded header is the change of the chunk that begins at its place.
 abbrev pub Reads : List ℕ → (ChunkHeader → List ℕ) → (List ℕ → List ℕ) → Type 0
 Reads m made f = (at : ℕ) (chunk : List ℕ) → PartAt m at chunk → IsChunk chunk → made (recorded at chunk) ≡ f chunk
 

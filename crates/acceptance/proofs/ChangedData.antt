@@ -1,4 +1,4 @@
--- Chunks that get other data: the chunk with an identifier becomes its letters, the length of the new data and the new data, and the other
+-- Chunks that get other data: the chunk with an identifier becomes its letters, the length of the new data and the new data. The other
 -- chunks are changed in another way or not at all. This is a change of chunks.
 use Prim.Native.Nat.{ℕ, _+_, _<_}
 use mathlib.Core.Path.{_≡_, refl, sym, ap, _∙_}
@@ -23,15 +23,15 @@ use Rattle.acceptance.proofs.Recorded.{every-among}
 use Rattle.acceptance.proofs.ChunkHalf.{span-part}
 use Rattle.acceptance.proofs.ChangedChunks.{Change, SameBut, alone-at}
 
--- A chunk with other data (M5).
+-- A chunk with the given data (M5).
 abbrev pub withData : List ℕ → List ℕ → List ℕ
 withData content chunk = take 4 chunk ++ (bytes32 (length content) ++ content)
 
--- The chunk with an identifier gets other data.
+-- The chunk with an identifier gets the given data, and the other chunks are changed by `others`.
 abbrev pub dataChanged : ℕ → List ℕ → (List ℕ → List ℕ) → List ℕ → List ℕ
 dataChanged identifier content others chunk = cond (eqb (number32 chunk 0) identifier) (withData content chunk) (others chunk)
 
--- No chunk changes.
+-- The change that leaves every chunk unchanged.
 pub no-change : Change (λ n. false) (λ chunk. chunk)
 no-change = record { letters = λ chunk c. refl; whole = λ chunk c. c; stays = λ chunk c e. refl }
 
@@ -51,7 +51,7 @@ module _ (content chunk : List ℕ) (c : IsChunk chunk) where
     letters = λ i h. rw (byteAt-front (take 4 chunk) (bytes32 (length content) ++ content) i (omega (arith, four)), byteAt-take 4 chunk i h) (c .letters i h);
   }
 
--- Blocks as the data of a chunk fill it (B1).
+-- If the data of a chunk are blocks, the blocks fill the chunk (B1).
 pub data-filled : (blocks : List (List ℕ)) (chunk : List ℕ) → IsChunk chunk → Filled 8 (withData (joined blocks) chunk) (length blocks) blocks
 data-filled blocks chunk c =
     let content : List ℕ = joined blocks in
@@ -68,7 +68,7 @@ module _ (identifier : ℕ) (content : List ℕ) (others : List ℕ → List ℕ
   abbrev changedIf : Bool → List ℕ → List ℕ
   changedIf b chunk = cond b (withData content chunk) (others chunk)
 
-  -- What holds of a chunk with the new data, and of a chunk otherwise changed, holds of the changed chunk.
+  -- What holds for a chunk with the new data, and for a chunk changed by `others`, holds for the changed chunk.
   by-identifier : (P : List ℕ → Type 0) (chunk : List ℕ) → P (withData content chunk) → P (others chunk) → P (changed chunk)
   by-identifier P chunk new other = go (eqb (number32 chunk 0) identifier)
     where
@@ -88,7 +88,7 @@ module _ (identifier : ℕ) (content : List ℕ) (others : List ℕ → List ℕ
         go chunk c true e = let z : _≡_ {A = ℕ} 0 1 = cc in absurd (omega arith)
         go chunk c false e = change .stays chunk c e
 
-    -- Once more changes nothing, where the others then do not change either.
+    -- Applying the change twice is the same as once, if that is so for the other chunks.
     pub data-twice : (chunk : List ℕ) → IsChunk chunk → others (others chunk) ≡ others chunk → changed (changed chunk) ≡ changed chunk
     data-twice chunk c again = go (eqb (number32 chunk 0) identifier) refl
       where
@@ -101,14 +101,14 @@ module _ (identifier : ℕ) (content : List ℕ) (others : List ℕ → List ℕ
             rw (same-number (withData content chunk) letters, e) (ap (λ (front : List ℕ). front ++ (bytes32 (length content) ++ content)) letters)
         go false e = rw (same-number (others chunk) (change .letters chunk c), e) again
 
-  -- It is bytes.
+  -- The changed chunk consists of bytes.
   module _ (short : length content < 0x100000000) (below : Bytes content) (each : (chunk : List ℕ) → Bytes chunk → Bytes (others chunk)) where
     pub data-bytes : (chunk : List ℕ) → Bytes chunk → Bytes (changed chunk)
     data-bytes chunk b =
         let new : Bytes (bytes32 (length content) ++ content) = bytes-append (bytes32 (length content)) content (bytes32-bytes (length content) short) below in
         by-identifier Bytes chunk (bytes-append (take 4 chunk) (bytes32 (length content) ++ content) (bytes-take 4 chunk b) new) (each chunk b)
 
-  -- Without the new data it is the other change.
+  -- Except for the chunk with the new data it is the other change.
   pub data-same-but : SameBut identifier changed others
   data-same-but chunk c e = ap (λ (b : Bool). changedIf b chunk) e
 
@@ -122,7 +122,7 @@ module _ {letters : List ℕ} (covers : Covered letters) (content : List ℕ) (o
       let is = eq-eqb (number32 chunk 0) (identifierOf covers) (chunk-named c covers .1 named) in
       ap (λ (b : Bool). cond b (withData content chunk) (others chunk)) is
 
--- A chunk by its place, with the new data and as it is.
+-- A chunk by its place, with the new data and unchanged.
 module _ {m chunk : List ℕ} {at : ℕ} (p : PartAt m at chunk) (c : IsChunk chunk) where
   pub data-read : (content : List ℕ) → partOf m at 4 ++ (bytes32 (length content) ++ content) ≡ withData content chunk
   data-read content = ap (λ (front : List ℕ). front ++ (bytes32 (length content) ++ content)) (part-front p 4 (omega (arith, c .size)))
@@ -130,12 +130,12 @@ module _ {m chunk : List ℕ} {at : ℕ} (p : PartAt m at chunk) (c : IsChunk ch
   pub chunk-read : partOf m at (8 + number32 chunk 4) ≡ chunk
   chunk-read = ap (partOf m at) (sym (c .size)) ∙ part-is p
 
--- The module with other data in one chunk, by the chunk's place.
+-- The module with other data in one chunk, by the span of the chunk.
 module _ {letters : List ℕ} (covers : Covered letters) (content : List ℕ) where
   abbrev alone : List ℕ → List ℕ
   alone = dataChanged (identifierOf covers) content (λ chunk. chunk)
 
-  -- The same by appending to the module's bytes before the chunk's length and after the chunk.
+  -- The same, appended from the module's bytes before the chunk's length, the new length and data, and the bytes after the chunk.
   abbrev spliced : List ℕ → ChunkSpan → List ℕ
   spliced m span = take (span .at + 4) m ++ (bytes32 (length content) ++ (content ++ drop (dataEnd span) m))
 

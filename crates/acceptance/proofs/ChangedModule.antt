@@ -1,4 +1,5 @@
--- A module with some chunks changed is accepted: all its rules, from the rules of the module and from what the mandatory chunks then hold.
+-- A module with some chunks changed is accepted: all its rules follow from the rules of the module and from the blocks of the changed
+-- mandatory chunks.
 use Prim.Native.Nat.{ℕ, _≤_}
 use mathlib.Core.Path.{_≡_, sym, subst}
 use mathlib.Core.List.{List, _++_, map}
@@ -20,7 +21,7 @@ use Rattle.acceptance.proofs.Recorded.{among-within}
 use Rattle.acceptance.proofs.ChangedChunks.{Change, stays-as, among-changed, left-among, rules-changed}
 use Rattle.acceptance.proofs.Acceptance.{rules-open}
 
--- What the changed chunks hold, and its rules: B1 to B5, V1, V2, V6 and V7. The instruments are as many as before.
+-- The blocks of the changed chunks, and their rules: B1 to B5, V1, V2, V6 and V7. The number of instruments is unchanged.
 pub record BlocksAfter (f : List ℕ → List ℕ) {m : List ℕ} (r : Rules m) : Type 0 where
   pub songs : List (List ℕ)
   pub instruments : List (List ℕ)
@@ -36,7 +37,7 @@ pub record BlocksAfter (f : List ℕ → List ℕ) {m : List ℕ} (r : Rules m) 
   pub sampleRules : Every SampleRules samples
   pub asMany : length (r .content .instruments) ≡ length instruments
 
--- nameIdentifier and the envelopes do not change.
+-- NAME and the envelopes do not change.
 pub record LeavesRest (changes : ℕ → Bool) : Type 0 where
   pub name : changes nameIdentifier ≡ false
   pub volume : changes venvIdentifier ≡ false
@@ -46,12 +47,12 @@ module _ {m : List ℕ} (r : Rules m) {changes : ℕ → Bool} {f : List ℕ →
   abbrev whole : Every IsChunk (r .chunks)
   whole = r .chunkRules .whole
 
-  -- The blocks of a chunk that does not change, where infoIdentifier does not either.
+  -- The blocks of a chunk that does not change, if INFO does not change either.
   module _ (info : changes infoIdentifier ≡ false) where
     pub info-stays : f (r .info) ≡ r .info
     info-stays = stays-as change whole Covered.info info (r .infoThere)
 
-    -- A chunk has so many blocks as the number at this offset of infoIdentifier says.
+    -- A chunk has as many blocks as the number at this offset of INFO says.
     abbrev FilledBy : List ℕ → List ℕ → ℕ → List (List ℕ) → Type 0
     FilledBy chunk one offset blocks = Filled 8 chunk (number16 one offset) blocks
 
@@ -62,7 +63,7 @@ module _ {m : List ℕ} (r : Rules m) {changes : ℕ → Bool} {f : List ℕ →
           let counted = subst (λ (one : List ℕ). FilledBy chunk one offset blocks) (sym info-stays) filled in
           subst (λ (one : List ℕ). FilledBy one (f (r .info)) offset blocks) (sym (stays-as change whole covers left a)) counted
 
-  -- infoIdentifier is there once.
+  -- M9 for the changed INFO, whichever chunk with its letters is taken: INFO occurs once.
   info-rules : InfoRules (f (r .info)) → (info : List ℕ) → Among (r .chunks) infoLetters info → InfoRules (f info)
   info-rules rules info a =
       let once = r .chunkRules .once infoLetters Covered.info in
@@ -117,7 +118,7 @@ module _ {m : List ℕ} (r : Rules m) {changes : ℕ → Bool} {f : List ℕ →
         };
       }
 
-      -- So it opens, with a layout of the changed chunks.
+      -- So the changed module opens, with a layout of the changed chunks.
       pub changed-opens : Bytes n → (l : Layout) × (opened n ≡ Found l) × LayoutOf n (r .header) (map f (r .chunks)) l
       unfolding all-changed
       changed-opens below = rules-open n below all-changed

@@ -1,5 +1,5 @@
--- The chunk half of theorem 8. The outline of a module is found exactly where the module is a header and chunks of which the rules
--- of M2 to M9 hold and among which the mandatory ones stand; and the layout found is that of these chunks.
+-- The chunk half of theorem 8. The outline of a module is found exactly if the module is a header and chunks for which M2 to M9 hold and
+-- which include the mandatory ones. The layout found is that of these chunks.
 use Prim.Native.Nat.{ℕ, _+_}
 use mathlib.Core.Path.{_≡_, sym, ap, subst, _∙_}
 use mathlib.Core.Logic.{_↔_}
@@ -30,7 +30,7 @@ use Rattle.acceptance.proofs.Heading.{HeaderFits, header-byte, rules-he
 use Rattle.acceptance.proofs.Outlining.{AllRead, along-outline}
 use Rattle.acceptance.proofs.Turns.{ChunksFit, turn-fits, fits-turn}
 
--- M7: INFO and the four.
+-- M7: INFO, SONG, INST, PATT and SMPL are among the chunks.
 pub record Mandatory (chunks : List (List ℕ)) : Type 0 where
   pub info : There chunks infoLetters
   pub song : There chunks songLetters
@@ -38,7 +38,7 @@ pub record Mandatory (chunks : List (List ℕ)) : Type 0 where
   pub patt : There chunks pattLetters
   pub smpl : There chunks smplLetters
 
--- What an outline says of the module: its header, its chunks, their rules, and that the layout is theirs.
+-- A found outline of a module: its header, its chunks, their rules, and that the layout is that of these chunks.
 pub record Outlined (m : List ℕ) (l : Layout) : Type 0 where
   pub header : List ℕ
   pub chunks : List (List ℕ)
@@ -46,12 +46,12 @@ pub record Outlined (m : List ℕ) (l : Layout) : Type 0 where
   pub mandatory : Mandatory chunks
   pub layout : LayoutOf m header chunks l
 
--- The bytes of a chunk stand where its place says.
+-- The bytes of a chunk are at the place of its span.
 pub span-part : {m chunk : List ℕ} {span : ChunkSpan} → SpanHolds m span chunk → PartAt m (span .at) chunk
 span-part s = record { before = s .before; after = s .after; bytes = s .bytes; starts = s .starts }
 
 module _ {m header : List ℕ} {all : List (List ℕ)} (rules : ChunkRules m header all) where
-  -- A chunk among the chunks, and the first of its letters there.
+  -- A chunk among the chunks, and the first one with its letters.
   module _ {letters chunk : List ℕ} (a : Among all letters chunk) where
     pub bytes-split : m ≡ (header ++ joined (a .before)) ++ (chunk ++ joined (a .after))
     bytes-split =
@@ -110,7 +110,7 @@ module _ {m header : List ℕ} {all : List (List ℕ)} (rules : ChunkRules m hea
     penv = found-of Covered.penv;
   }
 
-  -- The check finds the mandatory chunks exactly where they stand among the chunks.
+  -- The check finds the mandatory chunks exactly if they are among the chunks.
   mandatory-says : (mandatoryThere (recordsFrom 8 all) ≡ true) ↔ Mandatory all
   mandatory-says = simp (and-says, says Covered.info, says Covered.song, says Covered.inst, says Covered.patt, says Covered.smpl) (
     λ h. record { info = h .0; song = h .1 .0; inst = h .1 .1 .0; patt = h .1 .1 .1 .0; smpl = h .1 .1 .1 .1 },
@@ -120,7 +120,7 @@ module _ {m header : List ℕ} {all : List (List ℕ)} (rules : ChunkRules m hea
       says : {letters : List ℕ} (covers : Covered letters) → (occurs (identifierOf covers) (recordsFrom 8 all) ≡ true) ↔ There all letters
       says covers = occurs-says covers 8 (rules .whole)
 
--- The parts of the rules.
+-- The rules of the chunks from their parts.
 rules-of : {m header : List ℕ} {all : List (List ℕ)} → m ≡ header ++ joined all → length header ≡ 8 → HeaderFits m header
     → ChunksFit all
     → ChunkRules m header all
@@ -145,7 +145,7 @@ module _ {m header : List ℕ} {all : List (List ℕ)} (rules : ChunkRules m hea
   pub chunks-part : ChunksFit all
   chunks-part = record { whole = rules .whole; once = rules .once; afterInfo = rules .afterInfo; name = rules .name; info = rules .info }
 
--- Found, so the rules hold.
+-- If the outline is found, the rules hold.
 abbrev Says : List ℕ → Outline → Type 0
 Says m (OutlineFound l) = Outlined m l
 Says m (Refused r) = Unit {0}
@@ -164,7 +164,7 @@ reported m below =
 pub outline-chunks : (m : List ℕ) (l : Layout) → Bytes m → outline m ≡ OutlineFound l → Outlined m l
 outline-chunks m l below e = subst (Says m) e (reported m below)
 
--- The rules hold, so found.
+-- If the rules hold, the outline is found.
 pub chunks-outline : (m header : List ℕ) (all : List (List ℕ)) → ChunkRules m header all → Mandatory all
     → (l : Layout) × (outline m ≡ OutlineFound l) × LayoutOf m header all l
 chunks-outline m header all rules mandatory =

@@ -1,4 +1,4 @@
--- The chunk half of theorem 10: refusals 1 to 10, where they are and what is wrong there.
+-- The chunk half of theorem 10: the places of refusals 1 to 10, and what is wrong there.
 use Prim.Native.Nat.{ℕ, _+_, _/_, _%_, _≤_, _<_}
 use mathlib.Core.Path.{_≡_, refl, sym, ap, subst, _∙_}
 use mathlib.Core.Logic.{_↔_, _⊎_, inl, inr}
@@ -37,7 +37,7 @@ use Rattle.acceptance.proofs.Heading.{begins-number}
 use Rattle.acceptance.proofs.Outlining.{AllRead, along-outline}
 use Rattle.acceptance.proofs.WholeChunks.{header-at}
 
--- The place and what is wrong there are as F17 says, and the place is not past the module's end.
+-- The place and the fault at it are as F17 says, and the place is at most the module's length.
 abbrev pub Placed : List ℕ → Refusal → Type 0
 Placed m r = PlaceOf m r × (r .place ≤ length m)
 
@@ -72,7 +72,7 @@ module _ (m : List ℕ) where
 tracks-say : (tracks : ℕ) → (tracksFit tracks ≡ true) ↔ ((4 ≤ tracks) × (tracks ≤ 254) × (tracks % 2 ≡ 0))
 tracks-say tracks = simp plain (λ h. (h .0, h .1 .0, h .1 .1), λ h. (h .0, (h .1, h .2)))
 
--- 4, 5, 6, 7, 9, 10: where the walk is, after whole chunks.
+-- 4, 5, 6, 7, 9, 10: at the place of the walk, after whole chunks.
 module _ {m header : List ℕ} {before : List (List ℕ)} {at : ℕ} (r : Reached m header before at) (less : at < length m) where
   inside : at ≤ length m
   inside = omega arith
@@ -107,7 +107,7 @@ module _ {m header : List ℕ} {before : List (List ℕ)} {at : ℕ} (r : Reache
         let same = number32-at rest-part 4 (omega (arith, rest-eight)) in
         CutFault.contents (omega (arith, leb-false (at + 8 + number32 m (at + 4)) (length m) e, rest-long))
 
-  -- The others are of a whole chunk.
+  -- The others are faults of a whole chunk.
   module _ {chunk : List ℕ} (part : PartAt m at chunk) (c : IsChunk chunk) where
     abbrev chunk-at : ChunkBegins m at
     chunk-at = record {
@@ -145,7 +145,7 @@ module _ {m header : List ℕ} {before : List (List ℕ)} {at : ℕ} (r : Reache
         let no = never (occurs-says Covered.info 8 (turn-bytes (r .turn))) lacks in
         (beforeInfo chunk-at (record { needs = rw (named (needing needs) same) needs; lacks = λ info a. no (info, a) }), inside)
 
-    -- A chunk that has this identifier, and whose data are not so long.
+    -- A chunk that has this identifier and whose data do not have this length.
     other-length : (n long : ℕ) → not (eqb (number32 m at) n) || eqb (number32 m (at + 4)) long ≡ false → (number32 m at ≡ n) × (length chunk ≡ 8 + long → ⊥)
     other-length n long e =
         let (is, other) = unless-broken (eqb (number32 m at) n) (eqb (number32 m (at + 4)) long) e in
@@ -166,7 +166,7 @@ module _ {m header : List ℕ} {before : List (List ℕ)} {at : ℕ} (r : Reache
           let wrong = infoRange chunk-at (record { named = letters; size = long; range = fault }) in
           subst (λ (k : ℕ). Placed m (refusal InfoRange k)) (sym same) (wrong, omega arith)
 
-      -- The first number, and one that is so much further.
+      -- The first number of INFO, and one at a later offset.
       first-placed : leb (number16 m (at + 8)) 255 ≡ false → Placed m (refusal InfoRange (at + 8))
       first-placed e =
           let over = leb-false (number16 chunk 8) 255 (rw (number16-at part 8 (omega arith)) at e) in
@@ -230,7 +230,7 @@ missing-placed m all read =
         let no = never (occurs-says c 8 whole) e in
         (missing these (record { letters = letters; mandatory = mandatory; lacks = λ chunk a. no (chunk, a) }), omega arith)
 
--- What an outline says of places.
+-- For an outline that is refused, the place is as F17 says.
 abbrev Says : List ℕ → Outline → Type 0
 Says m (Found l) = Unit {0}
 Says m (Refused r) = Placed m r

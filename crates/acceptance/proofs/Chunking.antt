@@ -1,5 +1,5 @@
--- The walk over the chunks. Where it reads them all, the module is its header and these chunks, each of which fits behind those
--- before it; where it stops, such chunks stand before the place; and a module of such chunks is read to its end.
+-- The walk over the chunks. If it reads them all, the module is its header and these chunks, and each fits after those before it. If it
+-- stops, such chunks are before the place. A module of such chunks is read to its end.
 use Prim.Native.Nat.{ℕ, zero, suc, _+_, _≤_, _<_}
 use mathlib.Core.Path.{_≡_, refl, sym, ap, subst, _∙_}
 use mathlib.Core.List.{List, [], _∷_, _++_, append-assoc, append-nil}
@@ -24,7 +24,7 @@ use Rattle.acceptance.proofs.Holding.{AllHold, accepted-hold}
 use Rattle.acceptance.proofs.Recorded.{recordsFrom, records-append}
 use Rattle.acceptance.proofs.Fitting.{ChunkFits, rules-fit, fits-rules, identifier-is, data-length-is}
 
--- Chunks, each of which fits behind those before it.
+-- A list of chunks, each of which fits after those before it.
 pub data InTurn : List (List ℕ) → List (List ℕ) → Type 0 where
   done : {before : List (List ℕ)} → InTurn before []
   next : {before : List (List ℕ)} {chunk : List ℕ} {rest : List (List ℕ)} → ChunkFits before chunk
@@ -35,12 +35,12 @@ pub turn-bytes : {before rest : List (List ℕ)} → InTurn before rest → Ever
 turn-bytes done = none
 turn-bytes (next fits turn) = also (fits .bytes) (turn-bytes turn)
 
--- One more at the end.
+-- One more chunk at the end.
 turn-last : {before rest : List (List ℕ)} (chunk : List ℕ) → InTurn before rest → ChunkFits (before ++ rest) chunk → InTurn before (rest ++ (chunk ∷ []))
 turn-last {before} chunk done fits = next (rw append-nil at fits) done
 turn-last {before} chunk (next {chunk = first} {rest = rest} f turn) fits = next f (turn-last chunk turn (rw append-assoc fits))
 
--- The walk stands at a place: the module's header and chunks in turn stand before it.
+-- The walk is at this place: the module's header and chunks that fit in order are before it.
 pub record Reached (m header : List ℕ) (before : List (List ℕ)) (at : ℕ) : Type 0 where
   pub rest : List ℕ
   pub bytes : m ≡ (header ++ joined before) ++ rest
@@ -115,7 +115,7 @@ accepted-fits {m} {header} {before} {at} r hold =
     let (chunk, part, size) = whole-part m at (leb-true (at + 8 + number32 m (at + 4)) (length m) (every-first (every-rest (every-rest hold)))) in
     (chunk, part, rules-fit 8 (turn-bytes (r .turn)) part size hold)
 
--- Induction along the walk: what holds where all chunks are read, and where one is refused, holds of every walk.
+-- Induction along the walk: what holds if all chunks are read, and if one is refused, holds for every walk.
 module _ {m header : List ℕ} (P : Walk → Type 0)
     (ends : (all : List (List ℕ)) → m ≡ header ++ joined all → InTurn [] all → P (complete (recordsFrom 8 all)))
     (stops : (before : List (List ℕ)) (at : ℕ) → Reached m header before at → at < length m → (r : Refusal)
@@ -148,7 +148,7 @@ module _ {m header : List ℕ} (P : Walk → Type 0)
   unfolding chunks
   along r = along-steps (suc (length m)) [] 8 r (omega arith)
 
--- Chunks in turn are read to the end.
+-- Chunks that fit in order are read to the end.
 walk-ends : (steps : ℕ) (m : List ℕ) (before : List ChunkHeader) (at : ℕ) → length m ≤ at → chunksFrom steps m before at ≡ complete before
 unfolding chunksFrom
 walk-ends zero m before at h = refl

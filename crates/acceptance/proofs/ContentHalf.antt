@@ -1,5 +1,5 @@
--- The content half of theorem 8: where the layout is that of the chunks, the check's rules for the content all hold exactly when
--- the chunks are filled with blocks of which the rules hold.
+-- The content half of theorem 8: if the layout is that of the chunks, all of the check's rules for the content hold exactly if the chunks
+-- are filled with blocks for which the rules hold.
 use Prim.Native.Nat.{ℕ, _+_, _-_, _≤_, _<_}
 use mathlib.Core.Path.{_≡_, refl, sym, subst, _∙_}
 use mathlib.Core.Logic.{_↔_, _⊎_, inl, inr}
@@ -42,7 +42,7 @@ pub counted : {front count other : ℕ} {chunk : List ℕ} {blocks : List (List 
     → Filled front chunk other blocks
 counted same f = record { fronts = f .fronts; bytes = f .bytes; number = f .number ∙ same }
 
--- The frames of a sample, by its number, are those of its block.
+-- The frames of the sample with a number are those of its block.
 module _ (span : ChunkSpan) {m smpl : List ℕ} {count : ℕ} {samples : List (List ℕ)} (b : BlocksIn Sample m (span .at + 8) 8 smpl count samples) where
   pub frames-same : (sample : ℕ) → 1 ≤ sample → sample ≤ length samples → framesOfSample m span sample ≡ number32 (getD samples (sample - 1) []) 4
   frames-same sample h k =
@@ -75,11 +75,11 @@ module _ {m : List ℕ} {l : Layout} {song inst patt smpl : List ℕ} {songs ins
       let frames = frames-same (l .spans .smpl) (b .inSmpl) in
       blocks-every (b .inInst) (λ at block p s. rw (← b .inSmpl .filled .number) (instrument-holds p s (l .spans .smpl) samples frames))
 
--- How many envelopes a chunk has, by its bytes.
+-- The number of envelopes of a chunk, from its bytes.
 pub count-same : {m chunk : List ℕ} {span : ChunkSpan} → SpanHolds m span chunk → 10 ≤ length chunk → envelopeCount m span ≡ number16 chunk 8
 count-same s h = rw (s .there) (number16-at (span-part s) 8 h)
 
--- The envelopes of a chunk, where it is there.
+-- The envelopes of a chunk, if it is present.
 module _ {m : List ℕ} {chunks : List (List ℕ)} {letters : List ℕ} {span : ChunkSpan} (found : Found m chunks letters span)
     (signed : Bool) (ValueFits : ℕ → Type 0) (says : (v : ℕ) → (valueFits signed v ≡ true) ↔ ValueFits v)
     (instruments : ℕ) where
@@ -117,12 +117,12 @@ module _ {m : List ℕ} {chunks : List (List ℕ)} {letters : List ℕ} {span : 
         go true there = there-hold there .1
         go false there = rw there none
 
--- The values of panning envelopes, by the version.
+-- The values of panning envelopes, by version.
 pub panning-values : (version : ℕ) → (version ≡ 2) ⊎ (version ≡ 3) → (v : ℕ) → (valueFits (eqb version 3) v ≡ true) ↔ PanningValueFits version v
 panning-values version (inl e) v = rw e (λ h. (λ three. absurd (omega arith), λ two. leb-true v 64 h), λ h. le-leb v 64 (h .1 refl))
 panning-values version (inr e) v = rw e (λ h. (λ three. panning-says v .0 h, λ two. absurd (omega arith)), λ h. panning-says v .1 (h .0 refl))
 
--- The layout of the chunks, with the five that every module has.
+-- The layout of the chunks, with the five mandatory ones.
 module _ {m header : List ℕ} {chunks : List (List ℕ)} {l : Layout} (layout : LayoutOf m header chunks l)
     (version : (byteAt header 4 ≡ 2) ⊎ (byteAt header 4 ≡ 3)) {info song inst patt smpl : List ℕ}
     (infoThere : Among chunks infoLetters info) (songThere : Among chunks songLetters song)
@@ -146,7 +146,7 @@ module _ {m header : List ℕ} {chunks : List (List ℕ)} {l : Layout} (layout :
   layout-version : (l .version ≡ 2) ⊎ (l .version ≡ 3)
   layout-version = rw (layout .version) version
 
-  -- The rules of the check give the content.
+  -- The rules of the check imply the content.
   module _ (t : TracksFit (number16 info 16)) (bytes : Bytes m) where
     layout-tracks : TracksFit (l .tracks)
     layout-tracks = rw (counts .4) t
@@ -189,7 +189,7 @@ module _ {m header : List ℕ} {chunks : List (List ℕ)} {l : Layout} (layout :
         b : AllBlocks m l song inst patt smpl (songs .0) (instruments .0) (patterns .0) (samples .0)
         b = record { inSong = songs .1; inInst = instruments .1; inPatt = patterns .1; inSmpl = samples .1 }
 
-    -- The content gives the rules of the check.
+    -- The content implies the rules of the check.
     pub content-holds : Content header chunks info song inst patt smpl → ContentHolds m l
     content-holds c = record {
       blocks = record {

@@ -1,5 +1,5 @@
--- The content half of theorem 10: refusals 11 to 15, where they are and what is wrong there. 11 is at the header of a chunk. Where the
--- blocks fill their chunks, 12 and 13 are at a field of a block (FieldPlaces), 14 and 15 at the beginning of one.
+-- The content half of theorem 10: the places of refusals 11 to 15, and what is wrong there. 11 is at the header of a chunk. If the blocks
+-- fill their chunks, 12 and 13 are at a field of a block (FieldPlaces), 14 and 15 at the beginning of one.
 use Prim.Native.Nat.{ℕ, _+_, _-_, _≤_, _<_}
 use mathlib.Core.Path.{_≡_, sym, _∙_}
 use mathlib.Core.Logic.{_⊎_, inl, inr}
@@ -47,7 +47,7 @@ use Rattle.acceptance.proofs.BlocksThere.{blocks-there, Begins, kind-bl
 use Rattle.acceptance.proofs.FieldPlaces.{each-placed, field-rules-placed}
 
 module _ {m : List ℕ} {l : Layout} (o : Outlined m l) where
-  -- 11: were the chunk made of such blocks, the last would end where its data do.
+  -- 11: if the chunk consisted of such blocks, the last would end at the end of its data.
   module _ (kind : RecordKind) (there : There (o .chunks) (lettersOf kind)) where
     blocks-placed : BlocksFault kind (all-chunks o .info) (there .0) → Placed m (refusal Blocks (chunkOf l kind .at))
     blocks-placed fault = (content (all-chunks o) (blocks (blocks-at o kind there) fault), omega (arith, part-inside (span-part (span-of o kind there))))
@@ -76,7 +76,7 @@ module _ {m : List ℕ} {l : Layout} (o : Outlined m l) where
         let wrong = blocks-placed Sample (o .mandatory .smpl) in
         this-or (λ e. wrong (record { none = λ list b. false-never (sym e ∙ every-first (flags-fit list b)) })) (λ _. no-rule)
 
-  -- 11: envelopes, where their chunk is there.
+  -- 11: envelopes, if their chunk is present.
   module _ (kind : RecordKind) where
     abbrev span : ChunkSpan
     span = chunkOf l kind
@@ -99,7 +99,7 @@ module _ {m : List ℕ} {l : Layout} (o : Outlined m l) where
       no-rule
 
   module _ (fill : BlocksHold m l) where
-    -- 14: of an instrument whose sample exists.
+    -- 14: an instrument whose sample exists.
     abbrev samples : (list : List (List ℕ)) × BlocksThere o Sample (o .mandatory .smpl .0) list
     samples = kind-blocks o fill Sample (o .mandatory .smpl)
 

@@ -1,5 +1,5 @@
--- What the check's rules for the content of a module say, part by part: the blocks fill their chunks; the rules of each song, each
--- instrument and each envelope hold, and those of each loop and each stream.
+-- What the check's rules for the content of a module state, part by part: the blocks fill their chunks, and the rules of each song,
+-- instrument and envelope hold, and those of each loop and stream.
 use Prim.Native.Nat.{ℕ}
 use mathlib.Core.Path.{_≡_}
 use mathlib.Core.Logic.{_↔_, Iff·rfl}
@@ -33,14 +33,14 @@ pub record BlocksHold (m : List ℕ) (l : Layout) : Type 0 where
   pub volumeEnvelopes : l .spans .venv .present ≡ true → blockAt m Envelope (l .spans .venv) (envelopeCount m (l .spans .venv)) ≡ dataEnd (l .spans .venv)
   pub panningEnvelopes : l .spans .penv .present ≡ true → blockAt m Envelope (l .spans .penv) (envelopeCount m (l .spans .penv)) ≡ dataEnd (l .spans .penv)
 
--- 12 and 13.
+-- 12 and 13: the fields of songs, instruments and envelopes.
 pub record FieldsHold (m : List ℕ) (l : Layout) : Type 0 where
   pub songs : Every (λ at. AllHold (songRules m (l .patterns) at)) (songBlocks m l)
   pub instruments : Every (λ at. AllHold (instrumentRules m (l .samples) at)) (instrumentBlocks m l)
   pub volumeEnvelopes : Every (λ at. AllHold (envelopeRules m (l .instruments) false at)) (envelopeBlocks m (l .spans .venv))
   pub panningEnvelopes : Every (λ at. AllHold (envelopeRules m (l .instruments) (eqb (l .version) 3) at)) (envelopeBlocks m (l .spans .penv))
 
--- All of them, with 14 and 15.
+-- All of them, including 14 and 15.
 pub record ContentHolds (m : List ℕ) (l : Layout) : Type 0 where
   pub blocks : BlocksHold m l
   pub fields : FieldsHold m l
@@ -74,7 +74,7 @@ module _ (m : List ℕ) (l : Layout) where
     λ h. blocks-say .1 (h .songs, (h .instruments, (h .patterns, (h .samples, (h .flags, (h .volumeEnvelopes, h .panningEnvelopes)))))),
   )
 
-  -- The blocks of a thing fill its chunk, where that is there.
+  -- The blocks of a record kind fill its chunk, if that is present.
   abbrev pub KindFills : RecordKind → Type 0
   KindFills kind = blockAt m (blockKindOf kind) (chunkOf l kind) (countOf m l kind) ≡ dataEnd (chunkOf l kind)
 

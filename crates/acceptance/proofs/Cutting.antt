@@ -1,6 +1,6 @@
--- Blocks that stand one behind the other. The reader finds the place of each block by the sizes of those before it; the rules cut
--- the data into blocks. Both say the same: data that so many sizes lead through exactly are so many blocks of these sizes, and of
--- such blocks each stands at its place. A size is read only in bytes that every block of the kind has.
+-- Blocks one after the other. The reader finds the place of each block from the sizes of those before it; the rules cut the data into
+-- blocks. Both are equivalent: if n sizes, read one after the other, end exactly at the end of the data, the data are n blocks of these
+-- sizes, and each block is at its place. A size is read only in bytes that every block of the kind has.
 use Prim.Native.Nat.{ℕ, zero, suc, _+_, _≤_, _<_}
 use mathlib.Core.Path.{_≡_, refl, sym, ap, _∙_}
 use mathlib.Core.List.{List, [], _∷_, _++_, append-assoc}
@@ -14,7 +14,7 @@ use Rattle.blocks.specs.declared.BlockKind.{BlockKind}
 use Rattle.blocks.specs.declared.BlockKind.the-variants.{Song, Instrument, Pattern, Sample, Envelope}
 use Rattle.acceptance.proofs.Locating.{PartAt, number16-at, number32-at, number32-start, part-is}
 
--- A part of two parts.
+-- The two parts of a part.
 module _ {m : List ℕ} {at : ℕ} (first rest : List ℕ) (p : PartAt m at (first ++ rest)) where
   pub part-first : PartAt m at first
   part-first = record { before = p .before; after = rest ++ p .after; bytes = p .bytes ∙ simp append-assoc; starts = p .starts }
@@ -39,7 +39,7 @@ module _ {m part : List ℕ} {at : ℕ} (p : PartAt m at part) (k : ℕ) (h : k 
       ∙ ap (λ (l : List ℕ). p .before ++ l) (take-append-le k part (p .after) h)
       ∙ ap (λ (l : List ℕ). l ++ take k part) (sym before)
 
--- The bytes that every block of a kind has.
+-- The number of bytes that every block of a kind has at least.
 abbrev pub least : BlockKind → ℕ
 least Song = 46
 least Instrument = 50
@@ -62,7 +62,7 @@ Sized kind block = length block ≡ sizeOf kind block 0
 pub sized-least : (kind : BlockKind) (block : List ℕ) → Sized kind block → least kind ≤ length block
 sized-least kind block s = rw s (size-least kind block 0)
 
--- The size that is read at the block's place is that in the block.
+-- The size that is read at the block's place is that read in the block.
 pub size-in-part : (kind : BlockKind) {m block : List ℕ} {at : ℕ} → PartAt m at block → least kind ≤ length block → sizeOf kind m at ≡ sizeOf kind block 0
 unfolding sizeOf
 size-in-part Song p h = rw (number16-at p 44 (omega arith))
@@ -78,7 +78,7 @@ module _ (kind : BlockKind) {m : List ℕ} where
   pub part-sized : {block : List ℕ} {at : ℕ} → PartAt m at block → length block ≡ sizeOf kind m at → Sized kind block
   part-sized {block} {at} p e = e ∙ size-in-part kind p (rw e (size-least kind m at))
 
--- No place before the first.
+-- The place after n blocks is not before the first.
 pub after-least : (size : ℕ → ℕ) (n at : ℕ) → at ≤ placeAfter size n at
 after-least size zero at = omega arith
 after-least size (suc n) at = omega (arith, after-least size n (at + size at))
@@ -86,7 +86,7 @@ after-least size (suc n) at = omega (arith, after-least size n (at + size at))
 pub after-first : (size : ℕ → ℕ) (n at first : ℕ) → size at ≡ first → placeAfter size (suc n) at ≡ placeAfter size n (at + first)
 after-first size n at first e = ap (λ (k : ℕ). placeAfter size n (at + k)) e
 
--- Data cut into so many blocks.
+-- Data cut into n blocks.
 pub record Cut (kind : BlockKind) (n : ℕ) (bytes : List ℕ) : Type 0 where
   pub blocks : List (List ℕ)
   pub number : length blocks ≡ n
@@ -125,7 +125,7 @@ cut kind m (suc n) at bytes p e =
       sized = also (part-sized kind (part-first block (drop size bytes) parts) block-size) (c .sized);
     }
 
--- Blocks lead to the end of their bytes.
+-- The place after all blocks is the end of their bytes.
 pub blocks-end : (kind : BlockKind) {m : List ℕ} {at : ℕ} (blocks : List (List ℕ)) → PartAt m at (joined blocks)
     → Every (Sized kind) blocks
     → placeAfter (sizeOf kind m) (length blocks) at ≡ at + length (joined blocks)
@@ -135,7 +135,7 @@ blocks-end kind {at = at} (block ∷ blocks) p (also s e) =
     ∙ blocks-end kind blocks (part-rest block (joined blocks) p) e
     ∙ omega (arith, length-append block (joined blocks))
 
--- Each block stands at its place.
+-- Each block is at its place.
 pub block-there : (kind : BlockKind) {m : List ℕ} {at : ℕ} (blocks : List (List ℕ)) (i : ℕ) → i < length blocks
     → PartAt m at (joined blocks) → Every (Sized kind) blocks
     → PartAt m (placeAfter (sizeOf kind m) i at) (getD blocks i [])
@@ -144,7 +144,7 @@ block-there kind (block ∷ blocks) zero h p e = part-first block (joined blocks
 block-there kind (block ∷ blocks) (suc i) h p (also s e) =
     rw (part-size kind (part-first block (joined blocks) p) s) (block-there kind blocks i (omega arith) (part-rest block (joined blocks) p) e)
 
--- What holds of every place holds of every block, and back.
+-- What holds for every place holds for every block, and conversely.
 module _ (kind : BlockKind) {m : List ℕ} {P : ℕ → Type 0} {Q : List ℕ → Type 0} where
   pub places-blocks : ((at : ℕ) (block : List ℕ) → PartAt m at block → Sized kind block → P at → Q block)
       → {at : ℕ} (blocks : List (List ℕ)) → PartAt m at (joined blocks) → Every (Sized kind) blocks

@@ -1,4 +1,4 @@
--- A part of a list, lent and given back: where it goes on to the list's end, and where it is written behind what is written already.
+-- A part of a list, lent and given back: it runs to the list's end, or it is written after what is written already.
 use Prim.Native.Nat.{ℕ, _+_, _-_, _≤_}
 use mathlib.Core.Path.{_≡_, sym, ap, _∙_}
 use mathlib.Core.List.{List, _++_, append-assoc, append-nil}
@@ -16,7 +16,7 @@ module _ (a : ℕ) (xs : List ℕ) where
       ap (λ (rest : List ℕ). take a xs ++ (ys ++ rest)) (drop-of-length-le (drop a xs) {i = length xs - a} (omega (arith, length-drop a xs)))
       ∙ ap (λ (rest : List ℕ). take a xs ++ rest) (append-nil ys)
 
--- What a copy of so many bytes to the front of a list leaves.
+-- The list after a copy to its front.
 pub copied : (source xs out first : List ℕ) → source ≡ xs → first ≡ take (length source) source ++ drop (length source) out → first ≡ xs ++ drop (length xs) out
 copied source xs out first same e = rw same at (e ∙ ap (λ (front : List ℕ). front ++ drop (length source) out) (take-all (length source) source (omega arith)))
 
@@ -45,6 +45,6 @@ module _ (front xs out₀ out mid : List ℕ) (a e : ℕ) (before : out ≡ fron
       ∙ ap (λ (l : List ℕ). front ++ l) (behind ∙ ap (λ (l : List ℕ). xs ++ l) last)
       ∙ sym (append-assoc front xs (drop (length (front ++ xs)) out₀))
 
--- The list keeps its length.
+-- The length of the list is unchanged.
 pub written-length : (xs out₀ out : List ℕ) → out ≡ xs ++ drop (length xs) out₀ → length xs ≤ length out₀ → length out ≡ length out₀
 written-length xs out₀ out e h = omega (arith, ap length e, length-append xs (drop (length xs) out₀), length-drop (length xs) out₀)

@@ -1,5 +1,5 @@
--- Where a module is accepted nothing is wrong with it: none of the faults of theorem 10 is there. Those of 11 to 15 are each the opposite of a
--- rule of a block, and there is one way only to take a chunk apart into blocks.
+-- An accepted module has none of the faults of theorem 10. Each fault of 11 to 15 is the opposite of a rule of a block, and a chunk can be
+-- cut into blocks in only one way.
 use Prim.Native.Nat.{ℕ, _≤_}
 use mathlib.Core.Path.{_≡_, refl, sym, ap, subst, _∙_}
 use mathlib.Core.Logic.{inl, inr}
@@ -41,7 +41,7 @@ use Rattle.acceptance.proofs.FaultlessChunks.{no-header-fault, no-versi
 use Rattle.acceptance.proofs.FaultlessChunks.{no-repeated-fault, no-order-fault, no-length-fault, no-info-fault}
 use Rattle.acceptance.proofs.FaultlessChunks.{no-missing-fault}
 
--- Fields.
+-- A field of a block for which the rules hold has no fault.
 no-envelope-fault : {n : ℕ} {ValueFits : ℕ → Type 0} {block : List ℕ} {offset : ℕ} → EnvelopeRules n ValueFits block → EnvelopeFault ValueFits block offset → ⊥
 no-envelope-fault r (EnvelopeFault.flags h) = absurd (omega (arith, r .flags))
 no-envelope-fault r (EnvelopeFault.sections h) = absurd (omega (arith, r .sections))
@@ -61,14 +61,14 @@ no-instrument-fault r (InstrumentFault.volume h) = absurd (omega (arith, r .volu
 no-instrument-fault r (InstrumentFault.panning h) = h (r .panning)
 no-instrument-fault r (InstrumentFault.flags h) = absurd (omega (arith, r .flags))
 
--- Blocks fill a chunk in one way only.
+-- Blocks fill a chunk in only one way.
 blocks-same : (kind : RecordKind) {info chunk : List ℕ} {xs ys : List (List ℕ)} → MadeOf kind info chunk xs → MadeOf kind info chunk ys → xs ≡ ys
 blocks-same kind {chunk = chunk} {xs = xs} {ys = ys} a b =
     let front = take (frontOf kind) chunk in
     let joins = split-same front front (joined xs) (joined ys) refl (sym (a .filled .bytes) ∙ b .filled .bytes) .1 in
     all-same (blocks-own (blockKindOf kind)) (every-of (sized-of kind) (a .sizes)) (every-of (sized-of kind) (b .sizes)) joins
 
--- The chunks are made of the blocks of the content.
+-- The chunks consist of the blocks of the content.
 module _ {header : List ℕ} {chunks : List (List ℕ)} {info song inst patt smpl : List ℕ} (c : Content header chunks info song inst patt smpl) where
   songs-made : MadeOf Song info song (c .songs)
   songs-made = record { filled = c .songsFill; sizes = every-of (λ block r. r .size) (c .songRules) }
@@ -112,7 +112,7 @@ module _ {m : List ℕ} (below : Bytes m) (accepted : moduleVerdict m ≡ Accept
       ∙ ap (λ (o : Outline). verdictOfOutline (contentIf m o)) (sym (found .1))
       ∙ accepted
 
-  -- The content, whichever chunks are taken for the four.
+  -- The content, for any chunks with the letters of the four.
   abbrev Holds : List ℕ → List ℕ → List ℕ → List ℕ → Type 0
   Holds song inst patt smpl = Content (all .header) (all .chunks) (all .info) song inst patt smpl
 
@@ -146,7 +146,7 @@ module _ {m : List ℕ} (below : Bytes m) (accepted : moduleVerdict m ≡ Accept
   no-blocks-fault VolumeEnvelope chunk a fault = fault .none _ (volume-made any-content a)
   no-blocks-fault PanningEnvelope chunk a fault = fault .none _ (panning-made any-content a)
 
-  -- What holds of all blocks of a chunk holds of the block at a place.
+  -- What holds for all blocks of a chunk holds for the block at a place.
   module _ {kind : RecordKind} {place : ℕ} (b : BlockBegins all kind place) {Q : List ℕ → Type 0} {list : List (List ℕ)} where
     block-has : MadeOf kind (all .info) (b .within .chunk) list → Every Q list → Q (b .block)
     block-has made every =
@@ -162,7 +162,7 @@ module _ {m : List ℕ} (below : Bytes m) (accepted : moduleVerdict m ≡ Accept
   RulesOf VolumeEnvelope block = EnvelopeRules (number16 (all .info) 8) VolumeFits block
   RulesOf PanningEnvelope block = EnvelopeRules (number16 (all .info) 8) (PanningValueFits (byteAt (all .header) 4)) block
 
-  -- Those of an instrument, with the samples of any chunk that is SMPL.
+  -- The rules of an instrument, with the samples of any chunk that is SMPL.
   module _ {place : ℕ} (b : BlockBegins all Instrument place) {smpl : List ℕ} (d : Is smplLetters smpl) {samples : List (List ℕ)} where
     instrument-rules : MadeOf Sample (all .info) smpl samples → InstrumentRules samples (b .block)
     instrument-rules made =
@@ -223,7 +223,7 @@ module _ {m : List ℕ} (below : Bytes m) (accepted : moduleVerdict m ≡ Accept
   no-place-in (loop at fault) = no-loop-fault at fault
   no-place-in (stream at fault) = no-stream-fault at fault
 
--- All of them.
+-- All of them: an accepted module has no fault at any place.
 pub accepted-faultless : (m : List ℕ) → Bytes m → moduleVerdict m ≡ Accepted → (r : Refusal) → PlaceOf m r → ⊥
 accepted-faultless m below accepted r place = go (accepted-exactly m below .0 accepted) place
   where

@@ -1,5 +1,5 @@
--- Where the rules of M2 to M9 hold, none of the faults of 1 to 10 is there (theorem 10). Each of them is the opposite of a rule, and there is
--- one way only to take a module apart into chunks.
+-- If M2 to M9 hold, the module has none of the faults of 1 to 10 (theorem 10). Each of them is the opposite of a rule, and a module can be
+-- cut into chunks in only one way.
 use Prim.Native.Nat.{ℕ, _+_, _/_, _%_, _≤_, _<_}
 use mathlib.Core.Path.{_≡_, refl, sym, ap, subst, _∙_}
 use mathlib.Core.Logic.{_⊎_, inl, inr}
@@ -53,12 +53,12 @@ module _ {m header : List ℕ} {chunks : List (List ℕ)} (c : ChunkRules m head
   no-version-fault (VersionFault.firstDigit h) = digit-never (byteAt header 5 / 16) (rw (byte-same 5 (omega arith)) at h) (c .revision .0)
   no-version-fault (VersionFault.secondDigit h) = digit-never (byteAt header 5 % 16) (rw (byte-same 5 (omega arith)) at h) (c .revision .1)
 
-  -- What is after a header and whole chunks are the other chunks.
+  -- After a header and whole chunks are the remaining chunks.
   module _ (front : List ℕ) (size : length front ≡ 8) where
     after-front : (rest : List ℕ) → m ≡ front ++ rest → joined chunks ≡ rest
     after-front rest e = split-same header front (joined chunks) rest (omega (arith, c .headerSize)) (sym (c .bytes) ∙ e) .1
 
-  -- A chunk's header begins where one of the chunks does.
+  -- A chunk's header begins where one of the chunks begins.
   module _ {place : ℕ} (at : HeaderAt m place) where
     record Next : Type 0 where
       chunk : List ℕ
@@ -103,7 +103,7 @@ module _ {m header : List ℕ} {chunks : List (List ℕ)} (c : ChunkRules m head
         subst IdentifierFault (sym (n .bytes)) fault .letters
         (λ i h. rw (byteAt-front (n .chunk) (joined (n .more)) i (omega arith)) (n .whole .letters i h))
 
-  -- A whole chunk begins where one of the chunks does, and is that one.
+  -- A whole chunk begins where one of the chunks begins, and is that chunk.
   module _ {place : ℕ} (at : ChunkBegins m place) where
     splits : (more : List (List ℕ)) × (chunks ≡ at .begins .before ++ (at .chunk ∷ more))
     splits =

@@ -49,7 +49,7 @@ module _ {m : List ℕ} {l : Layout} (o : Outlined m l) where
   abbrev infoBytes : List ℕ
   infoBytes = all-chunks o .info
 
-  -- At an offset of a block.
+  -- The fault at an offset of a block.
   module _ {kind : RecordKind} {at : ℕ} (b : Begins o kind at) where
     abbrev block : List ℕ
     block = b .here .block
@@ -83,7 +83,7 @@ module _ {m : List ℕ} {l : Layout} (o : Outlined m l) where
         broken-each (entryRules m (l .patterns))
         (every-step _ 2 (songLength m at) (at + 46) .1 (λ i h. this-or (entry-placed i h) (λ _. no-rule)))
 
-  -- An instrument: its sample, and volume, panning and flags.
+  -- An instrument: its sample, volume, panning and flags.
   module _ (at : ℕ) (b : Begins o Instrument at) where
     module _ (k : ℕ) (low : k < 49) where
       number-is : number16 m (at + k) ≡ number16 (block b) k
@@ -109,7 +109,7 @@ module _ {m : List ℕ} {l : Layout} (o : Outlined m l) where
         this-or (number-placed 48 (lit< tt) (λ v. ltb v 4) (λ e. InstrumentFault.flags (ltb-false (number16 (block b) 48) 4 e))) λ _.
         no-rule
 
-  -- Envelopes: what is wrong in one, as what is wrong in one of volume or of panning; and what its values have to be.
+  -- Envelopes: a fault of an envelope as a fault of a volume or panning envelope, and the range of its values.
   record Enveloped (kind : RecordKind) (signed : Bool) (ValueFits : ℕ → Type 0) : Type 0 where
     blockKind : blockKindOf kind ≡ Envelope
     absent : chunkOf l kind .present ≡ false → countOf m l kind ≡ 0
@@ -169,7 +169,7 @@ module _ {m : List ℕ} {l : Layout} (o : Outlined m l) where
         this-or (byte-placed 3 (lit< tt) (λ v. leb v 31) (λ e. EnvelopeFault.sections (leb-false (byteAt (block b) 3) 31 e))) λ _.
         no-rule
 
-    -- S1, L1, L2 and S2, by the flags and the sections.
+    -- S1, L1, L2 and S2, depending on the flags and the sections.
     module _ (flags sections : ℕ) (f : flags ≡ byteAt (block b) 2) (g : sections ≡ byteAt (block b) 3) where
       module _ (k : ℕ) (low : k < 8) (bit : Bool) (fault : bit ≡ true → byteAt (block b) 3 < byteAt (block b) k → EnvelopeFault ValueFits (block b) k) where
         point-placed : not bit || leb (byteAt m (at + k)) sections ≡ false → RangeAt (at + k)
@@ -209,7 +209,7 @@ module _ {m : List ℕ} {l : Layout} (o : Outlined m l) where
           this-or (point-placed 7 (lit< tt) (bit3 flags) (λ set. EnvelopeFault.secondSustain (second-set set))) λ _.
           no-rule
 
-      -- The values, of which there are at most 32.
+      -- The values, at most 32.
       module _ (h : sections ≤ 31) where
         value-fault : (i : ℕ) → i < sections + 1 → valueFits signed (number16 (block b) (10 + 4 * i)) ≡ false → EnvelopeFault ValueFits (block b) (10 + 4 * i)
         value-fault i low e = EnvelopeFault.value i (omega arith) (omega arith) (never (is .says (number16 (block b) (10 + 4 * i))) e)
@@ -224,7 +224,7 @@ module _ {m : List ℕ} {l : Layout} (o : Outlined m l) where
             broken-each (valueRules m signed)
             (every-step _ 4 (sections + 1) (at + 8) .1 (λ i low. this-or (value-placed i low) (λ _. no-rule)))
 
-    -- The values are looked at only where the sections fit.
+    -- The values are checked only if the sections fit.
     envelope-placed : WhereBroken (Placed m) (envelopeRules m (l .instruments) signed at)
     envelope-placed =
         let f = byte-is 2 (lit< tt) in
@@ -234,7 +234,7 @@ module _ {m : List ℕ} {l : Layout} (o : Outlined m l) where
         broken-append (points-placed (envelopeFlags m at) (envelopeSections m at) f g) λ _.
         values-placed (envelopeFlags m at) (envelopeSections m at) f g fits
 
-  -- The blocks of a thing, where they fill their chunk.
+  -- The blocks of a record kind, if they fill their chunk.
   module _ (fill : BlocksHold m l) where
     module _ (kind : RecordKind) (rulesAt : ℕ → List Rule) where
       abbrev EachPlaced : Type 0
@@ -243,7 +243,7 @@ module _ {m : List ℕ} {l : Layout} (o : Outlined m l) where
       pub each-placed : There (o .chunks) (lettersOf kind) → ((at : ℕ) → Begins o kind at → WhereBroken (Placed m) (rulesAt at)) → EachPlaced
       each-placed there h = broken-each rulesAt (every-of h (each-begins o fill kind there))
 
-    -- Envelopes, where their chunk is there.
+    -- Envelopes, if their chunk is present.
     module _ {kind : RecordKind} {signed : Bool} {ValueFits : ℕ → Type 0} (is : Enveloped kind signed ValueFits) where
       envelopes-placed : EachPlaced kind (envelopeRules m (l .instruments) signed)
       envelopes-placed = go (chunkOf l kind .present) refl

@@ -1,5 +1,5 @@
--- Chunks filled by blocks: where the blocks that the check counts end exactly with the chunk's data, the chunk is its front and so
--- many blocks, and back.
+-- Chunks filled by blocks: the blocks that the check counts end exactly with the chunk's data if and only if the chunk is its front and
+-- that many blocks.
 use Prim.Native.Nat.{ℕ, _+_, _≤_}
 use mathlib.Core.Path.{_≡_, refl, sym, ap, _∙_}
 use mathlib.Core.Logic.{_↔_}
@@ -19,14 +19,14 @@ use Rattle.acceptance.proofs.Locating.{PartAt}
 use Rattle.acceptance.proofs.ChunkHalf.{span-part}
 use Rattle.acceptance.proofs.Cutting.{Sized, after-least, part-first, part-rest, part-size, Cut, cut, blocks-end, places-blocks, blocks-places}
 
--- So many blocks fill a chunk behind its front, and stand in the module from this place on.
+-- The given number of blocks fill a chunk after its front, and are in the module from this place on.
 pub record BlocksIn (kind : BlockKind) (m : List ℕ) (start front : ℕ) (chunk : List ℕ) (count : ℕ) (blocks : List (List ℕ)) : Type 0 where
   pub filled : Filled front chunk count blocks
   pub there : PartAt m start (joined blocks)
   pub sized : Every (Sized kind) blocks
 
 module _ {m chunk : List ℕ} {span : ChunkSpan} (s : SpanHolds m span chunk) where
-  -- What stands behind the front.
+  -- The bytes of the chunk after its front.
   after-front : (front : ℕ) (rest : List ℕ) → front ≤ length chunk → chunk ≡ take front chunk ++ rest → PartAt m (span .at + front) rest
   after-front front rest h e =
       let size : length (take front chunk) ≡ front = length-take-le front chunk h in
@@ -70,7 +70,7 @@ module _ {m chunk : List ℕ} {span : ChunkSpan} (s : SpanHolds m span chunk) wh
           ∙ ap (λ (n : ℕ). n + length (joined blocks)) (length-take-le front chunk (b .filled .fronts)) in
           (rw (b .filled .number) at end) ∙ omega (arith, s .size, long)
 
--- What holds at the places of the blocks holds of the blocks, and back.
+-- What holds at the places of the blocks holds for the blocks, and conversely.
 pub blocks-every : {kind : BlockKind} {m : List ℕ} {start front : ℕ} {chunk : List ℕ} {count : ℕ} {blocks : List (List ℕ)}
     {P : ℕ → Type 0} {Q : List ℕ → Type 0}
     → BlocksIn kind m start front chunk count blocks
@@ -81,7 +81,7 @@ blocks-every {kind} {blocks = blocks} b h = rw (← b .filled .number) (
   blocks-places kind (λ at block p s. h at block p s .1) blocks (b .there) (b .sized),
 )
 
--- One of some blocks, which begin one after the other at a start: the blocks before it and after it, and its place.
+-- One block in a list of blocks that begin at a start: the blocks before it and after it, and its place.
 pub record OneBlock (kind : BlockKind) (m : List ℕ) (start : ℕ) (blocks : List (List ℕ)) (at : ℕ) : Type 0 where
   pub before : List (List ℕ)
   pub block : List ℕ
@@ -91,7 +91,7 @@ pub record OneBlock (kind : BlockKind) (m : List ℕ) (start : ℕ) (blocks : Li
   pub sized : Sized kind block
   pub there : start + length (joined before) ≡ at
 
--- At each place there is one.
+-- At each place of a block there is such a block.
 module _ (kind : BlockKind) (m : List ℕ) (start : ℕ) where
   abbrev EachFrom : List (List ℕ) → List (List ℕ) → ℕ → Type 0
   EachFrom first blocks at = Every (OneBlock kind m start (first ++ blocks)) (placesFrom (sizeOf kind m) (length blocks) at)

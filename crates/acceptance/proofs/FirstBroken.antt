@@ -1,5 +1,5 @@
--- What holds of the refusal of the first rule that does not hold: it is enough to show it rule by rule, where the rules before hold
--- and this one does not.
+-- What holds for the refusal of the first rule that does not hold. It is enough to prove it rule by rule: for each rule that does not hold,
+-- if the rules before it hold.
 use Prim.Native.Nat.{ℕ}
 use mathlib.Core.Path.{_≡_, refl, sym, subst, _∙_}
 use mathlib.Core.Logic.{_↔_}
@@ -13,7 +13,7 @@ use Rattle.refusal.specs.declared.Refusal.{Refusal}
 use Rattle.refusal.specs.declared.Verdict.the-variants.{Refused}
 use Rattle.acceptance.proofs.Holding.{false-never, AllHold}
 
--- Rule by rule: of this one's refusal, where it does not hold, and of those behind it, where it does.
+-- Rule by rule: P holds for the refusal of the first rule if that does not hold, and for those of the rules after it if it does.
 pub data WhereBroken (P : Refusal → Type 0) : List Rule → Type 0 where
   no-rule : WhereBroken P []
   this-or : {r : Rule} {rules : List Rule} → (r .holds ≡ false → P (refusal (r .reason) (r .place)))
@@ -31,7 +31,7 @@ module _ {P : Refusal → Type 0} where
       go true h ih e = ih h e
       go false h ih e = let same : refusal (rule .reason) (rule .place) ≡ r = cc in subst P same (this h)
 
-  -- Of joined lists, of rules that only some places have, and of the rules of each place.
+  -- For appended lists, for rules that only some places have, and for the rules of each place.
   pub broken-append : {xs ys : List Rule} → WhereBroken P xs → (AllHold xs → WhereBroken P ys) → WhereBroken P (xs ++ ys)
   broken-append no-rule then = then none
   broken-append (this-or this more) then = this-or this (λ h. broken-append (more h) (λ hold. then (also h hold)))
@@ -44,7 +44,7 @@ module _ {P : Refusal → Type 0} where
   broken-each rulesAt none = no-rule
   broken-each rulesAt (also each more) = broken-append each (λ hold. broken-each rulesAt more)
 
--- What a broken test says: what it would take to hold is not so; and which of two tests is broken.
+-- What a broken test implies: the condition that it tests is false; and which of two tests is broken.
 pub never : {test : Bool} {P : Type 0} → (test ≡ true) ↔ P → test ≡ false → P → ⊥
 never says broken p = false-never (sym broken ∙ says .1 p)
 

@@ -1,5 +1,5 @@
--- The rules of one chunk, as the check computes them from the module's bytes at a place, and as the rules state them of the chunk's
--- own bytes behind the chunks before it.
+-- The rules of one chunk, as the check computes them from the module's bytes at a place, and as the rules state them for the chunk's own
+-- bytes after the chunks before it.
 use Prim.Native.Nat.{ℕ, zero, suc, _+_, _≤_, _<_}
 use mathlib.Core.Path.{_≡_, refl}
 use mathlib.Core.Logic.{_↔_, Iff·rfl}
@@ -21,7 +21,7 @@ use Rattle.acceptance.proofs.Holding.{leb-says, eqb-says, and-says, unl
 use Rattle.acceptance.proofs.Identifiers.{chunk-named, covered-holds, covered-letters, needing, needing-holds, needing-letters}
 use Rattle.acceptance.proofs.Recorded.{recordsFrom, There, occurs-says}
 
--- M5 to M9, of one chunk behind those before it.
+-- M5 to M9, for one chunk after those before it.
 pub record ChunkFits (before : List (List ℕ)) (chunk : List ℕ) : Type 0 where
   pub bytes : IsChunk chunk
   pub once : (letters : List ℕ) → Covered letters → take 4 chunk ≡ letters → There before letters → ⊥
@@ -46,7 +46,7 @@ letters-say m at =
     forth h (suc (suc (suc zero))) l = (simp (and-says, leb-says) at h) .1 .1 .1
     forth h (suc (suc (suc (suc i)))) l = absurd (omega arith)
 
--- A chunk of the module, whole.
+-- A whole chunk of the module.
 module _ {m : List ℕ} {at : ℕ} {chunk : List ℕ} (part : PartAt m at chunk) (size : length chunk ≡ 8 + number32 chunk 4) where
   pub identifier-is : number32 m at ≡ number32 chunk 0
   identifier-is = number32-start part (omega arith)
@@ -60,7 +60,7 @@ module _ {m : List ℕ} {at : ℕ} {chunk : List ℕ} (part : PartAt m at chunk)
     λ h. letters-say m at .1 (λ i l. rw (byteAt-at part i (omega arith)) (h i l)),
   )
 
--- M9: the numbers of infoIdentifier.
+-- M9: the numbers of INFO.
 module _ {m : List ℕ} {at : ℕ} {chunk : List ℕ} (part : PartAt m at chunk) (long : length chunk ≡ 18) where
   pub info-number : (k : ℕ) → k < 9 → number16 m (at + 8 + k) ≡ number16 chunk (8 + k)
   info-number k h = rw add-assoc (number16-at part (8 + k) (omega arith))
@@ -100,7 +100,7 @@ module _ {m : List ℕ} {at : ℕ} {chunk : List ℕ} (part : PartAt m at chunk)
           simp (at8, at10, at12, at14, at16, plain)
           (r .instruments, (r .samples, (r .songs, (r .patterns, (r .tracks .0, (r .tracks .1, r .tracks .2))))))
 
--- M6, M7: what the tests on the chunks before say.
+-- M6, M7: what the tests on the earlier chunks state.
 never-both : (a b : Bool) → (not (a && b) ≡ true) ↔ (a ≡ true → b ≡ true → ⊥)
 never-both true true = (λ h p q. false-never h, λ h. absurd (h refl refl))
 never-both true false = (λ h p q. false-never q, λ h. refl)
@@ -125,7 +125,7 @@ module _ (start : ℕ) {before : List (List ℕ)} {chunk : List ℕ} (every : Ev
         occurs-says Covered.info start every .1 (h letters needs (chunk-named c (needing needs) .0 e)),
   )
 
--- M8, M9: the lengths of NAME and of infoIdentifier.
+-- M8, M9: the lengths of NAME and of INFO.
 module _ {m : List ℕ} {at : ℕ} {chunk : List ℕ} (part : PartAt m at chunk) (c : IsChunk chunk) where
   lengths-say : (lengthFits (chunkAt m at) ≡ true) ↔ ((take 4 chunk ≡ nameLetters → length chunk ≡ 52) × (take 4 chunk ≡ infoLetters → length chunk ≡ 18))
   lengths-say =
@@ -145,7 +145,7 @@ module _ {m : List ℕ} {at : ℕ} {chunk : List ℕ} (part : PartAt m at chunk)
   info-if-named : AllHold (cond (eqb (number32 m at) infoIdentifier) (infoRules m (at + 8)) []) ↔ (take 4 chunk ≡ infoLetters → AllHold (infoRules m (at + 8)))
   info-if-named = simp (hold-if, eqb-says, identifier-is part (c .size), chunk-named c Covered.info) Iff·rfl
 
--- All the rules of a chunk, both ways.
+-- All rules of a chunk, in both directions.
 module _ (start : ℕ) {before : List (List ℕ)} (every : Every IsChunk before) {m : List ℕ} {at : ℕ} {chunk : List ℕ} (part : PartAt m at chunk) where
   pub rules-fit : length chunk ≡ 8 + number32 chunk 4 → AllHold (chunkRules m (recordsFrom start before) at) → ChunkFits before chunk
   rules-fit size hold =

@@ -1,4 +1,4 @@
--- The rules of the header, as the check computes them from the module and as the rules state them of the header's own 8 bytes.
+-- The rules of the header, as the check computes them from the module and as the rules state them for the header's own 8 bytes.
 use Prim.Native.Nat.{ℕ, _/_, _%_, _≤_, _<_}
 use mathlib.Core.Path.{_≡_, refl, sym, ap, _∙_}
 use mathlib.Core.Logic.{_↔_, _⊎_, inl, inr}

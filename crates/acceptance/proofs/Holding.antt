@@ -1,5 +1,5 @@
--- Rules that hold. Nothing is refused exactly when every rule of a list holds; of joined lists, and of the rules of many places,
--- it is said part by part. And what a test says in plain words.
+-- Rules that hold. Nothing is refused exactly if every rule of a list holds. For appended lists, and for the rules of many places, this is
+-- stated part by part. Also what each test states as a proposition.
 use Prim.Native.Nat.{ℕ, zero, suc, _+_, _*_, _≤_, _<_}
 use mathlib.Core.Path.{_≡_, refl, _∙_}
 use mathlib.Core.Logic.{_↔_}
@@ -54,7 +54,7 @@ each-hold rulesAt (at ∷ places) = (
   λ e. every-append (rulesAt at) (rulesOfEach rulesAt places) .1 (every-first e, each-hold rulesAt places .1 (every-rest e)),
 )
 
--- Every one of the places of blocks that stand one behind the other; and of such at one distance from each other.
+-- Every place of blocks one after the other; and of blocks at equal distances.
 pub every-place : (P : ℕ → Type 0) (size : ℕ → ℕ) (n start : ℕ) → Every P (placesFrom size n start) ↔ ((i : ℕ) → i < n → P (placeAfter size i start))
 every-place P size zero start = (λ e i h. absurd (omega arith), λ e. none)
 every-place P size (suc n) start = (
@@ -78,5 +78,5 @@ every-step P step n start = (
   λ h. every-place P (λ at. step) n start .1 (λ i l. rw (after-step step i start) (h i l)),
 )
 
--- What the rules of a list say in plain words.
+-- The rules of a list as propositions.
 pub ruleset plain = (every-append, every-one, every-more, leb-says, ltb-says, eqb-says, and-says, unless-says)

@@ -1,5 +1,5 @@
--- The identifier of a chunk as four letters, which the rules speak of, and as one number, which the check compares: each says the
--- other, since no letter is 256 or more.
+-- The identifier of a chunk as four letters, which the rules use, and as one number, which the check compares. The two are equivalent,
+-- since every letter is under 256.
 use Prim.Native.Nat.{ℕ, zero, suc, _≤_, _<_}
 use mathlib.Core.Path.{_≡_, refl, sym, ap, _∙_}
 use mathlib.Core.Logic.{_↔_}
@@ -23,7 +23,7 @@ pub record FourBytes (letters : List ℕ) : Type 0 where
   pub size : length letters ≡ 4
   pub below : (i : ℕ) → i < 4 → byteAt letters i < 256
 
--- So it can be computed.
+-- A test for this, which can be computed.
 abbrev allBelow : List ℕ → Bool
 allBelow [] = true
 allBelow (b ∷ bs) = ltb b 256 && allBelow bs
@@ -39,7 +39,7 @@ four-bytes letters h =
     let both = and-says (eqb (length letters) 4) (allBelow letters) .0 h in
     record { size = eqb-true (length letters) 4 (both .0); below = λ i l. below-at letters (both .1) i }
 
--- Four bytes are known by their number.
+-- Four bytes are determined by their number.
 module _ (xs letters : List ℕ) (long : 4 ≤ length xs) (bytes : (i : ℕ) → i < 4 → byteAt xs i < 256) (four : FourBytes letters) where
   halves-same : number32 xs 0 ≡ number32 letters 0 → (number16 xs 0 ≡ number16 letters 0) × (number16 xs 2 ≡ number16 letters 2)
   unfolding number32 number16
@@ -67,7 +67,7 @@ module _ (xs letters : List ℕ) (long : 4 ≤ length xs) (bytes : (i : ℕ) →
 pub letters-number : (xs letters : List ℕ) → take 4 xs ≡ letters → number32 xs 0 ≡ number32 letters 0
 letters-number xs letters e = sym (number32-take 4 xs 0 (omega arith)) ∙ ap (λ (l : List ℕ). number32 l 0) e
 
--- The identifier of a covered chunk, as the check has it.
+-- The identifier of a covered chunk, as the check uses it.
 abbrev pub identifierOf : {letters : List ℕ} → Covered letters → ℕ
 identifierOf Covered.name = nameIdentifier
 identifierOf Covered.info = infoIdentifier
@@ -78,7 +78,7 @@ identifierOf Covered.smpl = smplIdentifier
 identifierOf Covered.venv = venvIdentifier
 identifierOf Covered.penv = penvIdentifier
 
--- What is computed of each of them: its letters are four bytes, whose number is the identifier, which the check takes for covered.
+-- What is computed for each of them: its letters are four bytes, their number is the identifier, and the check treats it as covered.
 record Identifies (letters : List ℕ) (identifier : ℕ) : Type 0 where
   four : eqb (length letters) 4 && allBelow letters ≡ true
   number : number32 letters 0 ≡ identifier
@@ -95,18 +95,18 @@ covered-identified Covered.smpl = record { four = refl; number = refl; taken = r
 covered-identified Covered.venv = record { four = refl; number = refl; taken = refl }
 covered-identified Covered.penv = record { four = refl; number = refl; taken = refl }
 
--- A chunk has that identifier exactly where it has those letters.
+-- A chunk has that identifier exactly if it has those letters.
 pub chunk-named : {chunk letters : List ℕ} → IsChunk chunk → (covers : Covered letters) → (number32 chunk 0 ≡ identifierOf covers) ↔ (take 4 chunk ≡ letters)
 chunk-named {chunk} {letters} c covers = rw (← covered-identified covers .number) (
   number-letters chunk letters (omega (arith, c .size)) (λ i h. omega (arith, c .letters i h .1)) (four-bytes letters (covered-identified covers .four)),
   letters-number chunk letters,
 )
 
--- The check takes exactly these identifiers for covered.
+-- The check treats exactly these identifiers as covered.
 pub covered-holds : {letters : List ℕ} (covers : Covered letters) → covered (identifierOf covers) ≡ true
 covered-holds covers = covered-identified covers .taken
 
--- The four that infoIdentifier stands before are covered.
+-- The four that come after INFO are covered.
 abbrev pub needing : {letters : List ℕ} → NeedsInfo letters → Covered letters
 needing NeedsInfo.song = Covered.song
 needing NeedsInfo.inst = Covered.inst

@@ -1,5 +1,5 @@
--- The numbers of a part of a list of bytes are those that stand at its place in the whole: of a part anywhere, of the front, of the
--- end, of what `take` leaves and of what `drop` leaves.
+-- The numbers of a part of a list of bytes are those at its place in the whole: for a part anywhere, for the front, for the end, and for
+-- the results of `take` and `drop`.
 use Prim.Native.Nat.{ℕ, _+_, _≤_, _<_}
 use mathlib.Core.Path.{_≡_, refl, sym, ap, _∙_}
 use mathlib.Core.List.{List, _++_, append-assoc}
@@ -10,7 +10,7 @@ use lib.Seq.{length-take-le, take-at, drop-at, getD-append-add, getD-take, getD-
 use Rattle.numbers.specs.Numbers.{byteAt, number16, number32, partOf, bytes16, bytes32}
 use Rattle.numbers.proofs.Stored.{bytes16-again, bytes32-again}
 
--- Numbers agree where their bytes do, so many bytes from two places on.
+-- Numbers agree if their bytes do: `size` bytes from two places on.
 module _ (xs ys : List ℕ) (at to size : ℕ) (same : (i : ℕ) → i < size → byteAt xs (at + i) ≡ byteAt ys (to + i)) where
   pub same-number16 : (k : ℕ) → k + 2 ≤ size → number16 xs (at + k) ≡ number16 ys (to + k)
   unfolding number16
@@ -61,7 +61,7 @@ module _ (xs ys zs : List ℕ) where
   pub number32-part : (k : ℕ) → k + 4 ≤ length ys → number32 (xs ++ (ys ++ zs)) (length xs + k) ≡ number32 ys k
   number32-part k h = number32-after xs (ys ++ zs) k ∙ number32-front ys zs k h
 
--- What `take` leaves.
+-- The result of `take`.
 module _ (n : ℕ) (xs : List ℕ) where
   pub byteAt-take : (k : ℕ) → k < n → byteAt (take n xs) k ≡ byteAt xs k
   unfolding byteAt
@@ -76,7 +76,7 @@ module _ (n : ℕ) (xs : List ℕ) where
   pub number32-take : (k : ℕ) → k + 4 ≤ n → number32 (take n xs) k ≡ number32 xs k
   number32-take k h = rw zero-add at (same-number32 (take n xs) xs 0 0 n taken k h)
 
--- What `drop` leaves.
+-- The result of `drop`.
 module _ (n : ℕ) (xs : List ℕ) where
   pub byteAt-drop : (k : ℕ) → byteAt (drop n xs) k ≡ byteAt xs (n + k)
   unfolding byteAt
@@ -91,14 +91,14 @@ module _ (n : ℕ) (xs : List ℕ) where
   pub number32-drop : (k : ℕ) → number32 (drop n xs) k ≡ number32 xs (n + k)
   number32-drop k = rw zero-add at (same-number32 (drop n xs) xs 0 n (k + 4) (λ i h. left i) k (omega arith))
 
--- These bytes stand at a place of the module.
+-- These bytes are at a place of the module.
 pub record PartAt (m : List ℕ) (at : ℕ) (part : List ℕ) : Type 0 where
   pub before : List ℕ
   pub after : List ℕ
   pub bytes : m ≡ before ++ (part ++ after)
   pub starts : length before ≡ at
 
--- The numbers of the part, by its place; the first ones by the place itself.
+-- The numbers of the part, by their offset in it; the first ones at the place itself.
 module _ {m : List ℕ} {at : ℕ} {part : List ℕ} (p : PartAt m at part) where
   pub byteAt-at : (k : ℕ) → k < length part → byteAt m (at + k) ≡ byteAt part k
   byteAt-at k h = rw (p .bytes, ← p .starts) (byteAt-part (p .before) part (p .after) k h)
@@ -125,7 +125,7 @@ module _ {m : List ℕ} {at : ℕ} {part : List ℕ} (p : PartAt m at part) wher
   pub part-is : partOf m at (length part) ≡ part
   part-is = rw (p .bytes, drop-at (p .before) (part ++ p .after) at (p .starts)) (take-at part (p .after) (length part) refl)
 
--- A part that does not run past the end stands at its place, whole.
+-- A part that does not run past the end is at its place, whole.
 module _ (m : List ℕ) (at n : ℕ) (fits : at + n ≤ length m) where
   pub part-length : length (partOf m at n) ≡ n
   part-length = length-take-le n (drop at m) (simp length-drop (omega arith))
@@ -147,7 +147,7 @@ part-of-part {m} {part} {inner} p q = record {
   starts = rw (length-append, p .starts, q .starts);
 }
 
--- A number stored as two bytes, or as four, and read again.
+-- A number stored as two bytes, or as four, and read back.
 pub bytes16-number : (n : ℕ) (front rest : List ℕ) → number16 (front ++ (bytes16 n ++ rest)) (length front) ≡ n
 bytes16-number n front rest = rw add-zero at (number16-part front (bytes16 n) rest 0 (omega arith)) ∙ bytes16-again n
 

@@ -1,5 +1,5 @@
--- Parts that say their own length: a list of bytes is joined from such parts in one way only. Chunks are such parts, and so are the blocks
--- of a kind.
+-- Parts that state their own length: a list of bytes is made of such parts in only one way. Chunks are such parts, and so are the blocks of
+-- one kind.
 use Prim.Native.Nat.{ℕ, _<_}
 use mathlib.Core.Path.{_≡_, refl, sym, ap, _∙_}
 use mathlib.Core.List.{List, [], _∷_, _++_, append-assoc, append-nil}
@@ -28,7 +28,7 @@ pub record OwnLength (P : List ℕ → Type 0) : Type 0 where
   pub same : (a b xs ys : List ℕ) → P a → P b → a ++ xs ≡ b ++ ys → length a ≡ length b
 
 module _ {P : List ℕ → Type 0} (own : OwnLength P) where
-  -- What is left of some parts, after those before it.
+  -- The parts that remain after those before them.
   abbrev pub Left : List (List ℕ) → List (List ℕ) → List ℕ → Type 0
   Left parts before after = (rest : List (List ℕ)) × (parts ≡ before ++ rest) × (joined rest ≡ after)
 

@@ -1,4 +1,4 @@
--- A module that is accepted opens: its layout is that of whole chunks, and the rules for its content all hold.
+-- An accepted module opens: its layout is that of whole chunks, and all rules for its content hold.
 use Prim.Native.Nat.{ℕ}
 use mathlib.Core.Path.{_≡_, refl}
 use mathlib.Core.List.{List}
@@ -16,7 +16,7 @@ use Rattle.acceptance.proofs.Holding.{accepted-hold}
 use Rattle.acceptance.proofs.ContentRules.{ContentHolds, content-hold}
 use Rattle.acceptance.proofs.WholeChunks.{SpansWhole, outline-places}
 
--- A module that is accepted opens, and one that is refused does not.
+-- An accepted module opens, and a refused one does not.
 pub accepted-opens : (m : List ℕ) → moduleVerdict m ≡ Accepted → (l : Layout) × (opened m ≡ Opened l)
 accepted-opens m = go (opened m) refl
   where
@@ -31,7 +31,7 @@ refused-opens m r = go (opened m) refl
     go (Opened l) h e = let z : _≡_ {A = ℕ} 0 1 = cc in absurd (omega arith)
     go (OpeningRefused s) h e = cc
 
--- A module that opens: its layout is that of whole chunks, and the rules for its content all hold.
+-- A module that opens: its layout is that of whole chunks, and all rules for its content hold.
 pub record Opens (m : List ℕ) (l : Layout) : Type 0 where
   pub outlined : outline m ≡ Opened l
   pub spans : SpansWhole m l

@@ -1,5 +1,5 @@
--- Induction along the outline of a module: what holds where a rule of the header is broken, where a rule of a chunk is, where all
--- chunks are read and a mandatory one is missing, and where none is, holds of every outline.
+-- Induction along the outline of a module. What holds if a rule of the header is broken, if a rule of a chunk is, if all chunks are read
+-- and a mandatory one is missing, and if none is, holds for every outline.
 use Prim.Native.Nat.{ℕ, _<_}
 use mathlib.Core.Path.{_≡_, refl}
 use mathlib.Core.List.{List, [], _++_}
@@ -28,7 +28,7 @@ pub record AllRead (m : List ℕ) (all : List (List ℕ)) : Type 0 where
   pub bytes : m ≡ take 8 m ++ joined all
   pub turn : InTurn [] all
 
--- What is shown of each way that an outline can come out.
+-- What has to be proved for each result of an outline.
 pub record EachOutline (m : List ℕ) (P : Outline → Type 0) : Type 0 where
   pub header : (r : Refusal) → firstBroken (headerRules m) ≡ VerdictRefused r → P (Refused r)
   pub chunk : (before : List (List ℕ)) (at : ℕ) → Reached m (take 8 m) before at → at < length m

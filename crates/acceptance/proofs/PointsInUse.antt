@@ -1,4 +1,4 @@
--- An envelope whose rules hold: how many sections it has at the most, and that the values of its points in use fit.
+-- An envelope for which the rules hold: its sections are at most 31, and the values of its points in use fit.
 use Prim.Native.Nat.{ℕ, _+_, _*_, _≤_}
 use mathlib.Core.Path.{_≡_}
 use mathlib.Core.List.{List}

@@ -1,5 +1,5 @@
--- What the check records of chunks that stand one behind the other from a place on, and that it finds a chunk among its records
--- exactly where a chunk with those letters stands among the chunks.
+-- The headers that the check records for chunks one after the other from a place on. It finds a chunk among them exactly if a chunk with
+-- those letters is among the chunks.
 use Prim.Native.Nat.{ℕ, _+_}
 use mathlib.Core.Path.{_≡_, refl, ap}
 use mathlib.Core.Logic.{_↔_}
@@ -19,7 +19,7 @@ use Rattle.layout.specs.Outlines.{standing, spanOf}
 use Rattle.acceptance.specs.Rules.{IsChunk, Among, Covered}
 use Rattle.acceptance.proofs.Identifiers.{identifierOf, chunk-named}
 
--- The record of a chunk at a place, and of chunks one behind the other.
+-- The header that the check records for a chunk at a place, and those for chunks one after the other.
 abbrev pub recorded : ℕ → List ℕ → ChunkHeader
 recorded at chunk = record { identifier = number32 chunk 0; at = at; length = number32 chunk 4 }
 
@@ -41,14 +41,14 @@ among-front chunk chunks e = record { before = []; after = chunks; splits = refl
 pub every-among : {chunks : List (List ℕ)} {letters chunk : List ℕ} → Every IsChunk chunks → Among chunks letters chunk → IsChunk chunk
 every-among {chunk = chunk} every a = every-first (every-append (a .before) (chunk ∷ a .after) .0 (rw (a .splits) at every) .1)
 
--- A chunk that stands among the chunks of the rules is one of a list.
+-- A chunk that is among the chunks is an element of their list.
 pub among-within : {chunks : List (List ℕ)} {letters chunk : List ℕ} → Among chunks letters chunk → Within chunks chunk
 among-within a = record { before = a .before; after = a .after; splits = a .splits }
 
 pub within-among : {chunks : List (List ℕ)} {letters chunk : List ℕ} → Within chunks chunk → take 4 chunk ≡ letters → Among chunks letters chunk
 within-among w named = record { before = w .before; after = w .after; splits = w .splits; named = named }
 
--- A chunk with these letters stands among the chunks.
+-- There is a chunk with these letters among the chunks.
 abbrev pub There : List (List ℕ) → List ℕ → Type 0
 There chunks letters = (chunk : List ℕ) × Among chunks letters chunk
 
@@ -78,7 +78,7 @@ module _ {letters : List ℕ} (covers : Covered letters) where
     λ (chunk, a). rw (a .splits) (occurs-after at (a .before) (a .after) chunk (chunk-named (every-among every a) covers .1 (a .named))),
   )
 
-  -- The place that the check finds is that of the first chunk with these letters.
+  -- The span that the check finds is that of the first chunk with these letters.
   pub place-of-first : (at : ℕ) {before : List (List ℕ)} (chunk : List ℕ) (after : List (List ℕ)) → Every IsChunk before
       → number32 chunk 0 ≡ identifierOf covers → (There before letters → ⊥)
       → spanOf (identifierOf covers) (recordsFrom at (before ++ (chunk ∷ after))) ≡ standing (recorded (at + length (joined before)) chunk)
@@ -89,7 +89,7 @@ module _ {letters : List ℕ} (covers : Covered letters) where
       let ih = place-of-first (at + length first) chunk after every e (λ there. not-before (there .0, among-after first (there .1))) in
       rw (other, ih, length-append) (simp add-assoc)
 
--- The place of a chunk is present exactly where the chunk occurs.
+-- The span of a chunk is present exactly if the chunk occurs.
 pub present-occurs : (n : ℕ) (records : List ChunkHeader) → spanOf n records .present ≡ occurs n records
 present-occurs n [] = refl
 present-occurs n (c ∷ records) = go (eqb (c .identifier) n) refl (present-occurs n records)

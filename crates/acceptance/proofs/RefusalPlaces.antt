@@ -1,4 +1,4 @@
--- Theorem 10 put together: a module is refused by its outline, with 1 to 10, or after it by the rules for its content, with 11 to 15.
+-- Theorem 10, assembled: a module is refused by its outline, with 1 to 10, or after it by the rules for its content, with 11 to 15.
 use Prim.Native.Nat.{ℕ, _≤_}
 use mathlib.Core.Path.{_≡_, refl}
 use mathlib.Core.List.{List}

@@ -1,4 +1,4 @@
--- How the layout that the check finds goes with the chunks of the rules: the link between the two halves of theorem 8.
+-- How the layout that the check finds corresponds to the chunks of the rules: the link between the two halves of theorem 8.
 use Prim.Native.Nat.{ℕ, _+_}
 use mathlib.Core.Path.{_≡_}
 use mathlib.Core.List.{List, _++_}
@@ -11,7 +11,7 @@ use Rattle.layout.specs.declared.ChunkSpan.{ChunkSpan}
 use Rattle.layout.specs.declared.Layout.{Layout}
 use Rattle.acceptance.specs.Rules.{Among}
 
--- The chunk's bytes stand in the module where the place says.
+-- The chunk's bytes are in the module where the span says.
 pub record SpanHolds (m : List ℕ) (span : ChunkSpan) (chunk : List ℕ) : Type 0 where
   pub before : List ℕ
   pub after : List ℕ
@@ -20,8 +20,8 @@ pub record SpanHolds (m : List ℕ) (span : ChunkSpan) (chunk : List ℕ) : Type
   pub starts : length before ≡ span .at
   pub size : length chunk ≡ 8 + span .length
 
--- The place of the chunk with these letters: it stands there, where there is one, behind the header and the chunks before it; and there
--- is one, where it is present.
+-- The span of the chunk with these letters. If there is such a chunk, it is there, after the header and the chunks before it. If the span
+-- is present, there is such a chunk.
 pub record Found (m : List ℕ) (chunks : List (List ℕ)) (letters : List ℕ) (span : ChunkSpan) : Type 0 where
   pub holds : (chunk : List ℕ) → Among chunks letters chunk → SpanHolds m span chunk
   pub begins : (chunk : List ℕ) (a : Among chunks letters chunk) → span .at ≡ 8 + length (joined (a .before))

@@ -1,20 +1,20 @@
--- The theorems about which modules are accepted, and about the places of refusals. In plain words:
+-- The theorems about which modules are accepted, and about the places of refusals.
 --
---  8. For every list of bytes: the check of a module accepts it exactly when the rules hold, as `Rules` states them with no reader. The
---     module is a header and chunks, one behind the other, of which M2 to M9 hold. SONG, INST, PATT and SMPL are as many blocks as INFO
---     says, one behind the other, and nothing else; VENV and PENV, where they are there, as many as their own count says. Of each block
---     B2 to B6 and V1 to V7 hold; the stream of a pattern is rows of sound entries, as in theorem 6.
+--  8. For every list of bytes: the check of a module accepts it exactly if the rules hold, as `Rules` states them without a reader. The
+--     module is a header and chunks, one after the other, for which M2 to M9 hold. SONG, INST, PATT and SMPL consist of as many blocks as
+--     INFO says, one after the other, and nothing else; VENV and PENV, if present, of as many as their own count says. For each block B2 to
+--     B6 and V1 to V7 hold; the stream of a pattern is rows of sound entries, as in theorem 6.
 --  9. The accepted modules are exactly the encodings of well-formed descriptions: crates/format/proofs/Theorems.antt.
--- 10. For every list of bytes: where the check refuses a module, the place of the refusal is not past the module's end, and what is wrong
---     there is what its number says, as `PlaceOf` states it with no reader (F17). 1: at 0, too many bytes. 2: at 0, fewer than 8 bytes, or
---     they do not begin with DBM0. 3: at 4, version or revision. 4 to 7 and 9: a chunk's header begins there, after whole chunks, and of
---     this chunk header or data are cut (4); the identifier is not four letters (5); it is covered, and one with its letters is before it
---     (6); it is SONG, INST, PATT or SMPL, and no INFO is before it (7); it is NAME or INFO, of another length (9). 8: at the end, and one
---     of the mandatory chunks is not among the chunks. 10: at the number of INFO that is out of range. For 11 to 15 nothing of 1 to 10 is
---     wrong. 11: a chunk with blocks begins there, and is not made of so many blocks of their sizes. 12: at the entry, the sample or the
---     instrument of a block that does not exist. 13: at the field of an instrument or of an envelope that is out of range. 14: the block of
---     an instrument begins there, whose loop does not lie within its sample. 15: that of a pattern, whose packed bytes are no stream. And
---     where the check accepts a module, nothing of this is wrong, at any place.
+-- 10. For every list of bytes: if the check refuses a module, the place of the refusal is at most the module's length, and the fault there
+--     is what the number says, as `PlaceOf` states it without a reader (F17). 1: at 0, too many bytes. 2: at 0, fewer than 8 bytes, or they
+--     do not begin with DBM0. 3: at 4, version or revision. 4 to 7 and 9: a chunk's header begins there, after whole chunks. The header or
+--     the data of this chunk are cut (4); its identifier is not four letters (5); it is covered, and a chunk with its letters is before it
+--     (6); it is SONG, INST, PATT or SMPL, and no INFO is before it (7); it is NAME or INFO and has another length (9). 8: at the end, and
+--     one of the mandatory chunks is missing. 10: at the number of INFO that is out of range. For 11 to 15 the module has no fault of 1 to
+--     10. 11: a chunk with blocks begins there, and does not consist of the right number of blocks of their sizes. 12: at the entry, the
+--     sample or the instrument of a block that does not exist. 13: at the field of an instrument or an envelope that is out of range. 14:
+--     the block of an instrument begins there, and its loop does not lie within its sample. 15: the block of a pattern begins there, and
+--     its packed bytes are not a stream. If the check accepts a module, it has none of these faults at any place.
 --
 -- The check is `moduleVerdict`, which the contract cites.
 use Prim.Native.Nat.{ℕ, _≤_}

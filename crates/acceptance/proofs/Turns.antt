@@ -1,4 +1,4 @@
--- Chunks that fit in turn, and the rules of M5 to M9 about all the chunks: each says the other.
+-- Chunks that fit in order, and the rules of M5 to M9 about all chunks: the two are equivalent.
 use Prim.Native.Nat.{ℕ}
 use mathlib.Core.Path.{_≡_, refl, ap, _∙_}
 use mathlib.Core.List.{List, [], _∷_, _++_, append-assoc, append-nil}
@@ -11,7 +11,7 @@ use Rattle.acceptance.specs.Rules.{IsChunk, Among, AtMostOnce, Covered, 
 use Rattle.acceptance.proofs.Fitting.{ChunkFits}
 use Rattle.acceptance.proofs.Chunking.{InTurn, done, next, turn-bytes}
 
--- Each chunk fits behind those before it.
+-- Each chunk fits after those before it.
 abbrev EachFits : List (List ℕ) → List (List ℕ) → Type 0
 EachFits first chunks = (before after : List (List ℕ)) (chunk : List ℕ) → chunks ≡ before ++ (chunk ∷ after) → ChunkFits (first ++ before) chunk
 
@@ -30,7 +30,7 @@ each-turn first (chunk ∷ chunks) h =
     next (rw append-nil at (h [] chunks chunk refl))
     (each-turn (first ++ (chunk ∷ [])) chunks (λ before after c e. rw append-assoc (h (chunk ∷ before) after c (ap (λ (l : List (List ℕ)). chunk ∷ l) e))))
 
--- M5 to M9, of all the chunks.
+-- M5 to M9, for all chunks.
 pub record ChunksFit (chunks : List (List ℕ)) : Type 0 where
   pub whole : Every IsChunk chunks
   pub once : (letters : List ℕ) → Covered letters → AtMostOnce chunks letters

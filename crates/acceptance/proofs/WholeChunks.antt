@@ -1,4 +1,4 @@
--- The places of a layout that was found are those of whole chunks of the module (for theorem 13).
+-- The spans of a layout that was found are those of whole chunks of the module (for theorem 13).
 use Prim.Native.Nat.{ℕ, _+_, _≤_, _<_}
 use mathlib.Core.Path.{_≡_, refl, subst, _∙_}
 use mathlib.Core.List.{List, _++_, append-nil}
@@ -27,7 +27,7 @@ use Rattle.acceptance.proofs.Fitting.{identifier-is, data-length-is}
 use Rattle.acceptance.proofs.Chunking.{InTurn, done, next, turn-bytes, Reached, reached-next}
 use Rattle.acceptance.proofs.Outlining.{AllRead, along-outline}
 
--- A chunk's header begins where the walk is, unless the module ends there.
+-- A chunk's header begins at the place of the walk, unless the module ends there.
 abbrev pub header-at : {m header : List ℕ} {before : List (List ℕ)} {at : ℕ} → Reached m header before at → at < length m → HeaderAt m at
 header-at {m} {header} {before} r less = record {
   header = header;
@@ -40,8 +40,8 @@ header-at {m} {header} {before} r less = record {
   follows = less;
 }
 
--- A place of a layout is that of a whole chunk with this identifier: the chunk is there, its header begins there, and its data are as
--- long as its length says, in nameIdentifier 44.
+-- A span of a layout is that of a whole chunk with this identifier: it is present, the chunk's header begins at its place, its length is
+-- the one stored there, 44 for NAME, and its data end within the module.
 pub record WholeAt (m : List ℕ) (identifier : ℕ) (span : ChunkSpan) : Type 0 where
   pub present : span .present ≡ true
   pub header : HeaderAt m (span .at)
@@ -50,7 +50,7 @@ pub record WholeAt (m : List ℕ) (identifier : ℕ) (span : ChunkSpan) : Type 0
   pub nameSize : identifier ≡ nameIdentifier → span .length ≡ 44
   pub inside : dataEnd span ≤ length m
 
--- A place that the check finds among chunks in turn.
+-- A span that the check finds among chunks that fit in order.
 place-whole : (n : ℕ) {m header : List ℕ} {before rest : List (List ℕ)} {at : ℕ} → Reached m header before at
     → m ≡ (header ++ joined before) ++ joined rest → InTurn before rest → spanOf n (recordsFrom at rest) .present ≡ true
     → WholeAt m n (spanOf n (recordsFrom at rest))
@@ -78,7 +78,7 @@ place-whole n {m} {header} {before} {at = at} r bytes (next {chunk = chunk} {res
         }
     go false e ih h = ih h
 
--- The places of a found layout.
+-- The spans of a found layout are those of whole chunks.
 pub record SpansWhole (m : List ℕ) (l : Layout) : Type 0 where
   pub name : l .spans .name .present ≡ true → WholeAt m nameIdentifier (l .spans .name)
   pub info : WholeAt m infoIdentifier (l .spans .info)
@@ -110,7 +110,7 @@ places-of {m} all read mandatory = record {
         × ((occurs instIdentifier (recordsFrom 8 all) ≡ true) × ((occurs pattIdentifier (recordsFrom 8 all) ≡ true) × (occurs smplIdentifier (recordsFrom 8 all) ≡ true))))
     says = simp and-says at mandatory
 
--- What an outline says of places.
+-- For a found outline, the spans are those of whole chunks.
 abbrev Says : List ℕ → Outline → Type 0
 Says m (Found l) = SpansWhole m l
 Says m (Refused r) = Unit {0}

@@ -1,5 +1,5 @@
--- FORMAT.md, F17: where a module is refused, and what is wrong there. The chunks and blocks are lists of bytes, as in specs/Rules.antt, and
--- what is wrong is in specs/Faults.antt; no reader is in either.
+-- FORMAT.md, F17: the place of each refusal of a module, and what is wrong there. Chunks and blocks are lists of bytes, as in
+-- specs/Rules.antt, and the faults are those of specs/Faults.antt. Neither file uses a reader.
 use Prim.Native.Nat.{ℕ, _+_, _≤_, _<_}
 use mathlib.Core.Path.{_≡_}
 use mathlib.Core.List.{List, _∷_, _++_}
@@ -18,7 +18,7 @@ use Rattle.acceptance.specs.Faults.{lettersOf, frontOf, MadeOf, HeaderFa
 use Rattle.acceptance.specs.Faults.{RepeatedFault, OrderFault, MissingFault, LengthFault, InfoFault, BlocksFault}
 use Rattle.acceptance.specs.Faults.{ReferenceFault, FieldFault, LoopFault, PatternFault}
 
--- A chunk's header begins at this place: the module's header and whole chunks are before it, and at least a byte follows.
+-- A chunk's header begins at this place: the module's header and whole chunks are before it, and at least one byte follows.
 pub record HeaderAt (m : List ℕ) (place : ℕ) : Type 0 where
   pub header : List ℕ
   pub before : List (List ℕ)
@@ -37,14 +37,14 @@ pub record ChunkBegins (m : List ℕ) (place : ℕ) : Type 0 where
   pub bytes : begins .after ≡ chunk ++ rest
   pub whole : IsChunk chunk
 
--- The module is a header and these chunks.
+-- The module is a header followed by these chunks.
 pub record ChunksOf (m : List ℕ) (chunks : List (List ℕ)) : Type 0 where
   pub header : List ℕ
   pub bytes : m ≡ header ++ joined chunks
   pub headerSize : length header ≡ 8
   pub whole : Every IsChunk chunks
 
--- Nothing of 1 to 10 is wrong: these are the header and the chunks of the module, M2 to M9 hold of them, and the mandatory ones are there.
+-- The module has no fault of 1 to 10: these are its header and its chunks, M2 to M9 hold for them, and the mandatory chunks are present.
 pub record AllChunks (m : List ℕ) : Type 0 where
   pub header : List ℕ
   pub chunks : List (List ℕ)
@@ -53,13 +53,13 @@ pub record AllChunks (m : List ℕ) : Type 0 where
   pub infoThere : Among chunks infoLetters info
   pub othersThere : (letters : List ℕ) → NeedsInfo letters → (chunk : List ℕ) × Among chunks letters chunk
 
--- The chunk of a thing begins at this place, after the module's 8 bytes and the chunks before it.
+-- The chunk of a record kind begins at this place, after the module's 8 bytes and the chunks before it.
 pub record BlocksAt {m : List ℕ} (all : AllChunks m) (kind : RecordKind) (place : ℕ) : Type 0 where
   pub chunk : List ℕ
   pub among : Among (all .chunks) (lettersOf kind) chunk
   pub there : 8 + length (joined (among .before)) ≡ place
 
--- A block of a thing begins at this place: it is one of the blocks that its chunk is made of.
+-- A block of a record kind begins at this place: it is one of the blocks of its chunk.
 pub record BlockBegins {m : List ℕ} (all : AllChunks m) (kind : RecordKind) (place : ℕ) : Type 0 where
   pub start : ℕ
   pub within : BlocksAt all kind start
@@ -69,7 +69,7 @@ pub record BlockBegins {m : List ℕ} (all : AllChunks m) (kind : RecordKind) (p
   pub blocks : MadeOf kind (all .info) (within .chunk) (before ++ (block ∷ after))
   pub there : start + frontOf kind + length (joined before) ≡ place
 
--- A field of such a block begins at this place, and of the block, the thing and the field's offset this is so.
+-- A field of such a block begins at this place, and Wrong holds for the block, its record kind and the field's offset.
 pub record FieldAt {m : List ℕ} (all : AllChunks m) (Wrong : List ℕ → RecordKind → ℕ → Type 0) (place : ℕ) : Type 0 where
   pub kind : RecordKind
   pub start : ℕ

@@ -1,7 +1,8 @@
--- FORMAT.md, M1 to M9, B1 to B6 and V1 to V7, with no reader in them: no walk, no step, no refusal. A module is a header and chunks,
--- one behind the other; a chunk with blocks is its front and the blocks, one behind the other; and of these bytes the rules hold.
--- Chunks and blocks are lists of bytes. A number in one is read at its offset there: number16 block 44 is the 2-byte number at
--- offset 44 of the block.
+-- The rules of a module, second of three statements: over bytes (FORMAT.md, M1 to M9, B1 to B6 and V1 to V7). It is the step between the
+-- description (the third statement, crates/format/specs) and the check (the first): by theorem 8 the check accepts a module exactly if
+-- these rules hold for its bytes. No reader is used: no walk, no step, no refusal. A module is a header followed by its chunks. A chunk
+-- with blocks is its front followed by its blocks. Chunks and blocks are lists of bytes. A number in one is read at its offset: number16
+-- block 44 is the 2-byte number at offset 44 of the block.
 use Prim.Native.Nat.{ℕ, _+_, _-_, _*_, _/_, _%_, _≤_, _<_}
 use mathlib.Core.Path.{_≡_}
 use mathlib.Core.Logic.{_⊎_}
@@ -15,12 +16,12 @@ use Rattle.numbers.specs.Numbers.{byteAt, number16, number32, signed16}
 use Rattle.packed_rows.specs.Entries.{Entry}
 use Rattle.packed_rows.specs.Theorems.{SoundStream}
 
--- M5: a chunk has 8 bytes, identifier and length, and as many bytes of data as its length says. Its identifier is four letters A to Z.
+-- M5: a chunk has 8 bytes of identifier and length, and as many bytes of data as its length says. Its identifier is four letters A to Z.
 pub record IsChunk (chunk : List ℕ) : Type 0 where
   pub size : length chunk ≡ 8 + number32 chunk 4
   pub letters : (i : ℕ) → i < 4 → (65 ≤ byteAt chunk i) × (byteAt chunk i ≤ 90)
 
--- A chunk with these letters stands among the chunks.
+-- The chunk is one of the chunks and has these letters.
 pub record Among (chunks : List (List ℕ)) (letters chunk : List ℕ) : Type 0 where
   pub before : List (List ℕ)
   pub after : List (List ℕ)
@@ -35,7 +36,7 @@ AtMostOnce chunks letters =
     → take 4 one ≡ letters → take 4 two ≡ letters
     → ⊥
 
--- M6: the letters of the covered chunks; M7: of the four that INFO stands before.
+-- M6: the letters of the covered chunks; M7: the letters of the four that come after INFO.
 pub data Covered : List ℕ → Type 0 where
   name : Covered nameLetters
   info : Covered infoLetters
@@ -52,7 +53,7 @@ pub data NeedsInfo : List ℕ → Type 0 where
   patt : NeedsInfo pattLetters
   smpl : NeedsInfo smplLetters
 
--- M7: INFO stands before each chunk with these letters.
+-- M7: INFO comes before each chunk with these letters.
 abbrev pub AfterInfo : List (List ℕ) → List ℕ → Type 0
 AfterInfo chunks letters =
     (before after : List (List ℕ)) (chunk : List ℕ)
@@ -68,7 +69,7 @@ pub record InfoRules (info : List ℕ) : Type 0 where
   pub patterns : number16 info 14 ≤ 1024
   pub tracks : (4 ≤ number16 info 16) × (number16 info 16 ≤ 254) × (number16 info 16 % 2 ≡ 0)
 
--- M2 to M9: the module is these 8 bytes and these chunks, one behind the other, and their rules hold.
+-- M2 to M9: the module is these 8 bytes followed by these chunks, and the rules of header and chunks hold.
 pub record ChunkRules (m header : List ℕ) (chunks : List (List ℕ)) : Type 0 where
   pub bytes : m ≡ header ++ joined chunks
   pub limit : length m ≤ 16777216
@@ -82,18 +83,18 @@ pub record ChunkRules (m header : List ℕ) (chunks : List (List ℕ)) : Type 0 
   pub name : (chunk : List ℕ) → Among chunks nameLetters chunk → length chunk ≡ 52
   pub info : (chunk : List ℕ) → Among chunks infoLetters chunk → InfoRules chunk
 
--- B1: a chunk is its front and so many blocks, one behind the other, and nothing else.
+-- B1: a chunk is its front followed by the given number of blocks, and nothing else.
 pub record Filled (front : ℕ) (chunk : List ℕ) (count : ℕ) (blocks : List (List ℕ)) : Type 0 where
   pub fronts : front ≤ length chunk
   pub bytes : chunk ≡ take front chunk ++ joined blocks
   pub number : length blocks ≡ count
 
--- B2, V1: a song: name 44, length 2, and so many numbers of patterns, from 0.
+-- B2, V1: a song: name 44, length 2, and that many pattern numbers, counted from 0.
 pub record SongRules (patterns : ℕ) (block : List ℕ) : Type 0 where
   pub size : length block ≡ 46 + 2 * number16 block 44
   pub entries : (i : ℕ) → i < number16 block 44 → number16 block (46 + 2 * i) < patterns
 
--- −128 to 128, of a stored number taken as signed.
+-- A stored number, read as signed, is from −128 to 128.
 abbrev pub PanningFits : ℕ → Type 0
 PanningFits v = (negsuc 127 ≤ℤ signed16 v) × (signed16 v ≤ℤ pos 128)
 
@@ -110,7 +111,7 @@ pub record InstrumentRules (samples : List (List ℕ)) (block : List ℕ) : Type
   pub flags : number16 block 48 < 4
   pub loop : LoopedBlock block → (1 ≤ number16 block 30) × (number32 block 38 + number32 block 42 ≤ number32 (getD samples (number16 block 30 - 1) []) 4)
 
--- B4, V7: a pattern: rows 2, packed length 4, a stream of that length (R1 to R7), and a filler if it is odd.
+-- B4, V7: a pattern: rows 2, packed length 4, a stream of that length (R1 to R7), and a filler if the length is odd.
 pub record PatternRules (tracks : ℕ) (block : List ℕ) : Type 0 where
   pub front : List ℕ
   pub stream : List ℕ
@@ -122,13 +123,13 @@ pub record PatternRules (tracks : ℕ) (block : List ℕ) : Type 0 where
   pub odd : length filler ≡ length stream % 2
   pub sound : SoundStream (number16 front 0) tracks stream entries
 
--- B5: a sample: flags 1, 2 or 4, which is also the number of bytes of a frame; and so many frames.
+-- B5: a sample: flags 1, 2 or 4, which is also the number of bytes in a frame; then the number of frames, and the frames.
 pub record SampleRules (block : List ℕ) : Type 0 where
   pub flags : (number32 block 0 ≡ 1) ⊎ ((number32 block 0 ≡ 2) ⊎ (number32 block 0 ≡ 4))
   pub size : length block ≡ 8 + number32 block 4 * number32 block 0
 
--- B6, V3 to V5: an envelope: instrument at 0, flags at 2, sections at 3, S1 at 4, L1 at 5, L2 at 6, S2 at 7, and points from 8 on,
--- of position 2 and value 2.
+-- B6, V3 to V5: an envelope: instrument at 0, flags at 2, sections at 3, S1 at 4, L1 at 5, L2 at 6, S2 at 7, and from 8 on the points of
+-- position 2 and value 2.
 pub record EnvelopeRules (instruments : ℕ) (ValueFits : ℕ → Type 0) (block : List ℕ) : Type 0 where
   pub size : length block ≡ 136
   pub instrument : (1 ≤ number16 block 0) × (number16 block 0 ≤ instruments)
@@ -139,7 +140,7 @@ pub record EnvelopeRules (instruments : ℕ) (ValueFits : ℕ → Type 0) (block
   pub secondSustain : byteAt block 2 / 2 / 2 / 2 % 2 ≡ 1 → byteAt block 7 ≤ byteAt block 3
   pub values : (i : ℕ) → i ≤ byteAt block 3 → ValueFits (number16 block (10 + 4 * i))
 
--- B6: the chunk of envelopes: their count, and the envelopes.
+-- B6: a chunk of envelopes: their count, and the envelopes.
 pub record EnvelopesRules (instruments : ℕ) (ValueFits : ℕ → Type 0) (chunk : List ℕ) : Type 0 where
   pub envelopes : List (List ℕ)
   pub filled : Filled 10 chunk (number16 chunk 8) envelopes
@@ -152,7 +153,7 @@ VolumeFits v = v ≤ 64
 abbrev pub PanningValueFits : ℕ → ℕ → Type 0
 PanningValueFits version v = (version ≡ 3 → PanningFits v) × (version ≡ 2 → v ≤ 64)
 
--- B1 to B6, V1 to V7: what stands in these chunks: the blocks of SONG, INST, PATT and SMPL, as many as INFO says, and the envelopes.
+-- B1 to B6, V1 to V7: the content of these chunks: the blocks of SONG, INST, PATT and SMPL, as many as INFO says, and the envelopes.
 pub record Content (header : List ℕ) (chunks : List (List ℕ)) (info song inst patt smpl : List ℕ) : Type 0 where
   pub songs : List (List ℕ)
   pub instruments : List (List ℕ)

@@ -1,2 +1,2 @@
-// Which modules are accepted. There is no code here: specs/Rules.antt has the rules of a module with no reader in them, specs/Faults.antt and
-// specs/ChunkSpans.antt what is wrong where one is refused, and proofs/Theorems.antt what is proved of the check.
+// Which modules are accepted. This crate has no code: specs/Rules.antt has the rules of a module over bytes, specs/Faults.antt and
+// specs/Places.antt say what is wrong at the place of a refusal, and proofs/Theorems.antt has the theorems about the check.
