@@ -41,7 +41,7 @@ use Rattle.acceptance.proofs.WholeChunks.{header-at}
 abbrev pub Placed : List ℕ → Refusal → Type 0
 Placed m r = PlaceOf m r × (r .place ≤ length m)
 
--- 1, 2, 3.
+-- 1, 2 and 3: length and header.
 module _ (m : List ℕ) where
   header-fault : headerFits m ≡ false → HeaderFault m
   header-fault =
@@ -88,7 +88,7 @@ module _ {m header : List ℕ} {before : List (List ℕ)} {at : ℕ} (r : Reache
     starts = r .there;
   }
 
-  -- 4 and 5.
+  -- 4 and 5: the chunk is cut, or its identifier is not four letters.
   head-fault : leb (at + 8) (length m) ≡ false → CutFault (r .rest)
   head-fault e = CutFault.header (omega (arith, leb-false (at + 8) (length m) e, rest-long))
 
@@ -204,7 +204,7 @@ module _ {m header : List ℕ} {before : List (List ℕ)} {at : ℕ} (r : Reache
       this-or (λ b. (fixedLength (chunk-at part c) (length-fault part c b), inside)) λ lengths.
       broken-if (eqb (number32 m at) infoIdentifier) (info-if-placed part c lengths)
 
--- 8.
+-- 8: a mandatory chunk is missing.
 abbrev Mandatory : List ℕ → Type 0
 Mandatory letters = (letters ≡ infoLetters) ⊎ NeedsInfo letters
 

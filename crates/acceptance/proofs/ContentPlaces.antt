@@ -155,7 +155,7 @@ module _ {m : List ℕ} {l : Layout} (o : Outlined m l) where
         let both = every-both (fields .instruments) (each-begins o fill Instrument (o .mandatory .inst)) in
         broken-each (instrumentLoopRules m (l .spans .smpl)) (every-of (λ at h. loop-placed at (h .1) (h .0)) both)
 
-    -- 15.
+    -- 15: the stream of a pattern.
     module _ (below : Bytes m) where
       tracks-fit : TracksFit (l .tracks)
       tracks-fit = rw (counts o .4) (o .rules .info (all-chunks o .info) (all-chunks o .infoThere) .tracks)

@@ -137,7 +137,7 @@ module _ {m : List ℕ} (below : Bytes m) (accepted : moduleVerdict m ≡ Accept
   any-content : Holds (any-song .0) (any-inst .0) (any-patt .0) (any-smpl .0)
   any-content = content-of (any-song .1) (any-inst .1) (any-patt .1) (any-smpl .1)
 
-  -- 11.
+  -- 11: the blocks of a chunk.
   no-blocks-fault : (kind : RecordKind) (chunk : List ℕ) → Is (lettersOf kind) chunk → BlocksFault kind (all .info) chunk → ⊥
   no-blocks-fault Song chunk a fault = fault .none _ (songs-made (content-of a (any-inst .1) (any-patt .1) (any-smpl .1)))
   no-blocks-fault Instrument chunk a fault = fault .none _ (instruments-made (content-of (any-song .1) a (any-patt .1) (any-smpl .1)))
@@ -190,27 +190,27 @@ module _ {m : List ℕ} (below : Bytes m) (accepted : moduleVerdict m ≡ Accept
       let rules = block-has b (panning-made c (b .within .among)) (c .panningEnvelopes (b .within .chunk) (b .within .among) .rules) in
       subst (λ (n : ℕ). EnvelopeRules n (PanningValueFits (byteAt (all .header) 4)) (b .block)) (c .instrumentsFill .number) rules
 
-  -- 12.
+  -- 12: references.
   no-reference-fault : {block : List ℕ} {kind : RecordKind} {offset : ℕ} → ReferenceFault (all .info) block kind offset → RulesOf kind block → ⊥
   no-reference-fault (ReferenceFault.playlistEntry i low over) r = absurd (omega (arith, r .entries i low))
   no-reference-fault (ReferenceFault.sample over) r = absurd (omega (arith, r .sample, any-content .samplesFill .number))
   no-reference-fault {block} (ReferenceFault.ofVolume none) r = no-instrument (all .info) block none (r .instrument)
   no-reference-fault {block} (ReferenceFault.ofPanning none) r = no-instrument (all .info) block none (r .instrument)
 
-  -- 13.
+  -- 13: other fields.
   no-field-fault : {block : List ℕ} {kind : RecordKind} {offset : ℕ} → FieldFault (all .header) block kind offset → RulesOf kind block → ⊥
   no-field-fault (FieldFault.instrument fault) r = no-instrument-fault r fault
   no-field-fault (FieldFault.ofVolume fault) r = no-envelope-fault r fault
   no-field-fault (FieldFault.ofPanning fault) r = no-envelope-fault r fault
 
   module _ {place : ℕ} where
-    -- 14.
+    -- 14: the loop of an instrument.
     no-loop-fault : (b : BlockBegins all Instrument place) → LoopFault (all .chunks) (all .info) (b .block) → ⊥
     no-loop-fault b fault =
         let within = instrument-rules b (fault .among) (fault .blocks) .loop (fault .looped) in
         elim (fault .outside) [ inl zero ↦ absurd (omega (arith, within .0)) | inr past ↦ absurd (omega (arith, within .1)) ]
 
-    -- 15.
+    -- 15: the stream of a pattern.
     no-stream-fault : (b : BlockBegins all Pattern place) → PatternFault (all .info) (b .block) → ⊥
     no-stream-fault b fault =
         let rules = block-rules Pattern b in

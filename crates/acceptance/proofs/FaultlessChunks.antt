@@ -1,5 +1,5 @@
--- If M2 to M9 hold, the module has none of the faults of 1 to 10 (theorem 10). Each of them is the opposite of a rule, and a module can be
--- cut into chunks in only one way.
+-- If M2 to M9 hold, the module has none of the faults of 2 to 10 (theorem 10; for 1 see Faultless.antt). Each of them is the opposite of a
+-- rule, and a module can be cut into chunks in only one way.
 use Prim.Native.Nat.{ℕ, _+_, _/_, _%_, _≤_, _<_}
 use mathlib.Core.Path.{_≡_, refl, sym, ap, subst, _∙_}
 use mathlib.Core.Logic.{_⊎_, inl, inr}
@@ -30,7 +30,7 @@ no-range-fault r (RangeFault.songs h) = absurd (omega (arith, r .songs))
 no-range-fault r (RangeFault.patterns h) = absurd (omega (arith, r .patterns))
 no-range-fault r (RangeFault.tracks h) = h (r .tracks)
 
--- 1, 2 and 3.
+-- 2 and 3: header and version.
 module _ {m header : List ℕ} {chunks : List (List ℕ)} (c : ChunkRules m header chunks) where
   begins-same : take 4 m ≡ take 4 header
   begins-same =
@@ -135,7 +135,7 @@ module _ {m header : List ℕ} {chunks : List (List ℕ)} (c : ChunkRules m head
     pub no-info-fault : (offset : ℕ) → InfoFault (at .chunk) offset → ⊥
     no-info-fault offset fault = no-range-fault (c .info (at .chunk) (among (fault .named))) (fault .range)
 
-  -- 8.
+  -- 8: the mandatory chunks are present.
   module _ (info : There chunks infoLetters) (needed : (letters : List ℕ) → NeedsInfo letters → There chunks letters) where
     mandatory-there : (letters : List ℕ) → (letters ≡ infoLetters) ⊎ NeedsInfo letters → There chunks letters
     mandatory-there letters (inl e) = rw e info

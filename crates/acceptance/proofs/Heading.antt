@@ -18,7 +18,7 @@ use Rattle.acceptance.proofs.Identifiers.{four-bytes, number-letters, l
 abbrev begin : List ℕ
 begin = 68 ∷ 66 ∷ 77 ∷ 48 ∷ []
 
--- M2 to M4.
+-- M2 to M4, for the header.
 pub record HeaderFits (m header : List ℕ) : Type 0 where
   pub limit : length m ≤ 16777216
   pub begins : take 4 header ≡ 68 ∷ 66 ∷ 77 ∷ 48 ∷ []

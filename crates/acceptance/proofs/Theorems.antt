@@ -32,11 +32,11 @@ use Rattle.acceptance.proofs.Acceptance as Acceptance
 use Rattle.acceptance.proofs.RefusalPlaces as RefusalPlaces
 use Rattle.acceptance.proofs.Faultless as Faultless
 
--- 8.
+-- Theorem 8.
 pub accepted-exactly : (m : List ℕ) → Bytes m → (moduleVerdict m ≡ Accepted) ↔ Rules m
 accepted-exactly = Acceptance.accepted-exactly
 
--- 10.
+-- Theorem 10.
 pub refusal-place : (m : List ℕ) → Bytes m → (r : Refusal) → moduleVerdict m ≡ Refused r → PlaceOf m r × (r .place ≤ length m)
 refusal-place = RefusalPlaces.refusal-place
 
