@@ -1,6 +1,6 @@
--- A description whose chunks are changed one by one, where a chunk stays or holds something else of its kind, and only chunks of certain
--- kinds change: a chunk is in the changed description exactly where it was before, M5 to M7 stay, and it is well formed where what the
--- mandatory chunks then hold fits. Its bytes are those of the changed chunks.
+-- A description whose chunks are changed one by one. A chunk is unchanged or has other content of its kind, and only chunks of certain
+-- kinds change. So a chunk that does not change is in the changed description exactly if it was there before, M5 to M7 still hold, and the
+-- description is well formed if the new content of the mandatory chunks fits. Its bytes are those of the changed chunks.
 use Prim.Native.Nat.{ℕ, _≤_}
 use mathlib.Core.Path.{_≡_, refl, sym, ap, subst, _∙_}
 use mathlib.Core.List.{List, [], _∷_, _++_, map, map-map}
@@ -40,7 +40,7 @@ isKind kind k = eqb (kindNumber kind) (kindNumber k)
 abbrev pub SameLetters : (k : ChunkKind) → Holding k → Holding k → Type 0
 SameLetters k old new = chunkLetters (holder k new) ≡ chunkLetters (holder k old)
 
--- What becomes of a chunk: it stays; or its kind is one that changes, and it holds something else and keeps its chunkLetters.
+-- What a chunk becomes: it is unchanged; or its kind is one that changes, and it has other content and the same identifier.
 pub data Becomes (changes : ChunkKind → Bool) : Chunk → Chunk → Type 0 where
   stays : (c : Chunk) → Becomes changes c c
   holds : (k : ChunkKind) → changes k ≡ true → (old new : Holding k) → SameLetters k old new → Becomes changes (holder k old) (holder k new)
@@ -69,24 +69,24 @@ module _ {changes : ChunkKind → Bool} where
   becomes-same (stays c) left = refl
   becomes-same (holds k e old new same) left = false-never (sym left ∙ ap changes (kind-held k new) ∙ e)
 
--- A change of chunks.
+-- A change of chunks, of these kinds only.
 abbrev pub Change : (ChunkKind → Bool) → (Chunk → Chunk) → Type 0
 Change changes f = (c : Chunk) → Becomes changes c (f c)
 
 module _ (f : Chunk → Chunk) where
-  -- The chunk in the changed list is the change of the one before.
+  -- The chunk in the changed list is the change of the chunk before.
   pub in-changed : {chunks : List Chunk} {c : Chunk} → In chunks c → In (map f chunks) (f c)
   in-changed i = within-in (within-mapped f (in-within i))
 
   module _ {changes : ChunkKind → Bool} (change : Change changes f) {chunks : List Chunk} where
-    -- A chunk of a kind that does not change was there.
+    -- A chunk of a kind that does not change was there before.
     pub was-in : {c : Chunk} → changes (chunkKindOf c) ≡ false → In (map f chunks) c → In chunks c
     was-in {c} left i =
         let (one, within, same) = mapped-within f (in-within i) in
         let stayed : f one ≡ one = becomes-same (change one) (ap (λ (new : Chunk). changes (chunkKindOf new)) (sym same) ∙ left) in
         subst (In chunks) (sym (same ∙ stayed)) (within-in within)
 
-    -- M6 and M7.
+    -- M6 and M7 still hold.
     once-changed : Once chunks → Once (map f chunks)
     once-changed once =
         letters-once (λ letters covers. no-two-mapped f (λ (c : Chunk). chunkLetters c ≡ letters)
@@ -115,7 +115,7 @@ lengths-fit d limit = every-of (λ c h. omega (arith, limit)) (contents-inside (
 abbrev pub changedDescription : (Chunk → Chunk) → Description → Description
 changedDescription f d = record { version = d .version; revision = d .revision; reserved = d .reserved; chunks = map f (d .chunks) }
 
--- Its bytes, where the bytes of each chunk are changed alike.
+-- Its bytes, if `g` changes the bytes of each chunk as `f` changes the chunk.
 module _ (d : Description) (f : Chunk → Chunk) (g : List ℕ → List ℕ) (same : (c : Chunk) → In (d .chunks) c → g (chunkBytes c) ≡ chunkBytes (f c)) where
   pub encoded-changed : headerBytes d ++ joined (map g (map chunkBytes (d .chunks))) ≡ encoded (changedDescription f d)
   encoded-changed =
@@ -123,7 +123,7 @@ module _ (d : Description) (f : Chunk → Chunk) (g : List ℕ → List ℕ) (sa
       let chunks = map-map g chunkBytes (d .chunks) ∙ each ∙ sym (map-map chunkBytes f (d .chunks)) in
       ap (λ (list : List (List ℕ)). headerBytes d ++ joined list) chunks
 
--- What the mandatory chunks then hold, and that it fits. The instruments are as many as before.
+-- The content of the changed mandatory chunks, and that it fits. The number of instruments is unchanged.
 pub record HeldAfter {d : Description} (w : WellFormed d) (f : Chunk → Chunk) : Type 0 where
   pub info : Info
   pub songs : List Song

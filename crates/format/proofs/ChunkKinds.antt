@@ -1,4 +1,4 @@
--- The kind of a chunk: which of the covered ones it is, or another. Its bytes tell the kind, and so what it holds.
+-- The kind of a chunk: which of the covered ones it is, or another. Its bytes determine its kind, and so its content.
 use Prim.Native.Nat.{ℕ}
 use mathlib.Core.Path.{_≡_, refl, sym, ap, subst, _∙_}
 use mathlib.Core.List.{List, _++_}
@@ -33,7 +33,7 @@ chunkKindOf (VENV list) = volumes
 chunkKindOf (PENV list) = pannings
 chunkKindOf (Other letters bytes) = others
 
--- What a chunk of a kind holds, and the chunk that holds it.
+-- The content of a chunk of a kind, and the chunk with that content.
 abbrev pub Holding : ChunkKind → Type 0
 Holding named = List ℕ
 Holding counted = Info
@@ -70,7 +70,7 @@ held (Other letters bytes) = ((letters, bytes), refl)
 pub held-as : (c : Chunk) (k : ChunkKind) → chunkKindOf c ≡ k → (h : Holding k) × (c ≡ holder k h)
 held-as c k e = subst (λ (k : ChunkKind). (h : Holding k) × (c ≡ holder k h)) e (held c)
 
--- What makes the encoding of a chunk tell its end.
+-- The condition under which the encoding of a chunk's content is self-delimiting.
 abbrev pub Delimited : ℕ → Chunk → Type 0
 Delimited tracks (NAME name) = Unit {0}
 Delimited tracks (INFO info) = Unit {0}
@@ -82,7 +82,7 @@ Delimited tracks (VENV list) = Every (λ e. length (e .points) ≡ 32) list
 Delimited tracks (PENV list) = Every (λ e. length (e .points) ≡ 32) list
 Delimited tracks (Other letters bytes) = OtherFits letters bytes
 
--- The kind by the identifier as one number.
+-- The kind, from the identifier as one number.
 abbrev pub chunkKindBy : ℕ → ChunkKind
 chunkKindBy n =
     cond (eqb n (identifierOf Covered.name)) named
@@ -129,13 +129,13 @@ kind-read (VENV list) other c = refl
 kind-read (PENV list) other c = refl
 kind-read (Other letters bytes) other c = other-read letters bytes (other letters bytes refl) c
 
--- A chunk with covered letters is of the kind that they name.
+-- A chunk with covered letters is of the kind of these letters.
 pub kind-covered : (c : Chunk) → ((letters bytes : List ℕ) → c ≡ Other letters bytes → OtherFits letters bytes)
     → IsChunk (chunkBytes c) → {letters : List ℕ} (covers : Covered letters) → take 4 (chunkBytes c) ≡ letters
     → chunkKindOf c ≡ chunkKindBy (identifierOf covers)
 kind-covered c other whole covers same = sym (kind-read c other whole) ∙ ap chunkKindBy (chunk-named whole covers .1 same)
 
--- A chunk of which the bytes tell the end, and that is whole.
+-- A whole chunk with a self-delimiting encoding.
 pub record Plain (tracks : ℕ) (c : Chunk) : Type 0 where
   pub delimited : Delimited tracks c
   pub whole : IsChunk (chunkBytes c)
@@ -148,7 +148,7 @@ kind-same {tracks} {tracks′} {c} {other} p q e =
     ∙ ap (λ (chunk : List ℕ). chunkKindBy (number32 chunk 0)) e
     ∙ kind-read other (λ letters bytes is. subst (Delimited tracks′) is (q .delimited)) (q .whole)
 
--- The parts of a chunk: its identifier, and its data behind their length.
+-- The parts of a chunk: its identifier, and its data after their length.
 pub parts-same : (letters letters′ bytes bytes′ : List ℕ) → length letters ≡ length letters′
     → letters ++ (bytes32 (length bytes) ++ bytes) ≡ letters′ ++ (bytes32 (length bytes′) ++ bytes′)
     → (letters ≡ letters′) × (bytes ≡ bytes′)
@@ -156,7 +156,7 @@ parts-same letters letters′ bytes bytes′ h e =
     let first = front-same letters letters′ h e in
     (first .0, next32 (length bytes) (length bytes′) (first .1) .1)
 
--- What chunks of one kind with the same bytes hold is the same.
+-- Chunks of one kind with the same bytes have the same content.
 holding-same : (tracks : ℕ) (k : ChunkKind) (a b : Holding k) → Delimited tracks (holder k a) → Delimited tracks (holder k b)
     → chunkBytes (holder k a) ≡ chunkBytes (holder k b)
     → holder k a ≡ holder k b

@@ -1,5 +1,5 @@
--- The chunks of a description by where they stand: what holds of each that stands there holds of every one, a covered chunk stands there
--- once, and chunks with the same bytes stand in the same order.
+-- The chunks in the list of a description. What holds for each chunk in the list holds for every element, a covered chunk is in it once,
+-- and chunks with the same bytes are in the same order.
 use Prim.Native.Nat.{ℕ}
 use mathlib.Core.Path.{_≡_, refl, sym, subst, _∙_}
 use mathlib.Core.List.{List, [], _∷_, _++_, map}
@@ -23,7 +23,7 @@ in-front c chunks = within-in (within-front c chunks)
 pub in-after : {chunks : List Chunk} {c : Chunk} (first : Chunk) → In chunks c → In (first ∷ chunks) c
 in-after first i = within-in (within-after first (in-within i))
 
--- Each, and every one.
+-- Each chunk in the list, and every element.
 module _ {P : Chunk → Type 0} where
   pub every-in : (chunks : List Chunk) → ((c : Chunk) → In chunks c → P c) → Every P chunks
   every-in chunks h = every-within chunks (λ c w. h c (within-in w))
@@ -31,7 +31,7 @@ module _ {P : Chunk → Type 0} where
   pub in-every : {chunks : List Chunk} {c : Chunk} → Every P chunks → In chunks c → P c
   in-every every i = within-every every (in-within i)
 
--- M6 by letters: no two chunks have the same covered ones, and so a covered chunk is the only one of its letters.
+-- M6 by letters: no two chunks have the same covered letters, so a covered chunk is the only one with its letters.
 module _ {chunks : List Chunk} where
   pub once-letters : Once chunks → (letters : List ℕ) → Covered letters → NoTwo (λ (c : Chunk). chunkLetters c ≡ letters) chunks
   once-letters once letters covers before between after one two e p q = once before between after one two e (subst Covered (sym p) covers) (p ∙ sym q)
@@ -43,7 +43,7 @@ module _ {chunks : List Chunk} where
   in-once once {one} i j covers same =
       only-one (λ (c : Chunk). chunkLetters c ≡ chunkLetters one) (once-letters once (chunkLetters one) covers) (in-within i) (in-within j) refl (sym same)
 
--- Chunks of which a function gives the same, one by one.
+-- Lists of chunks for which a function gives the same results, one by one.
 module _ {A : Type 0} (f : Chunk → A) where
   pub in-other : (before after others : List Chunk) (c : Chunk) → map f (before ++ (c ∷ after)) ≡ map f others
       → (other : Chunk) × In others other × (f c ≡ f other)

@@ -1,6 +1,6 @@
--- Encodings that tell their own end: where two of them stand at the front of the same bytes, what is encoded is the same, and so are the
--- bytes behind. So are numbers of 2 and of 4 bytes, lists whose length is known, so many pieces one behind the other; and each block of a
--- module.
+-- Self-delimiting encodings: if two of them are at the front of the same bytes, the encoded data are the same, and so are the bytes after
+-- them. Numbers of 2 and of 4 bytes, lists of known length, a known number of pieces one after the other, and each block of a module are
+-- encoded in this way.
 use Prim.Native.Nat.{ℕ, _%_, _<_}
 use mathlib.Core.Path.{_≡_, refl, sym, ap, _∙_}
 use mathlib.Core.List.{List, [], _∷_, _++_, map, append-assoc}
@@ -19,7 +19,7 @@ use Rattle.format.specs.Encoding.{infoBytes, songBytes, instrumentBytes,
 use Rattle.format.specs.Encoding.{pointBytes, envelopeBytes, envelopesBytes}
 use Rattle.format.specs.WellFormed.{PatternFits}
 
--- Two lists of one length at the front.
+-- Two lists of the same length at the front.
 pub front-same : {A : Type 0} (xs ys : List A) {s t : List A} → length xs ≡ length ys → xs ++ s ≡ ys ++ t → (xs ≡ ys) × (s ≡ t)
 front-same [] [] h e = (refl, e)
 front-same [] (y ∷ ys) h e = absurd (omega arith)
@@ -42,11 +42,11 @@ next16 a b e = let parts = front-same (bytes16 a) (bytes16 b) refl e in (bytes16
 pub next32 : (a b : ℕ) {s t : List ℕ} → bytes32 a ++ s ≡ bytes32 b ++ t → (a ≡ b) × (s ≡ t)
 next32 a b e = let parts = front-same (bytes32 a) (bytes32 b) refl e in (bytes32-same a b (parts .0), parts .1)
 
--- An encoding that tells its own end, of all that fit.
+-- A self-delimiting encoding, for all data that fit.
 abbrev pub Delimited : {A : Type 0} → (A → Type 0) → (A → List ℕ) → Type 0
 Delimited {A} Fits f = (x y : A) (s t : List ℕ) → Fits x → Fits y → f x ++ s ≡ f y ++ t → (x ≡ y) × (s ≡ t)
 
--- Pieces one behind the other: as many on both sides; or, where no piece is empty, all bytes.
+-- Pieces one after the other: the same number on both sides; or, if no piece is empty, all bytes.
 module _ {A : Type 0} {Fits : A → Type 0} (f : A → List ℕ) (delimited : Delimited Fits f) where
   pub pieces-same : (xs ys : List A) (s t : List ℕ) → Every Fits xs → Every Fits ys → length xs ≡ length ys
       → joined (map f xs) ++ s ≡ joined (map f ys) ++ t
@@ -130,7 +130,7 @@ instrument-delimited i j s t p q e =
 pub instrument-some : (i : Instrument) → length (i .name) ≡ 30 → 0 < length (instrumentBytes i)
 instrument-some i h = simp length-append (omega arith)
 
--- Patterns: a stream of so many rows and tracks is read in one way only.
+-- Patterns: a stream with a given number of rows and tracks is read in only one way.
 module _ (tracks : ℕ) where
   pub pattern-delimited : Delimited (PatternFits tracks) patternBytes
   pattern-delimited p q s t f g e =
@@ -146,7 +146,7 @@ module _ (tracks : ℕ) where
   pub pattern-some : (p : Pattern) → PatternFits tracks p → 0 < length (patternBytes p)
   pattern-some p f = omega arith
 
--- Samples: the flags tell the width.
+-- Samples: the flags determine the width.
 widthOf : ℕ → Width
 widthOf flags = cond (eqb flags 1) eight (cond (eqb flags 2) sixteen thirtyTwo)
 

@@ -1,5 +1,5 @@
--- Blocks taken apart: for each kind of block the description that is read off its bytes. Where the rules of the block hold of it, the
--- description's encoding is the block, and it is well formed.
+-- Blocks decoded: for each kind of block the description that is read from its bytes. If the rules of the block hold, the encoding of the
+-- description is the block, and the description is well formed.
 use Prim.Native.Nat.{ℕ, zero, suc, _+_, _-_, _*_, _<_, _≤_}
 use mathlib.Core.Path.{_≡_, refl, sym, ap, subst, _∙_}
 use mathlib.Core.Logic.{_⊎_, inl, inr}
@@ -39,7 +39,7 @@ module _ (m : List ℕ) (bytes : Bytes m) where
       let three : at + 3 ≡ at + 1 + 1 + 1 = omega arith in
       number32-stored m bytes at ∙ rw (two, three) refl
 
-  -- The number's bytes, and what stands behind them.
+  -- The number's bytes, and the bytes after them.
   pub number-next : (w : Width) (at to : ℕ) → at + flagsOf w ≡ to → to ≤ length m → frameBytes w (numberAt w m at) ++ drop to m ≡ drop at m
   number-next w at to e h =
       let behind : drop to m ≡ drop (flagsOf w) (drop at m) = ap (λ (k : ℕ). drop k m) (sym e) ∙ sym (drop-drop (flagsOf w) at m) in
@@ -51,13 +51,13 @@ module _ (m : List ℕ) (bytes : Bytes m) where
       → frameBytes w (numberAt w m at) ++ rest ≡ drop at m
   number-then w at h e = ap (λ (rest : List ℕ). frameBytes w (numberAt w m at) ++ rest) e ∙ number-next w at (at + flagsOf w) refl h
 
-  -- It fits its bytes.
+  -- The number fits its bytes.
   pub number-fits : (w : Width) (at : ℕ) → FrameFits w (numberAt w m at)
   number-fits eight at = bytes at
   number-fits sixteen at = number16-below m bytes at
   number-fits thirtyTwo at = number32-below m bytes at
 
--- Pieces one behind the other, each at its place: what is read off them, encoded again, are the bytes from the first place to the last.
+-- Pieces one after the other, each at its place: what is read from them, encoded again, is the bytes from the first place to the last.
 module _ {A : Type 0} (encode : A → List ℕ) (read : ℕ → A) (m : List ℕ) (place : ℕ → ℕ) (n : ℕ)
     (next : (i : ℕ) → i < n → encode (read i) ++ drop (place (i + 1)) m ≡ drop (place i) m) where
   pieces-from : (left k : ℕ) → k + left ≡ n → joined (map encode (eachFrom read k left)) ++ drop (place n) m ≡ drop (place k) m
@@ -74,7 +74,7 @@ module _ {A : Type 0} (encode : A → List ℕ) (read : ℕ → A) (m : List ℕ
       ∙ ap (λ (rest : List ℕ). joined (map encode (eachFrom read 0 n)) ++ rest) (sym ends)
       ∙ pieces-from n 0 (omega arith)
 
--- What holds of every one that is read.
+-- What holds for every element that is read.
 every-from : {A : Type 0} {P : A → Type 0} (f : ℕ → A) (n k : ℕ) → ((i : ℕ) → i < k + n → P (f i)) → Every P (eachFrom f k n)
 every-from f zero k h = none
 every-from f (suc n) k h = also (h k (omega arith)) (every-from f n (k + 1) (λ i l. h i (omega arith)))
@@ -82,11 +82,11 @@ every-from f (suc n) k h = also (h k (omega arith)) (every-from f n (k + 1) (λ 
 pub every-each : {A : Type 0} {P : A → Type 0} (f : ℕ → A) (n : ℕ) → ((i : ℕ) → i < n → P (f i)) → Every P (eachFrom f 0 n)
 every-each f n h = every-from f n 0 (λ i l. h i (omega arith))
 
--- Past the end nothing is left.
+-- Past the end there is nothing.
 none-left : (m : List ℕ) (at : ℕ) → length m ≤ at → [] ≡ drop at m
 none-left m at h = sym (drop-of-length-le m {i = at} h)
 
--- M9: INFO, of which the chunk is given.
+-- M9: INFO, from the bytes of its chunk.
 abbrev pub infoIn : List ℕ → Info
 infoIn info = record {
   instruments = number16 info 8;
@@ -148,7 +148,7 @@ instrumentIn block = record {
   flags = number16 block 48;
 }
 
--- The frames that a sample's block tells are those of the sample.
+-- The number of frames in the block of a sample is that of the sample.
 frames-given : (samples : List Sample) (i : ℕ) → number32 (getD (map sampleBytes samples) i []) 4 ≡ length (getD samples i emptySample .frames)
 unfolding number32 number16 byteAt
 frames-given [] i = refl
@@ -181,7 +181,7 @@ module _ (samples : List Sample) (block : List ℕ) (bytes : Bytes block) (r : I
     loop = λ looped. (let inside = rw (frames-given samples (number16 block 30 - 1)) at (r .loop looped .1) in (r .loop looped .0, omega (arith, inside)));
   }
 
--- B4: a pattern. Its rows of entries are those that the rules tell of.
+-- B4: a pattern. Its rows of entries are those of the rules.
 module _ (tracks : ℕ) {block : List ℕ} (r : PatternRules tracks block) where
   abbrev pub patternIn : Pattern
   patternIn = record { rows = r .entries; filler = r .filler }
@@ -215,7 +215,7 @@ module _ (tracks : ℕ) {block : List ℕ} (r : PatternRules tracks block) where
       filler = (rw (← r .sound .bytes) (r .odd), bytes-after (r .stream) (r .filler) rest-bytes);
     }
 
--- B4: the patterns of blocks, one for each.
+-- B4: the patterns of a list of blocks, one for each.
 abbrev pub patternsIn : (tracks : ℕ) {blocks : List (List ℕ)} → Every (PatternRules tracks) blocks → List Pattern
 patternsIn tracks none = []
 patternsIn tracks (also r e) = patternIn tracks r ∷ patternsIn tracks e
@@ -230,7 +230,7 @@ pub patterns-fit : (tracks : ℕ) {blocks : List (List ℕ)} (e : Every (Pattern
 patterns-fit tracks none b = none
 patterns-fit tracks (also r e) b = also (pattern-fits tracks r (every-first b)) (patterns-fit tracks e (every-rest b))
 
--- B5: a sample, whose flags tell the width of its frames.
+-- B5: a sample, whose flags determine the width of its frames.
 abbrev pub widthIn : ℕ → Width
 widthIn flags = cond (eqb flags 1) eight (cond (eqb flags 2) sixteen thirtyTwo)
 

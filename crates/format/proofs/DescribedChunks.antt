@@ -1,5 +1,5 @@
--- Chunks taken apart: the blocks of a chunk, each as what it describes, encoded again are the chunk's data; and a chunk is its letters, its
--- length and its data.
+-- Chunks decoded: the blocks of a chunk, each read as a description and encoded again, are the chunk's data; and a chunk is its letters,
+-- its length and its data.
 use Prim.Native.Nat.{ℕ}
 use mathlib.Core.Path.{_≡_, refl, sym, ap, subst, _∙_}
 use mathlib.Core.List.{List, _++_, map}
@@ -19,12 +19,12 @@ use Rattle.format.specs.Encoding.{envelopeBytes, envelopesBytes}
 use Rattle.format.specs.WellFormed.{EnvelopeFits, EnvelopesFit, Fits32}
 use Rattle.format.proofs.DescribedBlocks.{number-then, number-fits, envelopeIn, envelope-again, envelope-fits}
 
--- What is read off each and encoded again.
+-- Each element decoded and encoded again.
 pub map-again : {A B : Type 0} (f : A → B) (g : B → A) {xs : List A} → Every (λ x. g (f x) ≡ x) xs → map g (map f xs) ≡ xs
 map-again f g none = refl
 map-again f g (also p e) = rw (p, map-again f g e)
 
--- The data of a chunk behind its front.
+-- The data of a chunk after its front.
 module _ {front : ℕ} {chunk : List ℕ} {count : ℕ} {blocks : List (List ℕ)} (filled : Filled front chunk count blocks) where
   pub after-front : joined blocks ≡ drop front chunk
   after-front = sym (ap (drop front) (filled .bytes) ∙ drop-at (take front chunk) (joined blocks) front (length-take-le front chunk (filled .fronts)))
@@ -32,7 +32,7 @@ module _ {front : ℕ} {chunk : List ℕ} {count : ℕ} {blocks : List (List ℕ
   pub blocks-bytes : Bytes chunk → Every Bytes blocks
   blocks-bytes bytes = bytes-joined blocks .1 (subst Bytes (sym after-front) (bytes-drop front chunk bytes))
 
--- Blocks of one kind, each of which is read by a function: encoded again they are the blocks, and well formed.
+-- Blocks of one kind, each read by a function: encoded again they are the blocks, and what is read is well formed.
 module _ {A : Type 0} (read : List ℕ → A) {R : List ℕ → Type 0} {blocks : List (List ℕ)} (bytes : Every Bytes blocks) (rules : Every R blocks) where
   pub all-again : (encode : A → List ℕ) → ((block : List ℕ) → Bytes block → R block → encode (read block) ≡ block) → map encode (map read blocks) ≡ blocks
   all-again encode again = map-again read encode (every-of (λ block h. again block (h .0) (h .1)) (every-both bytes rules))

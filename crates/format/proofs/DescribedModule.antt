@@ -1,5 +1,5 @@
--- Every module of which the rules hold is the encoding of a well-formed description: its chunks are those of the module, each as what it
--- describes, by its letters.
+-- Every module for which the rules hold is the encoding of a well-formed description: its chunks are those of the module, each decoded
+-- according to its letters.
 use Prim.Native.Nat.{ℕ, _≤_}
 use mathlib.Core.Path.{_≡_, refl, sym, ap, subst, _∙_}
 use mathlib.Core.List.{List, [], _∷_, _++_, map, append-assoc}
@@ -57,13 +57,13 @@ module _ (m : List ℕ) (bytes : Bytes m) (r : Rules m) where
     among-whole : IsChunk chunk
     among-whole = within-every (rules .whole) (among-within a)
 
-  -- M6: a covered chunk is the only one of its letters.
+  -- M6: a covered chunk is the only one with its letters.
   only-chunk : {letters : List ℕ} → Covered letters → {one two : List ℕ} → Among (r .chunks) letters one → Among (r .chunks) letters two → one ≡ two
   only-chunk {letters} covers a b =
       only-one (λ chunk. take 4 chunk ≡ letters) (rules .once letters covers) (among-within a) (among-within b) (a .named)
       (b .named)
 
-  -- What the mandatory chunks hold.
+  -- The content of the mandatory chunks.
   abbrev info : Info
   info = infoIn (r .info)
 
@@ -106,7 +106,7 @@ module _ (m : List ℕ) (bytes : Bytes m) (r : Rules m) where
   instruments-again : map instrumentBytes instruments ≡ content .instruments
   instruments-again = all-again instrumentIn instruments-bytes instrument-rules instrumentBytes (instrument-again samples)
 
-  -- A covered chunk by its letters, and any chunk by the number that its letters are.
+  -- A covered chunk decoded by its letters, and any chunk by the number of its letters.
   abbrev coveredAs : {letters : List ℕ} → Covered letters → List ℕ → Chunk
   coveredAs Covered.name chunk = NAME (drop 8 chunk)
   coveredAs Covered.info chunk = INFO info
@@ -147,7 +147,7 @@ module _ (m : List ℕ) (bytes : Bytes m) (r : Rules m) where
   by-letters : {letters : List ℕ} (covers : Covered letters) {chunk : List ℕ} → Among (r .chunks) letters chunk → describe chunk ≡ coveredAs covers chunk
   by-letters covers {chunk} a = ap (λ (n : ℕ). describedBy n chunk) (chunk-named (among-whole a) covers .1 (a .named)) ∙ by-identifier covers chunk
 
-  -- What a chunk of the description is held to, beside the mandatory ones.
+  -- The condition on a chunk of the description, except for the mandatory ones.
   abbrev Held : Chunk → Type 0
   Held (NAME name) = ManyBytes 44 name
   Held (INFO numbers) = Unit {0}
@@ -233,7 +233,7 @@ module _ (m : List ℕ) (bytes : Bytes m) (r : Rules m) where
           subst (Described chunk) (sym is)
           (record { letters = refl; holds = refl; held = other-fits chunk (within-every chunks-bytes w) (within-every (rules .whole) w) e })
 
-  -- Its encoding is the chunk.
+  -- The encoding of each chunk of the description is the chunk.
   chunks-again : Every (λ chunk. chunkBytes (describe chunk) ≡ chunk) (r .chunks)
   chunks-again =
       every-of (λ chunk h. chunk-again chunk (h .0 .0) (h .0 .1) (h .1 .letters) (h .1 .holds))
@@ -262,7 +262,7 @@ module _ (m : List ℕ) (bytes : Bytes m) (r : Rules m) where
       ∙ ap (λ (chunks : List (List ℕ)). r .header ++ joined chunks) encodings
       ∙ sym (rules .bytes)
 
-  -- What holds of every chunk of it: what it is held to, its letters, and that it describes its own bytes.
+  -- What holds for every chunk of the description: its condition, its letters, and that it describes its own bytes.
   all-held : Every Held (description .chunks)
   all-held = every-map describe (r .chunks) .1 (every-of (λ chunk d. d .held) all-described)
 
@@ -272,7 +272,7 @@ module _ (m : List ℕ) (bytes : Bytes m) (r : Rules m) where
   all-back : Every (λ c. describe (chunkBytes c) ≡ c) (description .chunks)
   all-back = every-map describe (r .chunks) .1 (every-of (λ chunk again. ap describe again) chunks-again)
 
-  -- A chunk stands in it where it stands among the chunks.
+  -- A chunk among the chunks of the module is in the description.
   there : {letters : List ℕ} (covers : Covered letters) {chunk : List ℕ} → Among (r .chunks) letters chunk → In (description .chunks) (coveredAs covers chunk)
   there covers a = subst (In (description .chunks)) (by-letters covers a) (within-in (within-mapped describe (among-within a)))
 
@@ -280,13 +280,13 @@ module _ (m : List ℕ) (bytes : Bytes m) (r : Rules m) where
       → r .chunks ≡ map chunkBytes before ++ (chunkBytes c ∷ map chunkBytes after)
   chunks-split before after c e = sym encodings ∙ ap (map chunkBytes) e ∙ map-append chunkBytes before (c ∷ after)
 
-  -- M6.
+  -- M6 holds for the description.
   chunks-once : Once (description .chunks)
   chunks-once =
       letters-once (λ letters covers. no-two-mapped describe (λ (c : Chunk). chunkLetters c ≡ letters)
       (λ chunk within named. sym (within-every all-described within .letters) ∙ named) (rules .once letters covers))
 
-  -- M7.
+  -- M7 holds for the description.
   info-first : InfoFirst (description .chunks)
   info-first before after c e needs = (info, in-before)
     where
@@ -316,7 +316,7 @@ module _ (m : List ℕ) (bytes : Bytes m) (r : Rules m) where
           (subst (In (map describe (map chunkBytes before))) (by-letters Covered.info among)
           (within-in (within-mapped describe (among-within (found .1)))))
 
-  -- The blocks are as many as the patterns and instruments.
+  -- The numbers of patterns and instruments are those of their blocks.
   pattern-count : length patterns ≡ length (content .patterns)
   pattern-count = sym (length-map patterns patternBytes) ∙ ap length patterns-are
 
@@ -360,7 +360,7 @@ module _ (m : List ℕ) (bytes : Bytes m) (r : Rules m) where
     panningEnvelopes = λ es i. rw instrument-count (within-every all-held (in-within i));
   }
 
--- A module of which the rules hold, and so an accepted one, is the encoding of a well-formed description.
+-- A module for which the rules hold, and so every accepted one, is the encoding of a well-formed description.
 pub described : (m : List ℕ) → Bytes m → Rules m → (d : Description) × WellFormed d × (encoded d ≡ m)
 described m bytes r = (description m bytes r, well-formed m bytes r, module-again m bytes r)
 

@@ -1,4 +1,4 @@
--- The encoding of each kind of block that fits: it is bytes, and the rules of its kind hold of it. And of the chunks that have rules of
+-- The encoding of each kind of block that fits: it consists of bytes, and the rules of its kind hold for it. Also the chunks with rules of
 -- their own: INFO, and the envelopes.
 use Prim.Native.Nat.{ℕ, _+_, _-_, _≤_, _<_}
 use mathlib.Core.Path.{_≡_, refl, sym, ap, _∙_}
@@ -36,11 +36,11 @@ use Rattle.format.proofs.ReadingBlocks.{sample-flags, sample-frames, en
 use Rattle.format.proofs.ReadingBlocks.{envelope-flags, envelope-sections, envelope-first-sustain, envelope-loop-first}
 use Rattle.format.proofs.ReadingBlocks.{envelope-loop-last, envelope-second-sustain, envelope-value}
 
--- Records of which the encoding of each is bytes.
+-- If the encoding of each record consists of bytes, that of the list does.
 pub all-bytes : {A : Type 0} {P : A → Type 0} (f : A → List ℕ) → ((x : A) → P x → Bytes (f x)) → (xs : List A) → Every P xs → Bytes (joined (map f xs))
 all-bytes f each xs e = bytes-joined (map f xs) .0 (every-map f xs .1 (every-of each e))
 
--- Blocks behind their front fill a chunk.
+-- Blocks after a front fill a chunk.
 pub filled-by : (front : List ℕ) (n : ℕ) → length front ≡ n → (blocks : List (List ℕ)) (count : ℕ) → length blocks ≡ count
     → Filled n (front ++ joined blocks) count blocks
 filled-by front n long blocks count many = record {
@@ -49,11 +49,11 @@ filled-by front n long blocks count many = record {
   number = many;
 }
 
--- INFO's data stand behind its identifier and its length.
+-- INFO's data are after its identifier and its length.
 pub info-at : (i : Info) (k : ℕ) → number16 (chunkBytes (INFO i)) (8 + k) ≡ number16 (infoBytes i) k
 info-at i = number16-past (infoLetters ++ bytes32 10) (infoBytes i) 8 refl
 
--- M9.
+-- M9: the encoding of INFO.
 module _ (i : Info) (fits : InfoFits i) where
   pub info-bytes : Bytes (infoBytes i)
   info-bytes =
@@ -73,7 +73,7 @@ module _ (i : Info) (fits : InfoFits i) where
     tracks = rw (info-at i 8 ∙ info-read i .tracks) (fits .tracks);
   }
 
--- B2, V1: the numbers of patterns fit 2 bytes, since there are so few patterns.
+-- B2, V1: the pattern numbers fit 2 bytes, since there are few enough patterns.
 module _ (patterns : ℕ) (s : Song) (fits : SongFits patterns s) where
   pub song-bytes : patterns ≤ 65536 → Bytes (songBytes s)
   song-bytes few =
@@ -92,7 +92,7 @@ module _ (patterns : ℕ) (s : Song) (fits : SongFits patterns s) where
             );
       }
 
--- B3, V2, V6.
+-- B3, V2, V6: the encoding of an instrument.
 module _ (samples : List Sample) (i : Instrument) (fits : InstrumentFits samples i) where
   pub instrument-bytes : length samples < 65536 → Bytes (instrumentBytes i)
   instrument-bytes few =
@@ -127,7 +127,7 @@ module _ (samples : List Sample) (i : Instrument) (fits : InstrumentFits samples
           ap (λ (block : List ℕ). number32 block 4) (getD-mapped sampleBytes samples (i .sample - 1) [] emptySample there)
           ∙ sample-frames (getD samples (i .sample - 1) emptySample)
 
--- B4, V7.
+-- B4, V7: the encoding of a pattern.
 module _ (tracks : ℕ) where
   entries-bytes : tracks ≤ 254 → (es : List Entry) → every (soundEntry tracks) es ≡ true → Every (λ e. Bytes (e .fields)) es → EntriesBytes es
   entries-bytes few [] sound fields = none
@@ -164,7 +164,7 @@ module _ (tracks : ℕ) where
       sound = record { count = sym (bytes16-again (length (p .rows))); sound = fits .sound; bytes = refl };
     }
 
--- B5.
+-- B5: the encoding of a sample.
 frame-bytes : (w : Width) (f : ℕ) → FrameFits w f → Bytes (frameBytes w f)
 frame-bytes eight f h = bytes-cons f [] h bytes-nil
 frame-bytes sixteen f h = bytes16-bytes f h
@@ -193,7 +193,7 @@ module _ (s : Sample) (fits : SampleFits s) where
     size = rw (sample-flags s, sample-frames s) (sample-size s);
   }
 
--- B6, V3 to V5.
+-- B6, V3 to V5: the encoding of an envelope.
 point-bytes : (p : Point) → PointFits p → Bytes (pointBytes p)
 point-bytes p h = bytes-append (bytes16 (p .position)) (bytes16 (p .value)) (bytes16-bytes _ (h .position)) (bytes16-bytes _ (h .value))
 
@@ -232,7 +232,7 @@ module _ (instruments : ℕ) (ValueFits : ℕ → Type 0) where
         bytes-append (bytes16 (length es)) _ (bytes16-bytes _ (fits .many))
         (all-bytes envelopeBytes (λ e h. envelope-bytes e h few) es (fits .each))
 
-    -- Behind the identifier and the length of their chunk.
+    -- After the identifier and the length of their chunk.
     pub envelopes-rules : (front : List ℕ) → length front ≡ 8 → EnvelopesRules instruments ValueFits (front ++ envelopesBytes es)
     envelopes-rules front long = record {
       envelopes = map envelopeBytes es;

@@ -1,4 +1,5 @@
--- The encoding of a well-formed description is accepted: the rules of a module hold of it, with its header and the encodings of its chunks.
+-- The encoding of a well-formed description is accepted: the rules of a module hold for it, with its header and the encodings of its
+-- chunks.
 use Prim.Native.Nat.{ℕ, _≤_, _<_}
 use mathlib.Core.Path.{_≡_, refl, sym, ap, subst, _∙_}
 use mathlib.Core.Logic.{_⊎_, inl, inr}
@@ -37,12 +38,12 @@ use Rattle.format.proofs.EncodedBlocks.{all-bytes, filled-by, info-at, 
 use Rattle.format.proofs.EncodedBlocks.{instrument-bytes, instrument-rules, pattern-bytes, pattern-rules, sample-bytes}
 use Rattle.format.proofs.EncodedBlocks.{sample-rules, envelopes-bytes, envelopes-rules}
 
--- M5: an chunkLetters is four letters A to Z.
+-- M5: an identifier is four letters A to Z.
 pub record Capitals (letters : List ℕ) : Type 0 where
   pub four : length letters ≡ 4
   pub each : Every (λ letter. (65 ≤ letter) × (letter ≤ 90)) letters
 
--- So it can be computed.
+-- A test for this, which can be computed.
 abbrev capital : ℕ → Bool
 capital letter = leb 65 letter && leb letter 90
 
@@ -56,7 +57,7 @@ capitals letters four h = record { four = four; each = go letters h }
         let one = and-says (leb 65 l) (leb l 90) .0 (parts .0) in
         also (leb-says 65 l .0 (one .0), leb-says l 90 .0 (one .1)) (go ls (parts .1))
 
--- M5: a chunk is bytes of its own length.
+-- M5: a chunk consists of bytes and has its own length.
 module _ (c : Chunk) (letters : Capitals (chunkLetters c)) where
   pub chunk-named : take 4 (chunkBytes c) ≡ chunkLetters c
   chunk-named = take-at (chunkLetters c) _ 4 (letters .four)
@@ -78,12 +79,12 @@ module _ (c : Chunk) (letters : Capitals (chunkLetters c)) where
       bytes-append (chunkLetters c) _ (bytes-every (chunkLetters c) .1 (every-of (λ letter h. omega (arith, h .1)) (letters .each)))
       (bytes-append (bytes32 (length (chunkData c))) (chunkData c) (bytes32-bytes _ long) held)
 
--- A chunk of the description stands among the encodings. Its chunkLetters has four letters: of a covered chunk that is so by computing.
+-- A chunk of the description is among the encodings. Its identifier has four letters; for a covered chunk this is computed.
 pub in-among : (chunks : List Chunk) (c : Chunk) → In chunks c → length (chunkLetters c) ≡ 4 → Among (map chunkBytes chunks) (chunkLetters c) (chunkBytes c)
 in-among chunks c i four = within-among (within-mapped chunkBytes (in-within i)) (take-at (chunkLetters c) _ 4 four)
 
 module _ (d : Description) (w : WellFormed d) where
-  -- M5: the chunkLetters of each is of four letters.
+  -- M5: the identifier of each chunk is four letters.
   chunk-letters : (c : Chunk) → In (d .chunks) c → Capitals (chunkLetters c)
   chunk-letters (NAME held) i = capitals nameLetters refl refl
   chunk-letters (INFO held) i = capitals infoLetters refl refl
@@ -95,7 +96,7 @@ module _ (d : Description) (w : WellFormed d) where
   chunk-letters (PENV held) i = capitals penvLetters refl refl
   chunk-letters (Other letters held) i = record { four = w .others letters held i .four; each = w .others letters held i .capitals }
 
-  -- M9, B1: the records are so few that their numbers fit 2 bytes.
+  -- M9, B1: there are so few records that their numbers fit 2 bytes.
   few-patterns : length (w .patterns) ≤ 65536
   few-patterns = omega (arith, w .lists .patternCount, w .lists .infoFits .patterns)
 
@@ -105,7 +106,7 @@ module _ (d : Description) (w : WellFormed d) where
   few-instruments : length (w .instruments) < 65536
   few-instruments = omega (arith, w .lists .instrumentCount, w .lists .infoFits .instruments)
 
-  -- What a chunk holds is bytes: of the mandatory ones, which are there once, what the description has of them.
+  -- The content of a chunk consists of bytes. A mandatory chunk occurs once, so its content is that of the description.
   same-bytes : {c e : Chunk} → In (d .chunks) c → In (d .chunks) e → Covered (chunkLetters c) → chunkLetters c ≡ chunkLetters e
       → Bytes (chunkData e)
       → Bytes (chunkData c)
@@ -147,7 +148,7 @@ module _ (d : Description) (w : WellFormed d) where
       (bytes-joined (map chunkBytes (d .chunks)) .0
       (every-map chunkBytes (d .chunks) .1 (every-in (d .chunks) (λ c i. chunk-bytes c (chunk-letters c i) (in-every (w .lengths) i) (held-bytes c i)))))
 
-  -- A chunk of the encoding is that of a chunk of the description, which has the same letters.
+  -- A chunk of the encoding is the encoding of a chunk of the description with the same letters.
   letters-of : (c : Chunk) → In (d .chunks) c → {chunk letters : List ℕ} → chunk ≡ chunkBytes c → take 4 chunk ≡ letters → chunkLetters c ≡ letters
   letters-of c i same named = sym (chunk-named c (chunk-letters c i)) ∙ ap (take 4) (sym same) ∙ named
 
@@ -157,11 +158,11 @@ module _ (d : Description) (w : WellFormed d) where
       let (c, within, same) = mapped-within chunkBytes (among-within a) in
       (c, within-in within, letters-of c (within-in within) same (a .named), same)
 
-  -- Such a chunk is the encoding of one of the description, with what it holds.
+  -- The bytes of a chunk are the encoding of a chunk of the description, made by `make` from its content.
   abbrev pub Encodes : {A : Type 0} → (A → Chunk) → List ℕ → Type 0
   Encodes {A} make chunk = (held : A) × In (d .chunks) (make held) × (chunk ≡ chunkBytes (make held))
 
-  -- So a chunk with covered letters is what they name.
+  -- So a chunk with covered letters is the encoding of a chunk of their kind.
   pub among-held : {letters : List ℕ} (covers : Covered letters) (chunk : List ℕ)
       → Among (map chunkBytes (d .chunks)) letters chunk
       → Encodes (holder (chunkKindBy (identifierOf covers))) chunk

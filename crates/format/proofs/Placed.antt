@@ -1,5 +1,5 @@
--- Where the records of a description stand in its encoding: the module opens with the layout of the description's chunks; and whatever is
--- asked for is found, by the numbers that its list has, at a place where the encoding of that record stands, and refused by all others.
+-- The places of a description's records in its encoding. The module opens with the layout of the description's chunks. A record that is
+-- requested by a number of its list is found at a place where its encoding is, and every other number is refused.
 use Prim.Native.Nat.{ℕ, _+_, _-_, _<_}
 use mathlib.Core.Path.{_≡_, refl, sym, ap, _∙_}
 use mathlib.Core.List.{List, [], _++_, map}
@@ -35,13 +35,13 @@ use Rattle.format.proofs.Stored.{number16-past}
 use Rattle.format.proofs.ReadingBlocks.{info-read}
 use Rattle.format.proofs.EncodedModule.{in-among, encoded-chunks, encoded-accepted}
 
--- The records of a list, which all fit, are those that are asked for: so many are counted, and each stands at its place.
+-- The records of a list are those of a record kind in the module: all fit, the count is theirs, and each is at its place.
 pub record Listed (m : List ℕ) (l : Layout) (kind : RecordKind) {A : Type 0} (bytes : A → List ℕ) (Fits : A → Type 0) (xs : List A) : Type 0 where
   pub fits : Every Fits xs
   pub count : countOf m l kind ≡ length xs
   pub block : (i : ℕ) (other : A) → i < length xs → PartAt m (blockAt m (blockKindOf kind) (chunkOf l kind) i) (bytes (getD xs i other))
 
--- So do the records of a chunk that stands in the module: behind its front, one behind the other.
+-- This holds for the records of a chunk of the module: they are after its front, one after the other.
 module _ {m : List ℕ} {l : Layout} (kind : RecordKind) {A : Type 0} (bytes : A → List ℕ) {Fits : A → Type 0}
     (sized : (x : A) → Fits x → Sized (blockKindOf kind) (bytes x)) where
   pub chunk-listed : (front : List ℕ) (xs : List A) → SpanHolds m (chunkOf l kind) (front ++ joined (map bytes xs))
@@ -59,7 +59,7 @@ module _ {m : List ℕ} {l : Layout} (kind : RecordKind) {A : Type 0} (bytes : A
         );
   }
 
--- What a query answers by a number: what is shown of the record of that number, or the refusal.
+-- The answer of a query for a number: what is shown of the record with that number, or the refusal.
 module _ {m : List ℕ} {l : Layout} (opens : opened m ≡ Opened l) {kind : RecordKind} {A : Type 0} {bytes : A → List ℕ}
     {Fits : A → Type 0} {xs : List A} (s : Listed m l kind bytes Fits xs) {R : Type 0} (answer : Found → R) (show : A → R)
     (other : A) where

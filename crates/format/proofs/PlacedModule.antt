@@ -1,4 +1,4 @@
--- The lists of a description, each found in its encoding: whatever is asked for by a number is the record that the list has by that number.
+-- The lists of a description, each found in its encoding: the record requested by a number is the record of the list with that number.
 use Prim.Native.Nat.{ℕ}
 use mathlib.Core.Path.{_≡_, refl, sym, subst, subst₂, _∙_}
 use mathlib.Core.Logic.{inl, inr}
@@ -36,12 +36,12 @@ use Rattle.format.proofs.ShownEnvelopes.{envelope-sized}
 use Rattle.format.proofs.ShownPatterns.{pattern-sized}
 use Rattle.format.proofs.ShownSamples.{sample-sized}
 
--- V5: the values of an envelope of a kind.
+-- V5: the range of the values of an envelope of a kind.
 abbrev pub ValuesFit : EnvelopeKind → ℕ → ℕ → Type 0
 ValuesFit Volume version = VolumeFits
 ValuesFit Panning version = PanningValueFits version
 
--- A chunk with these letters is not present where none stands among the chunks.
+-- A chunk is not present if no chunk with its letters is among the chunks.
 missing : {m : List ℕ} {chunks : List (List ℕ)} {letters : List ℕ} {span : ChunkSpan} → Found m chunks letters span
     → ((chunk : List ℕ) → Among chunks letters chunk → ⊥)
     → span .present ≡ false
@@ -52,7 +52,7 @@ missing {span = span} f lacks = go (span .present) refl
     go false e = e
 
 module _ (d : Description) (w : WellFormed d) {l : Layout} (layout : LayoutOf (encoded d) (headerBytes d) (map chunkBytes (d .chunks)) l) where
-  -- The lists that are mandatory.
+  -- The lists of the mandatory chunks.
   pub songs-listed : (songs : List Song) → In (d .chunks) (SONG songs) → Listed (encoded d) l SongKind songBytes (SongFits (length (w .patterns))) songs
   songs-listed songs i =
       let one : SONG (w .songs) ≡ SONG songs = in-once (w .once) (w .songsThere) i Covered.song refl in
@@ -98,7 +98,7 @@ module _ (d : Description) (w : WellFormed d) {l : Layout} (layout : LayoutOf (e
       (layout .smpl .holds (chunkBytes (SMPL (w .samples))) (in-among (d .chunks) (SMPL (w .samples)) (w .samplesThere) refl)) refl
       (info-numbers d w layout (w .info) (w .infoThere) .1 ∙ sym (w .lists .sampleCount)) (w .lists .samplesFit))
 
-  -- NAME and the envelopes' chunks are missing where the description has none.
+  -- NAME and the envelopes' chunks are missing if the description does not have them.
   pub name-missing : ((other : List ℕ) → In (d .chunks) (NAME other) → ⊥) → l .spans .name .present ≡ false
   name-missing lacks = missing (layout .name) (λ chunk a. let (held, i, same) = among-held d w Covered.name chunk a in lacks held i)
 
@@ -108,7 +108,7 @@ module _ (d : Description) (w : WellFormed d) {l : Layout} (layout : LayoutOf (e
   panning-missing : ((others : List Envelope) → In (d .chunks) (PENV others) → ⊥) → l .spans .penv .present ≡ false
   panning-missing lacks = missing (layout .penv) (λ chunk a. let (held, i, same) = among-held d w Covered.penv chunk a in lacks held i)
 
-  -- The envelopes of a kind, none where their chunk is missing.
+  -- The envelopes of a kind, none if their chunk is missing.
   absent-listed : (kind : RecordKind) {A : Type 0} {bytes : A → List ℕ} {Fits : A → Type 0} (xs : List A)
       → countOf (encoded d) l kind ≡ 0 → xs ≡ []
       → Listed (encoded d) l kind bytes Fits xs

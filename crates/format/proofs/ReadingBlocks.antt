@@ -1,4 +1,4 @@
--- What stands in the encoding of a block: each field at its offset, and how long the block is.
+-- The encoding of a block: each field is at its offset, and the length of the block.
 use Prim.Native.Nat.{ℕ, _+_, _*_, _<_}
 use mathlib.Core.Path.{_≡_, refl, ap, _∙_}
 use mathlib.Core.List.{List, map}
@@ -103,7 +103,7 @@ frame-size eight f = refl
 frame-size sixteen f = refl
 frame-size thirtyTwo f = refl
 
--- The frames of a sample as they are stored: so many bytes, and each frame at its place.
+-- The frames of a sample as stored: the number of their bytes, and each frame at its place.
 pub frames-size : (w : Width) (frames : List ℕ) → length (joined (map (frameBytes w) frames)) ≡ length frames * flagsOf w
 frames-size w frames = pieces-size (frameBytes w) (flagsOf w) (frame-size w) frames
 

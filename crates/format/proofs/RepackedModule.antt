@@ -1,4 +1,4 @@
--- A description repacked: its encoding is the module repacked of the description's encoding, and it is well formed.
+-- A repacked description: its encoding is the repacked module of the description's encoding, and it is well formed.
 use Prim.Native.Nat.{ℕ, _+_, _≤_}
 use mathlib.Core.Path.{_≡_, refl, sym, ap, _∙_}
 use mathlib.Core.List.{List, _++_, map, map-map}
@@ -48,7 +48,7 @@ module _ (d : Description) (w : WellFormed d) where
   abbrev content : List ℕ
   content = joined (map patternBytes (map (repackedPattern tracks) (w .patterns)))
 
-  -- PATT gets the data anew, every other chunk stays.
+  -- PATT gets the rewritten data, and every other chunk is unchanged.
   chunk-rewritten : (c : Chunk) → In (d .chunks) c → IsChunk (chunkBytes c) → rewrittenChunk content (chunkBytes c) ≡ chunkBytes (repackedChunk tracks c)
   unfolding number32 number16 byteAt
   chunk-rewritten (NAME name) i c = refl
@@ -68,7 +68,7 @@ module _ (d : Description) (w : WellFormed d) where
       ap (λ (b : Bool). cond b (withData content (chunkBytes (Other letters bytes))) (chunkBytes (Other letters bytes)))
       (not-covered letters bytes (w .others letters bytes i) c Covered.patt)
 
-  -- X3: PATT's data anew are the patterns repacked.
+  -- X3: PATT's rewritten data are the repacked patterns.
   module _ (l : Layout) (layout : LayoutOf (encoded d) (headerBytes d) (map chunkBytes (d .chunks)) l) where
     patterns-there : PartAt (encoded d) (l .spans .patt .at + 8) (joined (map patternBytes (w .patterns)))
     patterns-there =

@@ -1,4 +1,4 @@
--- A pattern repacked: its encoding is the block anew of its encoding, and it is well formed.
+-- A repacked pattern: its encoding is the rewritten block of the pattern's encoding, and it is well formed.
 use Prim.Native.Nat.{ℕ, _%_, _≤_}
 use mathlib.Core.Path.{_≡_, refl, sym, ap, _∙_}
 use mathlib.Core.List.{List, [], _∷_, _++_, map}
@@ -31,7 +31,7 @@ use Rattle.format.specs.Repacked.{repackedPattern}
 use Rattle.format.proofs.ReadingBlocks.{pattern-rows, pattern-packed, pattern-stream}
 use Rattle.format.proofs.EncodedBlocks.{pattern-bytes}
 
--- As many rows.
+-- The number of rows is unchanged.
 pub rows-many : (tracks : ℕ) (rows : List (List Entry)) → length (map packedEntries (rowsFrom tracks rows)) ≡ length rows
 rows-many tracks rows = length-map (rowsFrom tracks rows) packedEntries ∙ length-map rows (rowFrom tracks)
 
@@ -58,7 +58,7 @@ module _ (tracks : ℕ) (p : Pattern) (fits : PatternFits tracks p) where
       ap (λ (entries : List (List Entry)). bytes16 (length (p .rows)) ++ packed (packedStream (rowsFrom tracks entries))) read
       ∙ ap (λ (n : ℕ). bytes16 n ++ packed (streamOf rewritten)) (sym (rows-many tracks (p .rows)))
 
-  -- No longer.
+  -- The stream is no longer than before.
   shorter : length (streamOf rewritten) ≤ length (streamOf (p .rows))
   shorter =
       let accepted : AcceptedAs (length (p .rows)) tracks (streamOf (p .rows)) _ = record { entries = p .rows; read = reads; gives = refl } in

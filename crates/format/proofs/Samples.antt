@@ -1,5 +1,5 @@
--- Two modules of samples/, as descriptions and byte by byte (FORMAT.md, "Two modules, byte by byte"): the encoding of each description is the
--- file's bytes, and the check accepts them.
+-- Two modules of samples/, as descriptions and byte by byte (FORMAT.md, "Two modules, byte by byte"): the encoding of each description is
+-- the file's bytes, and the check accepts them.
 use Prim.Native.Nat.{ℕ, _-_}
 use mathlib.Core.Path.{_≡_, refl}
 use mathlib.Core.List.{List, [], _∷_, _++_}
@@ -14,11 +14,11 @@ use Rattle.module.specs.Verdicts.{moduleVerdict}
 use Rattle.format.specs.Description.{eight, Point, NAME, INFO, SONG, INST, PATT, SMPL, PENV, Description}
 use Rattle.format.specs.Encoding.{encoded}
 
--- A name, with zeros behind it.
+-- A name, followed by zeros.
 abbrev padded : ℕ → List ℕ → List ℕ
 padded n name = name ++ replicate (n - length name) 0
 
--- samples/smallest.dbm: INFO with 4 tracks and nothing else, and four empty chunks.
+-- samples/smallest.dbm: INFO with 4 tracks and no records, and four empty chunks.
 pub smallest : Description
 smallest = record {
   version = 3;
@@ -35,8 +35,8 @@ smallestBytes =
     ∷ 0x00 ∷ 0x00 ∷ 0x53 ∷ 0x4D ∷ 0x50 ∷ 0x4C ∷ 0x00 ∷ 0x00 ∷ 0x00 ∷ 0x00
     ∷ []
 
--- samples/old.dbm: a tune of version 2: one song, one instrument of one sample, a pattern of 8 rows whose stream is odd, and a panning
--- envelope, which stands before SONG.
+-- samples/old.dbm: a tune of version 2: one song, one instrument with one sample, a pattern of 8 rows with a stream of odd length, and a
+-- panning envelope, whose chunk is before SONG.
 abbrev entry : ℕ → ℕ → List ℕ → Entry
 entry track mask fields = record { track = track; mask = mask; fields = fields }
 
@@ -135,7 +135,7 @@ pub worked : (encoded smallest ≡ smallestBytes) × (encoded old ≡ oldBytes)
 unfolding smallest smallestBytes old oldBytes
 worked = (refl, refl)
 
--- And accepted, as the check computes.
+-- The check accepts both, by computation.
 pub worked-accepted : (moduleVerdict smallestBytes ≡ Accepted) × (moduleVerdict oldBytes ≡ Accepted)
 unfolding smallestBytes oldBytes readFrom reading byteAt number16 number32 chunksFrom chunks sizeOf
 worked-accepted = (refl, refl)

@@ -1,4 +1,4 @@
--- Bytes and numbers of a record that stands in the module, as the queries show them.
+-- Bytes and numbers of a record in the module, as the queries show them.
 use Prim.Native.Nat.{ℕ, suc, _+_, _<_}
 use mathlib.Core.Path.{_≡_, refl, sym, ap, _∙_}
 use mathlib.Core.List.{List, [], _∷_, map}
@@ -13,7 +13,7 @@ use Rattle.acceptance.proofs.Locating.{PartAt, part-inside, part-is}
 pub bytes-at : {m part : List ℕ} {at : ℕ} → PartAt m at part → (n : ℕ) → length part ≡ n → bytesFrom m at n ≡ part
 bytes-at {m} {part} {at} p n e = bytes-part m n at (omega (arith, part-inside p)) ∙ ap (partOf m at) (sym e) ∙ part-is p
 
--- What a function gives for each number of a list, where that is what another gives for the one of that number.
+-- The results of a function for the numbers of a list, if they are those of another function for the elements with these numbers.
 pub each-listed : {A B : Type 0} (f : ℕ → B) (g : A → B) (other : A) (xs : List A) (k : ℕ)
     → ((i : ℕ) → i < length xs → f (k + i) ≡ g (getD xs i other))
     → eachFrom f k (length xs) ≡ map g xs

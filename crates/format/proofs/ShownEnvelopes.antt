@@ -1,4 +1,4 @@
--- Envelopes: what the query shows of the encoding of an envelope that stands in the module is the envelope.
+-- Envelopes: what the query shows of the encoding of an envelope in the module is the envelope.
 use Prim.Native.Nat.{ℕ, _+_, _*_, _<_}
 use mathlib.Core.Path.{_≡_, ap, _∙_}
 use mathlib.Core.List.{List}

@@ -1,4 +1,4 @@
--- Instruments: what the query shows of the encoding of an instrument that stands in the module is the instrument.
+-- Instruments: what the query shows of the encoding of an instrument in the module is the instrument.
 use Prim.Native.Nat.{ℕ, _+_, _≤_}
 use mathlib.Core.Path.{_≡_, _∙_}
 use mathlib.Core.List.{List}

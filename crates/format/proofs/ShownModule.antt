@@ -1,4 +1,4 @@
--- The encoding of a well-formed description shows the description: what every query answers of it is what the description says.
+-- The encoding of a well-formed description shows the description: the answer of every query is what the description says.
 use Prim.Native.Nat.{ℕ, _+_}
 use mathlib.Core.Path.{_≡_, refl, sym, ap, subst, _∙_}
 use mathlib.Core.Logic.{inl, inr}
@@ -50,7 +50,7 @@ use Rattle.format.proofs.ShownSamples.{sample-shown, frames-length, fra
 
 module _ (d : Description) (w : WellFormed d) {l : Layout} (opens : opened (encoded d) ≡ Opened l)
     (layout : LayoutOf (encoded d) (headerBytes d) (map chunkBytes (d .chunks)) l) where
-  -- Q4 to Q6.
+  -- Q4 to Q6: version and revision, the name, and the five numbers of INFO.
   version-same : l .version ≡ d .version
   unfolding byteAt
   version-same = layout .version
@@ -77,7 +77,7 @@ module _ (d : Description) (w : WellFormed d) {l : Layout} (opens : opened (enco
       let numbers = info-numbers d w layout info i in
       ap infoIf opens ∙ rw (numbers .0, numbers .1, numbers .2, numbers .3, numbers .4)
 
-  -- Q9: how many envelopes there are.
+  -- Q9: the number of envelopes.
   count-shown : (kind : EnvelopeKind) (es : List Envelope) → Envelopes (d .chunks) kind es → countAnswer (encoded d) kind ≡ describedCount es
   count-shown Volume es e = ap (countIf (encoded d) Volume) opens ∙ rw (envelopes-listed d w layout Volume es e .count)
   count-shown Panning es e = ap (countIf (encoded d) Panning) opens ∙ rw (envelopes-listed d w layout Panning es e .count)
@@ -98,7 +98,7 @@ module _ (d : Description) (w : WellFormed d) {l : Layout} (opens : opened (enco
       go Volume s = by-number opens s (envelopeIf (encoded d) Volume) (describedEnvelope Volume (d .version)) emptyEnvelope (shown Volume)
       go Panning s = by-number opens s (envelopeIf (encoded d) Panning) (describedEnvelope Panning (d .version)) emptyEnvelope (shown Panning)
 
-  -- Q10: the cells of a pattern, by the tracks that INFO says.
+  -- Q10: the cells of a pattern, with INFO's tracks.
   module _ (info : Info) (patterns : List Pattern) (j : In (d .chunks) (INFO info)) (i : In (d .chunks) (PATT patterns)) (number : ℕ) where
     tracks-fit : TracksFit (info .tracks)
     tracks-fit = subst (λ (info : Info). TracksFit (info .tracks)) (info-same d w layout info j) (w .lists .infoFits .tracks)
@@ -127,7 +127,7 @@ module _ (d : Description) (w : WellFormed d) {l : Layout} (opens : opened (enco
         ap (λ (tracks : ℕ). streamOutput (packedBytes (encoded d) at) (number16 (encoded d) at) tracks out) tracks-same
         ∙ cells-written x f p tracks-fit out) number
 
-  -- Q12.
+  -- Q12: the frames of a sample as a part of the module.
   frames-at : (samples : List Sample) → In (d .chunks) (SMPL samples) → (number : ℕ) → ShowsFrames (encoded d) samples number
   frames-at samples i number =
       let s = samples-listed d w layout samples i in

@@ -1,5 +1,5 @@
--- Patterns: the packed stream in the encoding of a pattern that stands in the module is read as the pattern's entries, by theorem 6 of
--- `packed_rows`; so what the queries show of it is the pattern, by its rows and its cells.
+-- Patterns: the packed stream in the encoding of a pattern in the module is read as the pattern's entries, by theorem 6 of `packed_rows`.
+-- So what the queries show of it is the pattern, by its rows and its cells.
 use Prim.Native.Nat.{ℕ, _+_, _-_, _%_}
 use mathlib.Core.Path.{_≡_, refl, sym, ap, _∙_}
 use mathlib.Core.List.{List, [], _++_}
@@ -35,7 +35,7 @@ use Rattle.format.specs.WellFormed.{PatternFits}
 use Rattle.format.specs.Shown.{notThere, describedCell, cellsLength, cellsWritten}
 use Rattle.format.proofs.ReadingBlocks.{pattern-size, pattern-rows, pattern-packed}
 
--- What is answered of a stream that is read whole.
+-- The answers for a stream that is read whole.
 module _ (rows tracks : ℕ) (stream : List ℕ) (entries : List (List Entry)) (fits : sizesFit rows tracks ≡ true)
     (reads : readStream rows tracks stream ≡ whole entries) where
   cell-read : (row track : ℕ)

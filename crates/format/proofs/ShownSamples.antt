@@ -1,5 +1,4 @@
--- Samples: what the queries show of the encoding of a sample that stands in the module is the sample, and its frames, as they are stored and
--- at 16 bits.
+-- Samples: what the queries show of the encoding of a sample in the module is the sample, and its frames, as stored and at 16 bits.
 use Prim.Native.Nat.{ℕ, _+_, _*_, _<_}
 use mathlib.Core.Path.{_≡_, refl, sym, ap, _∙_}
 use mathlib.Core.List.{List, _++_, map}
@@ -26,13 +25,13 @@ use Rattle.format.proofs.Stored.{piece-at}
 use Rattle.format.proofs.ReadingBlocks.{frame-size, frames-size, sample-size, sample-flags, sample-frames}
 use Rattle.format.proofs.ShownBlocks.{each-listed}
 
--- The flags say how many bytes a frame has.
+-- The flags are the number of bytes in a frame.
 width-flags : (w : Width) → widthOf (flagsOf w) ≡ flagsOf w
 width-flags eight = refl
 width-flags sixteen = refl
 width-flags thirtyTwo = refl
 
--- A frame that stands at a place, at 16 bits.
+-- A frame at a place, at 16 bits.
 frame-at : (w : Width) (frame : ℕ) {m : List ℕ} {at : ℕ} → PartAt m at (frameBytes w frame) → frame16At m (flagsOf w) at ≡ at16Bits w frame
 unfolding byteAt
 frame-at eight frame p = ap (λ (v : ℕ). signedBy 128 v *ℤ pos 256) (byteAt-start p (omega arith))
@@ -54,7 +53,7 @@ module _ (s : Sample) where
     pub sample-shown : shownSample m at ≡ describedSample s
     sample-shown = rw (width, count)
 
-    -- The frames as they are stored.
+    -- The frames as stored.
     stored : PartAt m (at + 8) (storedFrames s)
     stored = part-rest (bytes32 (flagsOf (s .width)) ++ bytes32 (length (s .frames))) (storedFrames s) p
 
@@ -74,7 +73,7 @@ module _ (s : Sample) where
     pub frame-shown : (frame : ℕ) → frameIn m at frame ≡ describedFrame frame s
     frame-shown frame = rw count (same-if (ltb frame (length (s .frames))) _ (λ h. rw (frame-of frame (ltb-true frame _ h))))
 
-    -- All of them.
+    -- All frames at 16 bits.
     all : allFrames m at ≡ joined (map (λ f. bytes16 (unsigned16 (at16Bits (s .width) f))) (s .frames))
     all =
         rw count (ap joined (each-listed (λ frame. bytes16 (unsigned16 (frameOf m at frame)))

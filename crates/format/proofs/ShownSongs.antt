@@ -1,4 +1,4 @@
--- Songs: what the queries show of the encoding of a song that stands in the module is the song.
+-- Songs: what the queries show of the encoding of a song in the module is the song.
 use Prim.Native.Nat.{ℕ, _+_, _*_, _<_}
 use mathlib.Core.Path.{_≡_, _∙_}
 use mathlib.Core.List.{List, _++_, map}

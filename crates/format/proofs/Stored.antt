@@ -1,4 +1,5 @@
--- Numbers after a front, read at their place; and pieces of one size, one after the other: so many bytes, and each piece at its place.
+-- Numbers after a front, read at their place; and pieces of one size, one after the other: the number of their bytes, and each piece at its
+-- place.
 use Prim.Native.Nat.{ℕ, zero, suc, _+_, _*_, _<_}
 use mathlib.Core.Path.{_≡_, refl, subst}
 use mathlib.Core.List.{List, [], _∷_, _++_, map, append-nil}
@@ -10,7 +11,7 @@ use Rattle.numbers.specs.Numbers.{number16, number32}
 use Rattle.acceptance.proofs.Locating.{PartAt, number16-after, number32-after}
 use Rattle.acceptance.proofs.Cutting.{part-first, part-rest}
 
--- What stands behind a front of so many bytes.
+-- The bytes after a front of a given length.
 module _ (front rest : List ℕ) (at : ℕ) (long : length front ≡ at) where
   pub number16-past : (k : ℕ) → number16 (front ++ rest) (at + k) ≡ number16 rest k
   number16-past k = rw (← long) (number16-after front rest k)

@@ -1,13 +1,13 @@
--- The theorem about modules as descriptions. In plain words:
+-- The theorem about modules as descriptions.
 --
---  9. The encoding of every well-formed description is a list of bytes, and the check accepts it. Every list of bytes that the check accepts
---     is the encoding of a well-formed description, and of one only. So a module is accepted exactly when it is the encoding of a
---     well-formed description: acceptance said with no reader at all.
+--  9. The encoding of every well-formed description is a list of bytes, and the check accepts it. Every list of bytes that the check
+--     accepts is the encoding of a well-formed description, and of only one. So a module is accepted exactly if it is the encoding of a
+--     well-formed description. This states acceptance without any reader.
 --     What the queries show of the encoding of a well-formed description is what the description says (`Shows`).
---     Repacking the encoding of a well-formed description gives the encoding of the same description with the packer's entries and zeros for
---     fillers, which is well formed too.
+--     Repacking the encoding of a well-formed description gives the encoding of the same description with the packer's entries and zeros
+--     for fillers, which is well formed too.
 --
--- The check is `moduleVerdict`, the module repacked `repacked`: those that the contracts cite; and so are the answers in `Shows`.
+-- The check is `moduleVerdict` and the repacked module is `repacked`. The contracts cite these two, and also the answers in `Shows`.
 use Prim.Native.Nat.{ℕ}
 use mathlib.Core.Path.{_≡_, ap, sym, _∙_}
 use mathlib.Core.Logic.{_↔_}
@@ -27,7 +27,7 @@ use Rattle.format.proofs.Unique as Unique
 use Rattle.format.proofs.ShownModule as ShownModule
 use Rattle.format.proofs.RepackedModule as RepackedModule
 
--- 9.
+-- Theorem 9.
 module _ (d : Description) (w : WellFormed d) where
   pub encoding-bytes : Bytes (encoded d)
   encoding-bytes = EncodedModule.encoded-bytes d w

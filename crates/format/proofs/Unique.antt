@@ -1,5 +1,6 @@
--- A list of bytes is the encoding of one description at most. The header has a fixed length, and every chunk tells its own: so both
--- descriptions have the same chunks as bytes. Then INFO is the same, so both have the same tracks, and what each chunk holds is the same.
+-- A list of bytes is the encoding of at most one description. The header has a fixed length, and every chunk states its own length, so both
+-- descriptions have the same chunks as bytes. Then INFO is the same, so both have the same tracks, and the content of each chunk is the
+-- same.
 use Prim.Native.Nat.{ℕ}
 use mathlib.Core.Path.{_≡_, refl, sym, ap, subst, _∙_}
 use mathlib.Core.List.{List, [], _∷_, map}
@@ -20,7 +21,7 @@ use Rattle.format.proofs.Delimited.{front-same, next16, info-same}
 use Rattle.format.proofs.ChunksIn.{every-in, in-every, in-once, in-other, each-same}
 use Rattle.format.proofs.ChunkKinds.{counted, held-as, Delimited, Plain, kind-same, parts-same, chunk-same}
 
--- Chunks that are whole, one behind the other: their bytes cut in one way only.
+-- Whole chunks one after the other: their bytes can be cut in only one way.
 chunks-same : (xs ys : List (List ℕ)) → Every IsChunk xs → Every IsChunk ys → joined xs ≡ joined ys → xs ≡ ys
 chunks-same [] [] p q e = refl
 chunks-same [] (y ∷ ys) p (also q qs) e = absurd (omega (arith, q .size, ap length e, length-append y (joined ys)))
@@ -34,7 +35,7 @@ chunks-same (x ∷ xs) (y ∷ ys) (also p ps) (also q qs) e =
     let rest = chunks-same xs ys ps qs (first .1) in
     λ i. first .0 i ∷ rest i
 
--- The chunks of a well-formed description tell their end.
+-- The chunks of a well-formed description have self-delimiting encodings.
 module _ (d : Description) (w : WellFormed d) where
   chunk-delimited : (c : Chunk) → In (d .chunks) c → Delimited (w .info .tracks) c
   chunk-delimited (NAME name) i = tt

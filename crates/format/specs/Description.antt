@@ -1,11 +1,12 @@
--- FORMAT.md, D1 and D2: a module as data. Numbers are as they are stored, unsigned: panning, values and frames are signed where they are
--- shown (Shown.antt). Names, fillers and the data of other chunks are lists of bytes. WellFormed.antt says what of this is a module,
--- Encoding.antt which bytes it is.
+-- The rules of a module, third of three statements: over data. Start here. This file has the data of a module (FORMAT.md, D1 and D2),
+-- Encoding.antt its bytes, and WellFormed.antt the rules. By theorem 9 the accepted modules are exactly the encodings of well-formed
+-- descriptions. Numbers are as stored, unsigned: panning, values and frames become signed when they are shown (Shown.antt). Names, fillers
+-- and the data of other chunks are lists of bytes.
 use Prim.Native.Nat.{ℕ}
 use mathlib.Core.List.{List}
 use Rattle.packed_rows.specs.Entries.{Entry}
 
--- M9: how many instruments, samples, songs and patterns there are, and how many tracks a pattern has.
+-- M9: the numbers of instruments, samples, songs and patterns, and the number of tracks of a pattern.
 pub record Info : Type 0 where
   pub instruments : ℕ
   pub samples : ℕ
@@ -13,12 +14,12 @@ pub record Info : Type 0 where
   pub patterns : ℕ
   pub tracks : ℕ
 
--- B2: a song: its name, and its playlist of pattern numbers, from 0.
+-- B2: a song: its name, and its playlist of pattern numbers, counted from 0.
 pub record Song : Type 0 where
   pub name : List ℕ
   pub playlist : List ℕ
 
--- B3: an instrument. Its sample is counted from 1, and 0 is none; its panning is as stored, and signed when it is shown.
+-- B3: an instrument. Its sample is counted from 1, and 0 is none. Its panning is as stored, and signed when it is shown.
 pub record Instrument : Type 0 where
   pub name : List ℕ
   pub sample : ℕ
@@ -29,7 +30,7 @@ pub record Instrument : Type 0 where
   pub panning : ℕ
   pub flags : ℕ
 
--- B4: a pattern: rows of entries (R4), and the filler byte behind a stream of odd length.
+-- B4: a pattern: rows of entries (R4), and the filler byte after a stream of odd length.
 pub record Pattern : Type 0 where
   pub rows : List (List Entry)
   pub filler : List ℕ
@@ -44,7 +45,7 @@ pub record Sample : Type 0 where
   pub width : Width
   pub frames : List ℕ
 
--- B6: an envelope, and its points, whose values are as stored.
+-- B6: an envelope, and its points. The values of points are as stored.
 pub record Point : Type 0 where
   pub position : ℕ
   pub value : ℕ
@@ -59,7 +60,7 @@ pub record Envelope : Type 0 where
   pub secondSustain : ℕ
   pub points : List Point
 
--- M5, M6: a chunk: one of the covered ones by what it holds, or another by its identifier and its data.
+-- M5, M6: a chunk: a covered one by its content, or another by its identifier and its data.
 pub data Chunk : Type 0 where
   NAME : List ℕ → Chunk
   INFO : Info → Chunk

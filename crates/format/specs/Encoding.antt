@@ -1,4 +1,4 @@
--- FORMAT.md, D3: the bytes of a description, by appending lists and big-endian numbers. Nothing is read here.
+-- FORMAT.md, D3: the bytes of a description, built by appending lists and big-endian numbers. Nothing is read here.
 use Prim.Native.Nat.{ℕ}
 use mathlib.Core.List.{List, [], _∷_, _++_, map}
 use lib.ListN.{length}
@@ -34,7 +34,7 @@ instrumentBytes i =
 abbrev pub patternBytes : Pattern → List ℕ
 patternBytes p = bytes16 (length (p .rows)) ++ (bytes32 (length (streamOf (p .rows))) ++ (streamOf (p .rows) ++ p .filler))
 
--- B5: flags 4, which are 1, 2 or 4 by the width; frames 4; and the frames.
+-- B5: flags 4, which are 1, 2 or 4 depending on the width; the number of frames 4; and the frames.
 abbrev pub flagsOf : Width → ℕ
 flagsOf eight = 1
 flagsOf sixteen = 2
@@ -61,7 +61,7 @@ envelopeBytes e =
 abbrev pub envelopesBytes : List Envelope → List ℕ
 envelopesBytes es = bytes16 (length es) ++ joined (map envelopeBytes es)
 
--- M5: the chunkLetters of a chunk, and its data.
+-- M5: the letters of a chunk, which are its identifier, and its data.
 abbrev pub chunkLetters : Chunk → List ℕ
 chunkLetters (NAME name) = nameLetters
 chunkLetters (INFO info) = infoLetters
@@ -84,7 +84,7 @@ chunkData (VENV envelopes) = envelopesBytes envelopes
 chunkData (PENV envelopes) = envelopesBytes envelopes
 chunkData (Other letters bytes) = bytes
 
--- M5: chunkLetters 4, length 4, and the data.
+-- M5: identifier 4, length 4, and the data.
 abbrev pub chunkBytes : Chunk → List ℕ
 chunkBytes c = chunkLetters c ++ (bytes32 (length (chunkData c)) ++ chunkData c)
 
@@ -92,6 +92,6 @@ chunkBytes c = chunkLetters c ++ (bytes32 (length (chunkData c)) ++ chunkData c)
 abbrev pub headerBytes : Description → List ℕ
 headerBytes d = 68 ∷ 66 ∷ 77 ∷ 48 ∷ d .version ∷ d .revision ∷ bytes16 (d .reserved)
 
--- The module: the header, and the chunks one behind the other.
+-- The module: the header, followed by the chunks.
 abbrev pub encoded : Description → List ℕ
 encoded d = headerBytes d ++ joined (map chunkBytes (d .chunks))

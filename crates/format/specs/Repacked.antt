@@ -1,4 +1,5 @@
--- FORMAT.md, D7: a description repacked: the patterns hold the packer's entries (W1 to W3) and zeros for fillers, and all else stays.
+-- FORMAT.md, D7: a repacked description: its patterns have the packer's entries (W1 to W3) and zeros for fillers, and all else is
+-- unchanged.
 use Prim.Native.Nat.{ℕ, _%_}
 use mathlib.Core.List.{List, map}
 use lib.ListN.{length, replicate}
@@ -6,7 +7,7 @@ use Rattle.packed_rows.specs.Entries.{Entry, rowsFrom, streamOf}
 use Rattle.packed_rows.specs.Packer.{packedEntries}
 use Rattle.format.specs.Description.{Pattern, Chunk, NAME, INFO, SONG, INST, PATT, SMPL, VENV, PENV, Other, Description}
 
--- Rows of entries with a filler 0 where their stream is odd.
+-- Rows of entries, with a filler 0 if the length of their stream is odd.
 abbrev pub withFiller : List (List Entry) → Pattern
 withFiller rows = record { rows = rows; filler = replicate (length (streamOf rows) % 2) 0 }
 
@@ -14,7 +15,7 @@ withFiller rows = record { rows = rows; filler = replicate (length (streamOf row
 abbrev pub repackedPattern : ℕ → Pattern → Pattern
 repackedPattern tracks p = withFiller (map packedEntries (rowsFrom tracks (p .rows)))
 
--- X1, X2.
+-- X1, X2: PATT has the repacked patterns, and every other chunk is unchanged.
 abbrev pub repackedChunk : ℕ → Chunk → Chunk
 repackedChunk tracks (NAME name) = NAME name
 repackedChunk tracks (INFO info) = INFO info

@@ -1,5 +1,5 @@
--- FORMAT.md, D6: what the queries show of a description. The answers are those that the contracts of the queries cite: each begins with the
--- refusal's number and place, 0 and 0 where there is none.
+-- FORMAT.md, D6: what the queries show of a description. The answers are those that the contracts of the queries cite. Each begins with the
+-- refusal's number and place, 0 and 0 if there is none.
 use Prim.Native.Nat.{ℕ, _-_, _*_}
 use mathlib.Core.Path.{_≡_}
 use mathlib.Core.Logic.{_⊎_}
@@ -45,27 +45,27 @@ use Rattle.format.specs.Description.{Envelope, Chunk, NAME, INFO, SONG, 
 use Rattle.format.specs.Encoding.{flagsOf, frameBytes}
 use Rattle.format.specs.WellFormed.{emptySample, noPoint, In}
 
--- Q1: 18.
+-- Q1: refusal 18.
 abbrev pub notThere : Refusal
 notThere = refusal NotThere 0
 
--- Q1, Q2: the answer about one of a list, counted from a first number, by what is shown of it; another answer where there is none.
+-- Q1, Q2: the answer for the element of a list with this number, counted from `first`: what is shown of it, or `refused` if there is none.
 abbrev pub listed : {A R : Type 0} → (A → R) → R → A → ℕ → List A → ℕ → R
 listed show refused other first xs number =
     cond (leb first number && ltb (number - first) (length xs)) (show (getD xs (number - first) other)) refused
 
--- Q4.
+-- Q4: the version byte and the revision byte.
 abbrev pub describedVersion : Description → VersionAnswer
 describedVersion d = record { outcome = noRefusal; version = d .version; revision = d .revision }
 
--- Q5: the name, and 44 zeros where there is none.
+-- Q5: the name, and 44 zeros if there is none.
 abbrev pub HasName : List Chunk → List ℕ → Type 0
 HasName chunks name = In chunks (NAME name) ⊎ ((name ≡ replicate 44 0) × ((other : List ℕ) → In chunks (NAME other) → ⊥))
 
 abbrev pub describedName : List ℕ → NameAnswer
 describedName name = record { outcome = noRefusal; name = name }
 
--- Q6.
+-- Q6: the five numbers of INFO.
 abbrev pub describedInfo : Info → InfoAnswer
 describedInfo i = record {
   outcome = noRefusal;
@@ -112,7 +112,7 @@ describedInstrument i = record {
   «loop_length» = i .loopLength;
 }
 
--- Q9: the envelopes of a kind, none where their chunk is missing.
+-- Q9: the envelopes of a kind, none if their chunk is missing.
 abbrev pub envelopeChunk : EnvelopeKind → List Envelope → Chunk
 envelopeChunk Volume es = VENV es
 envelopeChunk Panning es = PENV es
@@ -126,8 +126,8 @@ describedCount es = record { outcome = noRefusal; count = length es }
 abbrev pub emptyEnvelope : Envelope
 emptyEnvelope = record { instrument = 0; flags = 0; sections = 0; firstSustain = 0; loopFirst = 0; loopLast = 0; secondSustain = 0; points = [] }
 
--- Q9: the points in use are sections + 1, so the last of them has the number of the sections; the others are zeros. A value is as `valueOf`
--- says: in version 2 a value v of panning is 4v − 128.
+-- Q9: the points in use are sections + 1, so the last of them has the number of the sections; the others are zeros. A value is given by
+-- `valueOf`: in version 2 a panning value v is 4v − 128.
 abbrev pub describedEnvelope : EnvelopeKind → ℕ → Envelope → EnvelopeAnswer
 describedEnvelope kind version e = record {
   outcome = noRefusal;
@@ -142,7 +142,7 @@ describedEnvelope kind version e = record {
   values = eachFrom (λ point. cond (leb point (e .sections)) (valueOf kind version (getD (e .points) point noPoint .value)) (pos 0)) 0 32;
 }
 
--- Q10: a pattern by its rows and its cells, which are computed from the entries (R5, R6).
+-- Q10: a pattern by its rows and its cells. The cells are computed from the entries (R5, R6).
 abbrev pub emptyPattern : Pattern
 emptyPattern = record { rows = []; filler = [] }
 
@@ -164,7 +164,7 @@ cellsLength tracks room p = lengthIf (cellBytes (length (p .rows)) tracks) room
 abbrev pub cellsWritten : ℕ → List ℕ → Pattern → List ℕ
 cellsWritten tracks out p = outputIf (cellsLength tracks (length out) p) (bytesOf (rowsFrom tracks (p .rows))) out
 
--- Q11 to Q13: a sample, its frames as they are stored, and at 16 bits.
+-- Q11 to Q13: a sample, its frames as stored, and its frames at 16 bits.
 abbrev pub ofSample : {R : Type 0} → (Sample → R) → R → List Sample → ℕ → R
 ofSample show refused samples number = listed show refused emptySample 1 samples number
 
@@ -191,13 +191,14 @@ framesLength room s = lengthIf (2 * length (s .frames)) room
 abbrev pub framesWritten : List ℕ → Sample → List ℕ
 framesWritten out s = outputIf (framesLength (length out) s) (joined (map (λ f. bytes16 (unsigned16 (at16Bits (s .width) f))) (s .frames))) out
 
--- Q12: the frames, as a part of the module: the refusal or none, the length, and the bytes. Where the part stands is the module's own.
+-- Q12: the frames as a part of the module: the refusal or none, the length, and the bytes. The place of the part depends on the module and
+-- is not stated here.
 pub record ShowsFrames (m : List ℕ) (samples : List Sample) (sample : ℕ) : Type 0 where
   pub outcome : framesAnswer m sample .outcome ≡ ofSample (λ s. noRefusal) (refusedOutcome notThere) samples sample
   pub length : framesAnswer m sample .length ≡ ofSample (λ s. length (storedFrames s)) 0 samples sample
   pub bytes : framesPart m sample ≡ ofSample storedFrames [] samples sample
 
--- A module shows what a description says, whatever is asked for.
+-- A module shows what a description says, for every query.
 pub record Shows (m : List ℕ) (d : Description) : Type 0 where
   pub version : versionAnswer m ≡ describedVersion d
   pub name : (name : List ℕ) → HasName (d .chunks) name → nameAnswer m ≡ describedName name
