@@ -1,5 +1,5 @@
--- Modules that are alike: what has to be shown of two modules so that they show the same. Both are accepted, with the same
--- numbers in header and INFO; and whatever is asked for is refused by both alike or found in both, in blocks that hold the same.
+-- Modules that are alike: what has to be proved for two modules so that they show the same. Both are accepted, with the same numbers in
+-- header and INFO. For every record kind and number, both give the same refusal, or both have a block and the two have the same content.
 use Prim.Native.Nat.{ℕ}
 use mathlib.Core.Path.{_≡_}
 use mathlib.Core.List.{List}
@@ -26,15 +26,15 @@ use Rattle.acceptance.proofs.Locating.{PartAt}
 use Rattle.acceptance.proofs.Cutting.{Sized}
 use Rattle.summary.specs.Shown.{nameOf}
 
--- The same block stands in both modules, at two places.
+-- The same block is in both modules, at two places.
 pub record SameBlock (kind : BlockKind) (m n : List ℕ) (at to : ℕ) : Type 0 where
   pub block : List ℕ
   pub sized : Sized kind block
   pub here : PartAt m at block
   pub there : PartAt n to block
 
--- Patterns of the same rows and cells: the check accepts both streams with these tracks, and carrying out their entries gives the
--- same rows of cells.
+-- Patterns with the same rows and cells: the check accepts both streams with these tracks, and carrying out their entries gives the same
+-- rows of cells.
 pub record SamePattern (tracks : ℕ) (m n : List ℕ) (at to : ℕ) : Type 0 where
   pub rows : number16 n to ≡ number16 m at
   pub here : checkAnswer (packedBytes m at) (number16 m at) tracks ≡ Accepted
@@ -42,7 +42,7 @@ pub record SamePattern (tracks : ℕ) (m n : List ℕ) (at to : ℕ) : Type 0 wh
   pub cells : rowsFrom tracks (entriesRead (readStream (number16 n to) tracks (packedBytes n to)))
       ≡ rowsFrom tracks (entriesRead (readStream (number16 m at) tracks (packedBytes m at)))
 
--- What is the same of the blocks of a thing: all bytes, but for a pattern, whose cells may be packed in another way.
+-- What two blocks of a record kind have in common: all bytes; for a pattern only the cells, which may be packed in different ways.
 abbrev pub SameRecord : RecordKind → ℕ → List ℕ → List ℕ → ℕ → ℕ → Type 0
 SameRecord Song tracks m n at to = SameBlock (blockKindOf Song) m n at to
 SameRecord Instrument tracks m n at to = SameBlock (blockKindOf Instrument) m n at to
@@ -51,14 +51,14 @@ SameRecord Sample tracks m n at to = SameBlock (blockKindOf Sample) m n at to
 SameRecord VolumeEnvelope tracks m n at to = SameBlock (blockKindOf VolumeEnvelope) m n at to
 SameRecord PanningEnvelope tracks m n at to = SameBlock (blockKindOf PanningEnvelope) m n at to
 
--- What a number finds in both modules: the same refusal, or blocks that hold the same and are shown by the same version and
+-- What is found for a number in both modules: the same refusal, or blocks with the same content that are shown with the same version and
 -- tracks.
 pub data FoundAlike (kind : RecordKind) (m n : List ℕ) : Found → Found → Type 0 where
   neither : (r : Refusal) → FoundAlike kind m n (Refused r) (Refused r)
   both : (b c : Block) → c .version ≡ b .version → c .tracks ≡ b .tracks → SameRecord kind (b .tracks) m n (b .at) (c .at) → FoundAlike kind m n (At b) (At c)
 
--- Both modules open. Their headers and INFO say the same, they show the same name and have as many envelopes of each kind; and
--- whatever is asked for, by any number, is found alike.
+-- Both modules open. Their headers and INFO are equal, they show the same name and have the same number of envelopes of each kind, and for
+-- every record kind and number the same is found.
 pub record Alike (m n : List ℕ) : Type 0 where
   pub layout : Layout
   pub other : Layout

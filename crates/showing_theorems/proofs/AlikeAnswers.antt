@@ -1,5 +1,5 @@
--- Answers of modules that are alike. An answer goes by what opening the module gives, or by what is found for a number; so it is
--- the same of both modules where both open, or where it is the same for blocks that hold the same.
+-- Answers for modules that are alike. An answer depends on the result of opening the module, or on what is found for a number. So it is the
+-- same for both modules if both open, or if it is the same for blocks with the same content.
 use Prim.Native.Nat.{ℕ}
 use mathlib.Core.Path.{_≡_, refl, sym, ap, _∙_}
 use mathlib.Core.List.{List}

@@ -1,4 +1,4 @@
--- Envelopes: every field and every point stands in the envelope's block; the version says how the values of panning are shown.
+-- Envelopes: every field and every point is in the envelope's block. How panning values are shown depends on the version.
 use Prim.Native.Nat.{ℕ, _+_, _*_, _≤_}
 use mathlib.Core.Path.{_≡_, refl}
 use mathlib.Core.List.{List}
@@ -18,7 +18,7 @@ use Rattle.showing_theorems.proofs.Alike.{SameBlock, SameRecord, Alike}
 use Rattle.showing_theorems.proofs.SameBytes.{each-same, same-if, same-byte, same-16, same-first16}
 use Rattle.showing_theorems.proofs.AlikeAnswers.{by-opening, by-finding}
 
--- One of the two numbers of each point, by the offset that it has in the block for the first, as it is shown for a point in use.
+-- One of the two numbers of a point, as it is shown if the point is in use; `offset` is that of the first point's number in the block.
 abbrev pointShown : {A : Type 0} → (ℕ → A) → A → ℕ → ℕ → List ℕ → ℕ → ℕ → A
 pointShown shown unused offset sections m at point = cond (leb point sections) (shown (number16 m (at + offset + 4 * point))) unused
 
@@ -46,7 +46,7 @@ module _ {m n : List ℕ} {at to : ℕ} (s : SameBlock Envelope m n at to) where
         points-same (valueOf kind version) (pos 0) 10 (envelopeSections m at) (omega arith),
       )
 
--- An envelope of either kind is the same by its block.
+-- Envelopes of either kind are the same if their blocks are.
 envelope-block : (kind : EnvelopeKind) (tracks : ℕ) {m n : List ℕ} {at to : ℕ} → SameRecord (recordKind kind) tracks m n at to → SameBlock Envelope m n at to
 envelope-block Volume tracks s = s
 envelope-block Panning tracks s = s

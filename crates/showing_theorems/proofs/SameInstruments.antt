@@ -1,4 +1,4 @@
--- Instruments: every field stands in the instrument's block.
+-- Instruments: every field is in the instrument's block.
 use Prim.Native.Nat.{ℕ}
 use mathlib.Core.Path.{_≡_, refl}
 use mathlib.Core.List.{List}

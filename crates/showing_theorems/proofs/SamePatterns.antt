@@ -1,4 +1,4 @@
--- Patterns: what a query shows of an accepted stream rests on the rows of cells that it holds, and on nothing else of it.
+-- Patterns: what a query shows of an accepted stream depends only on the stream's rows of cells.
 use Prim.Native.Nat.{ℕ}
 use mathlib.Core.Path.{_≡_, refl}
 use mathlib.Core.List.{List}
@@ -13,7 +13,7 @@ use Rattle.patterns.specs.Shown.{rowsIf, rowsAnswer, cellIf, cellAnswer, cellsI
 use Rattle.showing_theorems.proofs.Alike.{SamePattern, Alike}
 use Rattle.showing_theorems.proofs.AlikeAnswers.{by-finding}
 
--- Two accepted streams of the same rows and tracks that hold the same cells.
+-- Two accepted streams with the same rows and tracks and the same cells.
 pub record SameCells (rows tracks : ℕ) (stream other : List ℕ) : Type 0 where
   pub entries : List (List Entry)
   pub otherEntries : List (List Entry)

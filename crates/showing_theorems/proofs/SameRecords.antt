@@ -1,4 +1,4 @@
--- All records by one call: as many of each kind, and by each number the record of a block that holds the same.
+-- All records by one call: the number of records of each kind is the same, and for each number the records of blocks with the same content.
 use Prim.Native.Nat.{ℕ, _+_}
 use mathlib.Core.Path.{_≡_, refl, sym, ap, _∙_}
 use mathlib.Core.List.{List, []}
@@ -33,7 +33,7 @@ abbrev recordIf : List ℕ → RecordKind → Found → List ℕ
 recordIf m kind (At b) = recordAt m (b .version) kind (b .at)
 recordIf m kind (Refused r) = []
 
--- Blocks that hold the same have the same record.
+-- Blocks with the same content have the same record.
 record-same : (m n : List ℕ) (kind : RecordKind) (tracks at to : ℕ) {version other : ℕ} → other ≡ version
     → SameRecord kind tracks m n at to
     → recordAt n other kind to ≡ recordAt m version kind at
@@ -47,7 +47,7 @@ record-same m n VolumeEnvelope tracks at to v s = ap envelopeRecord (envelope-sa
 record-same m n PanningEnvelope tracks at to v s = ap envelopeRecord (envelope-same s Panning v)
 
 module _ {m n : List ℕ} (a : Alike m n) where
-  -- There are as many of each kind.
+  -- The number of records of each kind is the same.
   same-count : (kind : RecordKind) → countOf n (a .other) kind ≡ countOf m (a .layout) kind
   same-count Song = a .songs
   same-count Instrument = a .instruments

@@ -1,5 +1,5 @@
--- Samples: the bits and the number of the frames, and the frames themselves, stand in the sample's block. A sample that is found
--- is that of an accepted module, so a frame has 1, 2 or 4 bytes, and each lies within the block.
+-- Samples: the bits and the number of the frames, and the frames themselves, are in the sample's block. A sample that is found is in an
+-- accepted module, so a frame has 1, 2 or 4 bytes, and each lies within the block.
 use Prim.Native.Nat.{ℕ, _+_, _*_, _≤_, _<_}
 use mathlib.Core.Path.{_≡_, refl, ap}
 use mathlib.Core.Logic.{_⊎_, inl, inr}
@@ -37,7 +37,7 @@ module _ {m n : List ℕ} {at to : ℕ} (s : SameBlock SampleBlock m n at to) wh
   pub sample-same : shownSample n to ≡ shownSample m at
   sample-same = rw (flags-same, count-same)
 
-  -- The part that is handed out.
+  -- The part of the module that is returned.
   part-same : partOf n (to + 8) (sampleFrames n to * bytesPerFrame n to) ≡ partOf m (at + 8) (sampleFrames m at * bytesPerFrame m at)
   unfolding sizeOf
   part-same = rw (count-same, flags-same) (same-part s 8 (sampleFrames m at * bytesPerFrame m at) (omega arith))

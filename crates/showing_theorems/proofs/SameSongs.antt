@@ -1,4 +1,4 @@
--- Songs: name, length, entries and playlist stand in the song's block.
+-- Songs: name, length, entries and playlist are in the song's block.
 use Prim.Native.Nat.{ℕ, _+_, _*_, _<_}
 use mathlib.Core.Path.{_≡_, refl}
 use mathlib.Core.List.{List}

@@ -1,8 +1,8 @@
--- When two modules show the same. In plain words: two modules of which both are accepted, with the same version, revision, name
--- and numbers of INFO, with as many envelopes of each kind, and in which whatever is asked for is refused alike or stands in
--- blocks that hold the same (`Alike`), show the same (`ShowsSame`): every query answers the same of both and leaves a lent output
--- the same. Of songs, instruments, samples and envelopes the blocks have the same bytes, wherever they stand; of patterns they
--- have the same rows, and accepted streams that hold the same cells, whatever their entries are.
+-- Modules that show the same. Two modules are alike (`Alike`) if both are accepted, with the same version, revision, name and numbers of
+-- INFO and the same number of envelopes of each kind, and if for every record kind and number both give the same refusal or have blocks
+-- with the same content. Two modules that are alike show the same (`ShowsSame`): every query gives the same answer for both and leaves the
+-- same lent output. The blocks of songs, instruments, samples and envelopes have the same bytes, wherever they are. The blocks of patterns
+-- have the same rows, and accepted streams of the same cells, whatever their entries are.
 use Prim.Native.Nat.{ℕ}
 use mathlib.Core.List.{List}
 use Rattle.showing_theorems.specs.Showing.{ShowsSame}

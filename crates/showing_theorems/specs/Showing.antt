@@ -1,5 +1,5 @@
--- FORMAT.md, Q1 to Q16: when two modules show the same: every query answers the same of both, whatever is asked for, a refusal
--- too, and a lent output is left the same. The answers are those that the contracts of the queries cite.
+-- FORMAT.md, Q1 to Q16: two modules show the same if every query gives the same answer for both, including refusals, and leaves the same
+-- lent output. The answers are those that the contracts of the queries cite.
 use Prim.Native.Nat.{ℕ}
 use mathlib.Core.Path.{_≡_}
 use mathlib.Core.List.{List}
@@ -12,16 +12,16 @@ use Rattle.summary.specs.Shown.{versionAnswer, nameAnswer, infoAnswer}
 use Rattle.instruments.specs.Shown.{instrumentAnswer}
 use Rattle.records.specs.Records.{allAnswer, allOutput}
 
--- Q12: the frames of a sample, handed out as a part of each module: the same refusal, the same length and the same bytes. The
--- answer's offset is not spoken of: it says where in its module the part stands, and that may differ.
+-- Q12: the frames of a sample as a part of each module: the same refusal, the same length and the same bytes. The answer's offset is not
+-- compared: it is the place of the part in its module, and may differ.
 pub record SameFrames (m n : List ℕ) (sample : ℕ) : Type 0 where
   pub outcome : framesAnswer n sample .outcome ≡ framesAnswer m sample .outcome
   pub length : framesAnswer n sample .length ≡ framesAnswer m sample .length
   pub bytes : framesPart n sample ≡ framesPart m sample
 
--- The second module shows what the first shows. A query that fills a lent output has two fields: what it answers, for every room,
--- and what the output then holds, for every output (F8).
--- Q4: version. Q5: name. Q6: info. Q7: song, entry, playlist. Q8: instrument. Q9: envelopes, how many of a kind, and envelope.
+-- The second module shows what the first shows. A query that fills a lent output has two fields: the answer, for every room, and the
+-- output afterwards, for every output (F8).
+-- Q4: version. Q5: name. Q6: info. Q7: song, entry, playlist. Q8: instrument. Q9: envelopes (the number of a kind), and envelope.
 -- Q10: rows, cell, cells. Q11: sample. Q12: frames. Q13: frame, allFrames. Q16: records.
 pub record ShowsSame (m n : List ℕ) : Type 0 where
   pub version : versionAnswer n ≡ versionAnswer m

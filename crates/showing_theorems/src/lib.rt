@@ -1,3 +1,2 @@
-// When two modules show the same. There is no code here: specs/Showing.antt says what that is, query by query, and
-// proofs/Theorems.antt that modules show the same which hold the same, wherever in the two it stands and however the patterns are
-// packed.
+// Modules that show the same. This crate has no code: specs/Showing.antt defines this query by query. By proofs/Theorems.antt two modules
+// show the same if they have the same content, wherever it is in each and however the patterns are packed.
