@@ -1,4 +1,4 @@
--- The module repacked, of a module that opens, is that of its layout.
+-- The repacked module of a module that opens is computed from its layout.
 use Prim.Native.Nat.{ℕ}
 use mathlib.Core.Path.{_≡_, ap}
 use mathlib.Core.List.{List}

@@ -1,4 +1,4 @@
--- The packer's stream of the pattern that an accepted stream holds is accepted too, and holds the same rows.
+-- The packer's stream of the pattern in an accepted stream is accepted too, and has the same rows.
 use Prim.Native.Nat.{ℕ}
 use mathlib.Core.Path.{_≡_, sym, ap, subst, _∙_}
 use mathlib.Core.List.{List}
@@ -12,11 +12,11 @@ use Rattle.packed_rows.proofs.Accepted.{accepted-stream, accepted-rows, accepte
 use Rattle.packed_rows.proofs.Theorems.{round-trip, accepts-exactly}
 use Rattle.acceptance.proofs.BlockStreams.{accepted-sizes, holds}
 
--- The rows that a stream holds.
+-- The rows of cells of a stream.
 abbrev pub rowsHeld : ℕ → ℕ → List ℕ → List Row
 rowsHeld rows tracks stream = rowsFrom tracks (entriesRead (readStream rows tracks stream))
 
--- They are the rows of the cells as which a stream is accepted.
+-- They are the rows of the cells as which the stream is accepted.
 held-rows : {rows tracks : ℕ} {stream cells : List ℕ} → AcceptedAs rows tracks stream cells → rowsHeld rows tracks stream ≡ rowsOf rows tracks cells
 held-rows {tracks = tracks} a = ap (λ (r : Reading). rowsFrom tracks (entriesRead r)) (a .read) ∙ sym (accepted-rows a)
 

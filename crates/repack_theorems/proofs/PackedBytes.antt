@@ -1,5 +1,5 @@
--- The packer's stream is bytes, where the stream that it was read from is, since every field of a cell is 0 or was stored by an entry of
--- the stream read, tracks are at most 254 and masks are below 64.
+-- The packer's stream consists of bytes if the stream that it was read from does: every field of a cell is 0 or was stored by an entry of
+-- that stream, tracks are at most 254 and masks are below 64.
 use Prim.Native.Nat.{ℕ, _+_, _-_, _<_, _≤_}
 use mathlib.Core.Path.{_≡_}
 use mathlib.Core.Logic.{_↔_}
@@ -27,7 +27,7 @@ use Rattle.packed_rows.proofs.Soundness.{packed-sound}
 use Rattle.packed_rows.proofs.Accepted.{accepted-stream}
 use Rattle.acceptance.proofs.BlockStreams.{accepted-sizes, holds}
 
--- A stream is bytes exactly when its entries are.
+-- A stream consists of bytes exactly if its entries do.
 abbrev pub EntriesBytes : List Entry → Type 0
 EntriesBytes es = Every (λ e. Bytes (entryBytes e)) es
 
@@ -43,7 +43,7 @@ stream-bytes rows = (
   λ h. every-of (λ es. row-stream-bytes es .1) (every-map rowStream rows .0 (bytes-joined (map rowStream rows) .1 h)),
 )
 
--- Entries that are bytes leave bytes in the cells.
+-- Entries of bytes leave bytes in the cells.
 store-bytes : (ns : List Bool) (values : List ℕ) (cell : Cell) → Bytes values → Bytes cell → Bytes (store ns values cell)
 store-bytes [] values cell v c = c
 store-bytes (n ∷ ns) values [] v c = bytes-nil
@@ -64,7 +64,7 @@ carry-bytes (e ∷ es) row h b =
 row-from-bytes : (tracks : ℕ) (es : List Entry) → EntriesBytes es → Each Bytes tracks (rowFrom tracks es)
 row-from-bytes tracks es h = carry-bytes es _ h (each-replicate tracks emptyCell (bytes-replicate 6))
 
--- The packer's entries of such cells are bytes.
+-- The packer's entries for such cells consist of bytes.
 non-zeros-bytes : (fs : List ℕ) → Bytes fs → Bytes (nonZeros fs)
 non-zeros-bytes [] h = bytes-nil
 non-zeros-bytes (f ∷ fs) h = go (eqb f 0) (non-zeros-bytes fs (bytes-rest f fs h))
@@ -94,7 +94,7 @@ repacked-bytes tracks few entries h =
     (every-map (rowFrom tracks) entries .1
     (every-of (λ es e. entries-bytes (packs 1 (rowFrom tracks es)) (row-from-shaped tracks es) (row-from-bytes tracks es e) (omega arith) (omega arith)) h))
 
--- An accepted stream of bytes.
+-- The packer's stream of an accepted stream of bytes consists of bytes.
 pub packed-bytes : (rows tracks : ℕ) (stream : List ℕ) → checkAnswer stream rows tracks ≡ Accepted → Bytes stream
     → Bytes (packedStream (rowsFrom tracks (entriesRead (readStream rows tracks stream))))
 packed-bytes rows tracks stream ok h =

@@ -1,4 +1,4 @@
--- The module repacked, repacked again, is itself.
+-- Repacking the repacked module gives the repacked module itself.
 use Prim.Native.Nat.{ℕ, _+_}
 use mathlib.Core.Path.{_≡_, refl, sym, ap, subst, _∙_}
 use mathlib.Core.List.{List, _++_, map}
@@ -21,7 +21,7 @@ use Rattle.repack_theorems.proofs.RewrittenModule.{rules-rewritten}
 use Rattle.repack_theorems.proofs.RewrittenAlike.{n, k, otherOpens, counts, patterns-there}
 
 module _ (m : List ℕ) (bytes : Bytes m) (l : Layout) (o : opened m ≡ Found l) where
-  -- The patterns anew of the module repacked are those that it has.
+  -- The rewritten patterns of the repacked module are its patterns.
   data-again : repackedPatterns (n m bytes l o) (k m bytes l o) ≡ repackedPatterns m l
   data-again =
       let there = patterns-there m bytes l o in

@@ -1,5 +1,5 @@
--- An accepted module and the module repacked are alike: their headers and INFO are the same bytes, and so is every chunk but pattIdentifier; and
--- each pattern has the same rows and holds the same cells.
+-- An accepted module and its repacked module are alike: their headers and INFO are the same bytes, and so is every chunk except PATT. Each
+-- pattern has the same rows and the same cells.
 use Prim.Native.Nat.{ℕ, _+_, _-_, _<_}
 use mathlib.Core.Path.{_≡_, refl, sym, ap, _∙_}
 use mathlib.Core.List.{List, [], map}
@@ -61,7 +61,7 @@ same-block {kind} {list = list} b c i h =
       there = block-there kind list i inside (c .there) (c .sized);
     }
 
--- A pattern's block in one module, and the block anew in another.
+-- A pattern's block in one module, and its rewritten block in another.
 same-pattern : {m n : List ℕ} {at to : ℕ} (tracks : ℕ) (block : List ℕ) → SoundBlock tracks block → PartAt m at block
     → PartAt n to (rewrittenBlock tracks block)
     → SamePattern tracks m n at to
@@ -74,18 +74,18 @@ same-pattern {m} {n} {at} {to} tracks block b p q =
       cells = rw (rows-same p (b .sized), packed-same p (b .sized), rows-same q (c .sized), packed-same q (c .sized)) (rewritten-cells tracks block b);
     }
 
--- The name that is shown, by whether NAME is there.
+-- The name that is shown, depending on whether NAME is present.
 name-missing : (m : List ℕ) (l : Layout) → l .spans .name .present ≡ false → nameOf m l ≡ replicate 44 0
 name-missing m l e = ap (λ (there : Bool). cond there (bytesFrom m (l .spans .name .at + 8) 44) (replicate 44 0)) e
 
 name-there : (m : List ℕ) (l : Layout) → l .spans .name .present ≡ true → nameOf m l ≡ bytesFrom m (l .spans .name .at + 8) 44
 name-there m l e = ap (λ (there : Bool). cond there (bytesFrom m (l .spans .name .at + 8) 44) (replicate 44 0)) e
 
--- What a query finds, by what is asked for in a module that opens.
+-- What a query finds in a module that opens.
 found-opened : (m : List ℕ) (l : Layout) (kind : RecordKind) (number : ℕ) → opened m ≡ Opened l → found m kind number ≡ foundIn m l kind number
 found-opened m l kind number o = ap (foundIf m kind number) o
 
--- A chunk that stands in both modules, or in neither.
+-- A chunk that is in both modules, or in neither.
 data SameChunk (m n : List ℕ) (chunks : List (List ℕ)) (letters : List ℕ) (p q : ChunkSpan) : Type 0 where
   missing : p .present ≡ false → q .present ≡ false → SameChunk m n chunks letters p q
   standing : (chunk : List ℕ) → Among chunks letters chunk → SpanHolds m p chunk → SpanHolds n q chunk → SameChunk m n chunks letters p q
@@ -106,7 +106,7 @@ module _ (m : List ℕ) (bytes : Bytes m) (l : Layout) (o : opened m ≡ Opened 
   second : LayoutOf n (header m bytes l o) (map (changed m bytes l o) (chunks m bytes l o)) k
   second = opens-rewritten m bytes l o .2
 
-  -- INFO's numbers.
+  -- INFO's numbers are the same.
   pub counts : (k .instruments ≡ l .instruments) × (k .samples ≡ l .samples) × (k .songs ≡ l .songs) × (k .patterns ≡ l .patterns) × (k .tracks ≡ l .tracks)
   counts =
       let a = all-of m bytes l o .infoThere in
@@ -114,7 +114,7 @@ module _ (m : List ℕ) (bytes : Bytes m) (l : Layout) (o : opened m ≡ Opened 
       let there = second .counts (all-of m bytes l o .info) (stays-among m bytes l o Covered.info refl a) in
       (there .0 ∙ sym (here .0), there .1 ∙ sym (here .1), there .2 ∙ sym (here .2), there .3 ∙ sym (here .3), there .4 ∙ sym (here .4))
 
-  -- A chunk other than pattIdentifier.
+  -- A chunk other than PATT.
   same-chunk : {letters : List ℕ} → (covers : Covered letters) → eqb (identifierOf covers) pattIdentifier || false ≡ false
       → (p q : ChunkSpan) → Standing m (chunks m bytes l o) letters p
       → Standing n (map (changed m bytes l o) (chunks m bytes l o)) letters q
@@ -126,7 +126,7 @@ module _ (m : List ℕ) (bytes : Bytes m) (l : Layout) (o : opened m ≡ Opened 
       go false e true d = let (chunk, a) = g .chunk d in false-never (sym e ∙ f .holds chunk (was-among m bytes l o covers other a) .there)
       go false e false d = missing e d
 
-  -- NAME.
+  -- The bytes of NAME.
   name-bytes : {m chunk : List ℕ} {p : ChunkSpan} → SpanHolds m p chunk → length chunk ≡ 52 → bytesFrom m (p .at + 8) 44 ≡ drop 8 chunk
   name-bytes {m} {chunk} {p} s long =
       let eight : length (take 8 chunk) ≡ 8 = length-take-le 8 chunk (omega arith) in
@@ -168,11 +168,11 @@ module _ (m : List ℕ) (bytes : Bytes m) (l : Layout) (o : opened m ≡ Opened 
   panning : SameChunk m n (chunks m bytes l o) penvLetters (l .spans .penv) (k .spans .penv)
   panning = same-chunk Covered.penv refl (l .spans .penv) (k .spans .penv) (first .penv) (second .penv)
 
-  -- The counts as INFO has them.
+  -- INFO is among the chunks.
   info-there : Among (chunks m bytes l o) infoLetters (all-of m bytes l o .info)
   info-there = all-of m bytes l o .infoThere
 
-  -- The blocks of a chunk that stands in both.
+  -- The blocks of a chunk that is in both.
   same-blocks : (kind : BlockKind) (front : ℕ) {letters : List ℕ} → (covers : Covered letters)
       → eqb (identifierOf covers) pattIdentifier || false ≡ false → (p q : ChunkSpan) → Standing m (chunks m bytes l o) letters p
       → Standing n (map (changed m bytes l o) (chunks m bytes l o)) letters q → {chunk : List ℕ}
@@ -191,7 +191,7 @@ module _ (m : List ℕ) (bytes : Bytes m) (l : Layout) (o : opened m ≡ Opened 
       filled-blocks (second .patt .holds (changed m bytes l o (patt m bytes l o)) (patt-among m bytes l o)) PatternBlock 8
       (k .patterns) (rewritten m bytes l o) filled (every-of (λ block b. b .sized) (sound-rewritten m bytes l o))
 
-  -- What is asked for is there in both, or in neither.
+  -- The number of records of each kind is the same in both.
   same-countOf : (kind : RecordKind) → countOf n k kind ≡ countOf m l kind
   same-countOf Song = counts .2
   same-countOf Instrument = counts .0
@@ -200,7 +200,7 @@ module _ (m : List ℕ) (bytes : Bytes m) (l : Layout) (o : opened m ≡ Opened 
   same-countOf VolumeEnvelope = same-count (l .spans .venv) (k .spans .venv) (all-of m bytes l o .content .volumeEnvelopes) volume
   same-countOf PanningEnvelope = same-count (l .spans .penv) (k .spans .penv) (all-of m bytes l o .content .panningEnvelopes) panning
 
-  -- Its block in both.
+  -- The block of a record in both.
   same-record : (kind : RecordKind) (i : ℕ) → i < countOf m l kind
       → SameRecord kind (l .tracks) m n (blockAt m (blockKindOf kind) (chunkOf l kind) i) (blockAt n (blockKindOf kind) (chunkOf k kind) i)
   same-record Song i h =

@@ -1,5 +1,5 @@
--- A pattern's block and the block anew, as lists of bytes: the block anew is one of the same rows, its stream is the packer's, it holds the
--- same rows of cells, it is no longer, and it stays as it is when it is made anew again.
+-- A pattern's block and its rewritten block, as lists of bytes. The rewritten block has the same number of rows, its stream is the
+-- packer's, it has the same rows of cells, it is no longer, and rewriting it again leaves it unchanged.
 use Prim.Native.Nat.{ℕ, _+_, _%_, _≤_}
 use mathlib.Core.Path.{_≡_, refl, sym, ap, _∙_}
 use mathlib.Core.List.{List, [], _∷_, _++_, map, append-assoc, append-nil}
@@ -21,7 +21,7 @@ use Rattle.repack.specs.Repacked.{packed, repackedStream, repackedBlock}
 use Rattle.repack.proofs.Rewritten.{block-size, block-shorter}
 use Rattle.repack_theorems.proofs.PackedAgain.{rowsHeld, packed-accepted, packed-rows}
 
--- A block anew, by the block alone.
+-- The rewritten block, computed from the block alone.
 abbrev pub rewrittenBlock : ℕ → List ℕ → List ℕ
 rewrittenBlock tracks block = repackedBlock block tracks 0
 
@@ -36,7 +36,7 @@ packed-same {block = block} p s =
 pub rows-same : {m block : List ℕ} {at : ℕ} → PartAt m at block → Sized Pattern block → number16 m at ≡ number16 block 0
 rows-same {block = block} p s = let least = sized-least Pattern block s in number16-start p (omega arith)
 
--- The block anew of a pattern at a place is that of its block.
+-- The rewritten block of the pattern at a place is that of its block.
 pub rewritten-same : {m block : List ℕ} {at : ℕ} (tracks : ℕ) → PartAt m at block → Sized Pattern block
     → repackedBlock m tracks at ≡ rewrittenBlock tracks block
 rewritten-same {m} {block} {at} tracks p s =
@@ -52,7 +52,7 @@ blocks-rewritten {m} tracks at (block ∷ blocks) p (also s e) =
     let ih = blocks-rewritten tracks (at + length block) blocks (part-rest block (joined blocks) p) e in
     rw (part-size Pattern first s, rewritten-same tracks first s, ih)
 
--- A block as long as it says, whose stream the check accepts.
+-- A block that is as long as its bytes say, and whose stream the check accepts.
 pub record SoundBlock (tracks : ℕ) (block : List ℕ) : Type 0 where
   pub sized : Sized Pattern block
   pub accepted : streamVerdict block tracks 0 ≡ Accepted
@@ -85,7 +85,7 @@ module _ (tracks : ℕ) (block : List ℕ) (b : SoundBlock tracks block) where
   six : length (take 2 block ++ bytes32 (length stream)) ≡ 6
   six = omega (arith, length-append (take 2 block) (bytes32 (length stream)), two)
 
-  -- Where the stream and the filler of the block anew stand.
+  -- The parts of the rewritten block: its stream and its filler.
   stream-part : PartAt (rewrittenBlock tracks block) 6 stream
   stream-part = record { before = take 2 block ++ bytes32 (length stream); after = replicate (length stream % 2) 0; bytes = simp append-assoc; starts = six }
 

@@ -1,4 +1,4 @@
--- An accepted module and the module repacked: the chunks and blocks of both, and that the rules hold of the module repacked.
+-- An accepted module and its repacked module: the chunks and blocks of both, and that the rules hold for the repacked module.
 use Prim.Native.Nat.{ℕ, _+_, _%_, _≤_, _<_}
 use mathlib.Core.Path.{_≡_, refl, sym, ap, subst, _∙_}
 use mathlib.Core.List.{List, [], _∷_, _++_, map, append-nil}
@@ -46,14 +46,14 @@ use Rattle.repack_theorems.proofs.PackedBytes.{packed-bytes}
 use Rattle.repack_theorems.proofs.RewrittenBlock.{rewrittenBlock, packed-same, rows-same, blocks-rewritten, SoundBlock, rewritten-sound}
 use Rattle.repack_theorems.proofs.RewrittenBlock.{rewritten-shorter}
 
--- No block is longer than the module that they stand in.
+-- No block is longer than the module that contains it.
 blocks-inside : {m : List ℕ} {at : ℕ} (blocks : List (List ℕ)) → PartAt m at (joined blocks) → Every (λ block. length block ≤ length m) blocks
 blocks-inside [] p = none
 blocks-inside (block ∷ blocks) p =
     also {x = block} (omega (arith, part-inside (part-first block (joined blocks) p)))
     (blocks-inside blocks (part-rest block (joined blocks) p))
 
--- A sound block is a pattern of which the rules hold.
+-- The rules of a pattern hold for a sound block.
 whole-part : (block : List ℕ) → PartAt block 0 block
 whole-part block = record { before = []; after = []; bytes = sym (append-nil block); starts = refl }
 
@@ -91,7 +91,7 @@ module _ (m : List ℕ) (bytes : Bytes m) (l : Layout) (o : opened m ≡ Found l
   pub tracks-are : number16 (all-of .info) 16 ≡ l .tracks
   tracks-are = sym (layout-of .counts (all-of .info) (all-of .infoThere) .4)
 
-  -- The blocks of the patterns, and the same anew.
+  -- The blocks of the patterns, and the rewritten blocks.
   abbrev pub blocks : List (List ℕ)
   blocks = all-of .content .patterns
 
@@ -135,7 +135,7 @@ module _ (m : List ℕ) (bytes : Bytes m) (l : Layout) (o : opened m ≡ Found l
   pub repacked-bytes : repackedModule m l ≡ header ++ joined (map changed chunks)
   repacked-bytes = module-rewritten rules l
 
-  -- The data anew are no longer than they were, and the module neither.
+  -- The rewritten data are no longer than before, and so is the module.
   pub data-shorter : length (repackedPatterns m l) ≤ length (joined blocks)
   data-shorter = rw data-is (joined-shorter (rewrittenBlock (l .tracks)) (every-of (rewritten-shorter (l .tracks)) sound-blocks))
 
@@ -162,11 +162,11 @@ module _ (m : List ℕ) (bytes : Bytes m) (l : Layout) (o : opened m ≡ Found l
   short-enough : length (repackedModule m l) ≤ 16777216
   short-enough = omega (arith, no-longer, rules .limit)
 
-  -- M2 to M9 of the module repacked.
+  -- M2 to M9 for the repacked module.
   pub rules-rewritten : ChunkRules (repackedModule m l) header (map changed chunks)
   rules-rewritten = rules-changed rules change repacked-bytes short-enough refl (info-left rules change refl)
 
-  -- A chunk other than pattIdentifier is among the chunks of both.
+  -- A chunk other than PATT is among the chunks of both.
   module _ {letters : List ℕ} (covers : Covered letters) (other : eqb (identifierOf covers) pattIdentifier || false ≡ false) {chunk : List ℕ} where
     pub stays-among : Among chunks letters chunk → Among (map changed chunks) letters chunk
     stays-among = among-left change (rules .whole) covers other
@@ -177,7 +177,7 @@ module _ (m : List ℕ) (bytes : Bytes m) (l : Layout) (o : opened m ≡ Found l
   pub patt-among : Among (map changed chunks) pattLetters (changed patt)
   patt-among = among-changed change (rules .whole) pattThere
 
-  -- B1 to B6 and V1 to V7 of it.
+  -- B1 to B6 and V1 to V7 for the repacked module.
   pub filled-rewritten : Filled 8 (changed patt) (number16 (all-of .info) 14) rewritten
   filled-rewritten =
       let many : length rewritten ≡ number16 (all-of .info) 14 = length-map blocks (rewrittenBlock (l .tracks)) ∙ all-of .content .patternsFill .number in
@@ -205,7 +205,7 @@ module _ (m : List ℕ) (bytes : Bytes m) (l : Layout) (o : opened m ≡ Found l
     asMany = refl;
   }
 
-  -- It is bytes.
+  -- The repacked module consists of bytes.
   pub patt-below : Bytes patt
   patt-below =
       bytes-front patt (joined (pattThere .after))
@@ -243,7 +243,7 @@ module _ (m : List ℕ) (bytes : Bytes m) (l : Layout) (o : opened m ≡ Found l
       let each = data-bytes pattIdentifier content (λ c. c) short content-bytes (λ chunk b. b) in
       subst Bytes (sym repacked-bytes) (bytes-changed changed each header chunks (subst Bytes (rules .bytes) bytes))
 
-  -- It opens, with a layout of its chunks.
+  -- The repacked module opens, with a layout of its chunks.
   pub opens-rewritten : (k : Layout) × (opened (repackedModule m l) ≡ Found k) × LayoutOf (repackedModule m l) header (map changed chunks) k
   opens-rewritten =
       let info = info-left rules change refl (all-of .info) (all-of .infoThere) in

@@ -1,4 +1,4 @@
--- When the module repacked is the module: exactly when the stream of every pattern is the packer's and every filler 0.
+-- The repacked module is the module exactly if the stream of every pattern is the packer's and every filler is 0.
 use Prim.Native.Nat.{ℕ, suc, _+_, _-_, _%_, _≤_, _<_}
 use mathlib.Core.Path.{_≡_, refl, sym, ap, _∙_}
 use mathlib.Core.Logic.{_↔_}
@@ -54,7 +54,7 @@ four-again xs at below fits =
     sym (number-letters (drop at xs) (bytes32 k) (omega (arith, length-drop at xs)) (λ i h. bytes-drop at xs below i)
     (record { size = refl; below = λ i h. bytes32-bytes k (number-small xs at below) i }) same)
 
--- A list as its parts.
+-- A list as a part and what follows it.
 parts-of : (xs : List ℕ) (a b : ℕ) → drop a xs ≡ partOf xs a b ++ drop (a + b) xs
 parts-of xs a b = sym (take-append-drop b (drop a xs)) ∙ ap (λ (rest : List ℕ). partOf xs a b ++ rest) (drop-drop b a xs)
 
@@ -95,7 +95,7 @@ module _ {m block : List ℕ} {at : ℕ} (tracks : ℕ) (p : PartAt m at block) 
         },
   )
 
--- A block is the block anew exactly when its stream is the packer's and its filler 0.
+-- A block is its rewritten block exactly if its stream is the packer's and its filler is 0.
 module _ (tracks : ℕ) (block : List ℕ) (b : SoundBlock tracks block) (below : Bytes block) where
   k : ℕ
   k = number32 block 2
@@ -140,7 +140,7 @@ module _ (tracks : ℕ) (block : List ℕ) (b : SoundBlock tracks block) (below 
             ∙ ap (λ (n : ℕ). replicate {A = ℕ} (n % 2) 0) (sym long);
       }
 
--- Blocks that become no longer are the same one behind the other only where each is the same.
+-- If no block becomes longer and the joined blocks are unchanged, each block is unchanged.
 each-same : (g : List ℕ → List ℕ) {list : List (List ℕ)} → Every (λ block. length (g block) ≤ length block) list
     → joined (map g list) ≡ joined list
     → Every (λ block. g block ≡ block) list
@@ -167,7 +167,7 @@ module _ (m : List ℕ) (bytes : Bytes m) (l : Layout) (o : opened m ≡ Found l
   abbrev pub AllPacked : Type 0
   AllPacked = (pattern : ℕ) (b : Block) → found m Pattern pattern ≡ At b → PackedAt m (b .tracks) (b .at)
 
-  -- The block of a pattern, by its number.
+  -- The block of the pattern with a number.
   module _ (i : ℕ) (h : i < length (blocks m bytes l o)) where
     abbrev block : List ℕ
     block = getD (blocks m bytes l o) i []
@@ -191,7 +191,7 @@ module _ (m : List ℕ) (bytes : Bytes m) (l : Layout) (o : opened m ≡ Found l
         rw same at (all i (blockOf m l Pattern i) counted-there) in
         packed-stays (l .tracks) block sound below (packed-in-block (l .tracks) there (sound .sized) .0 at)
 
-  -- PATT's data are the blocks.
+  -- The rewritten data of PATT are the blocks, if each block is unchanged.
   data-same : Every (λ block. rewrittenBlock (l .tracks) block ≡ block) (blocks m bytes l o) → repackedPatterns m l ≡ joined (blocks m bytes l o)
   data-same e = data-is m bytes l o ∙ ap joined (map-stays (rewrittenBlock (l .tracks)) e)
 
@@ -224,7 +224,7 @@ module _ (m : List ℕ) (bytes : Bytes m) (l : Layout) (o : opened m ≡ Found l
       ∙ sym (a .splits))
       ∙ sym (rules m bytes l o .bytes)
 
-  -- Where the module repacked is the module, PATT's data stayed.
+  -- If the repacked module is the module, PATT's data are unchanged.
   same-data : repackedModule m l ≡ m → repackedPatterns m l ≡ joined (blocks m bytes l o)
   same-data e =
       let at : ℕ = l .spans .patt .at in

@@ -1,15 +1,15 @@
--- The theorems about repacking a module. In plain words, for every module, a list of bytes, that the check accepts:
+-- The theorems about repacking a module. For every module, a list of bytes, that the check accepts:
 --
--- 11. The module repacked is a list of bytes, and the check accepts it.
---     It shows the same: every query answers of it what it answers of the module, whatever is asked for, and leaves a lent output the
---     same; the frames of a sample are the same bytes, wherever they stand.
---     It is no longer than the module. So an output of the module's length is always enough: repacking answers then the length of the
---     module repacked, and no refusal.
---     Repacked again it is itself.
---     It is the module itself exactly when the stream of every pattern is the packer's and every filler is 0.
+-- 11. The repacked module is a list of bytes, and the check accepts it.
+--     It shows the same: every query gives the same answer for it as for the module, and leaves the same lent output; the frames of a
+--     sample are the same bytes, wherever they are.
+--     It is no longer than the module. So an output of the module's length is always enough: repacking then answers the length of the
+--     repacked module, and no refusal.
+--     Repacking it again gives itself.
+--     It is the module itself exactly if the stream of every pattern is the packer's and every filler is 0.
 --
--- The module repacked is `repacked`, the check `moduleVerdict`, the answer `repackAnswer`: those that the contracts cite. What queries
--- answer, `ShowsSame` lists.
+-- The repacked module is `repacked`, the check is `moduleVerdict` and the answer is `repackAnswer`; the contracts cite these. `ShowsSame`
+-- lists the answers of the queries.
 use Prim.Native.Nat.{ℕ, _≤_}
 use mathlib.Core.Path.{_≡_, refl, sym, ap, subst, _∙_}
 use mathlib.Core.Logic.{_↔_}
@@ -39,7 +39,7 @@ use Rattle.repack_theorems.proofs.RewrittenAlike.{otherOpens, repacked-
 use Rattle.repack_theorems.proofs.RewrittenAgain.{repacked-again}
 use Rattle.repack_theorems.proofs.RewrittenSame.{same-exactly}
 
--- 11.
+-- Theorem 11.
 module _ (m : List ℕ) (bytes : Bytes m) (accepted : moduleVerdict m ≡ Accepted) where
   abbrev layout : Layout
   layout = accepted-opens m accepted .0

@@ -1,1 +1,1 @@
-// The theorems about repacking a module: proofs/Theorems.antt. There is no code here.
+// The theorems about repacking a module: proofs/Theorems.antt. This crate has no code.
