@@ -1,5 +1,5 @@
--- What an accepted module gives the code that repacks it: its patterns fill PATT and have sound streams, and the module repacked is the
--- module with PATT's data anew.
+-- What acceptance of a module provides for the code that repacks it: its patterns fill PATT and have sound streams, and the repacked module
+-- is the module with PATT's rewritten data.
 use Prim.Native.Nat.{ℕ, zero, suc, _+_, _≤_, _<_}
 use mathlib.Core.Path.{_≡_, refl, sym, ap, _∙_}
 use mathlib.Core.List.{List, _++_}
@@ -55,7 +55,7 @@ module _ (m : List ℕ) (bytes : Bytes m) (l : Layout) (o : opened m ≡ Found l
       module-rewritten (outlined .rules) l
       ∙ data-at Covered.patt (repackedPatterns m l) (outlined .rules) (outlined .mandatory .patt .1) (l .spans .patt) (outlined .layout .patt)
 
-  -- 17, and what is written, by the length of the module with PATT's data anew.
+  -- 17, and what is written, depending on the length of the module with PATT's rewritten data.
   module _ (out : List ℕ) where
     abbrev rewritten : List ℕ
     rewritten = replaced m (l .spans .patt) (repackedPatterns m l)

@@ -1,4 +1,4 @@
--- What is written behind the place of its length, and then its length, in 4 bytes, before it.
+-- Data are written after the place of their length, and then their length, in 4 bytes, before them.
 use Prim.Native.Nat.{ℕ, _+_, _-_, _≤_}
 use mathlib.Core.Path.{_≡_, sym, ap, _∙_}
 use mathlib.Core.List.{List, _++_}
@@ -10,7 +10,7 @@ use Rattle.numbers.specs.Numbers.{bytes32, putAt}
 use Rattle.numbers.proofs.PutBytes.{put-there}
 use Rattle.acceptance.proofs.Ends.{mid-end, put-end}
 
--- The output once it is written up to the place of the length.
+-- The output after it is written up to the place of the length.
 module _ (front out first : List ℕ) (a : ℕ) (size : length front ≡ a) (room : a + 4 ≤ length out) (e₁ : first ≡ front ++ drop a out) where
   first-length : length first ≡ length out
   first-length = omega (arith, ap length e₁, length-append front (drop a out), length-drop a out, size)
@@ -20,14 +20,14 @@ module _ (front out first : List ℕ) (a : ℕ) (size : length front ≡ a) (roo
       let behind : drop a first ≡ drop a out = rw e₁ (drop-at front (drop a out) a size) in
       sym (drop-drop 4 a first) ∙ ap (drop 4) behind ∙ drop-drop 4 a out
 
-  -- The part that is lent behind the place of the length.
+  -- The part that is lent after the place of the length.
   pub lent-length : length (midOf (a + 4) (length first - (a + 4)) first) ≡ length out - (a + 4)
   lent-length = omega (arith, ap length (mid-end (a + 4) first), length-drop (a + 4) first, first-length)
 
   four-more : length (take (a + 4) first) ≡ a + 4
   four-more = length-take-le (a + 4) first (omega (arith, first-length))
 
-  -- Once what has the length is written there.
+  -- The output after the data are written there.
   module _ (xs mid : List ℕ) (n : ℕ) (long : n ≡ length xs) (enough : a + 4 + n ≤ length out)
       (e₂ : mid ≡ xs ++ drop n (midOf (a + 4) (length first - (a + 4)) first)) where
     abbrev second : List ℕ
@@ -55,7 +55,7 @@ module _ (front out first : List ℕ) (a : ℕ) (size : length front ≡ a) (roo
     place-inside : a + 4 ≤ length second
     place-inside = omega (arith, ap length second-is, length-append (take (a + 4) first) (xs ++ drop (a + 4 + n) out), four-more)
 
-    -- Once the length is written.
+    -- The output after the length is written.
     pub third-is : putAt (bytes32 n) a second ≡ front ++ (bytes32 n ++ (xs ++ drop (a + 4 + n) out))
     third-is =
         put-there (bytes32 n) a second place-inside

@@ -1,4 +1,4 @@
--- The loops over the patterns: how long their blocks anew are together, and writing them.
+-- The loops over the patterns: the total length of their rewritten blocks, and writing them.
 use Prim.Native.Nat.{ℕ, zero, suc, _+_, _-_, _≤_, _<_}
 use mathlib.Core.Path.{_≡_, refl, sym, ap, _∙_}
 use mathlib.Core.List.{List, [], _++_, append-assoc, append-nil}
@@ -17,7 +17,7 @@ use Rattle.repack.specs.Repacked.{repackedBlock}
 use Rattle.repack.specs.Steps.{rewrittenBlocks, PatternsTo, PatternsIn}
 use Rattle.repack.proofs.Rewritten.{block-shorter}
 
--- The first of the patterns that are left: its stream is sound, its block ends before the end, and the others follow.
+-- The first of the remaining patterns: its stream is sound, its block ends before the end, and the others follow.
 pub record NextPattern (m : List ℕ) (tracks left at end : ℕ) : Type 0 where
   pub sound : streamVerdict m tracks at ≡ Accepted
   pub inside : at + sizeOf Pattern m at ≤ end
@@ -36,19 +36,19 @@ module _ {m : List ℕ} {tracks at end : ℕ} where
         splits = rw less refl;
       }
 
-  -- What a function asks that goes into the pattern's block.
+  -- The preconditions of the functions that read the pattern's block.
   pub pattern-ready : (left : ℕ) → 0 < left → PatternsTo m tracks left at end → (at + 6 ≤ length m) × (at ≤ end) × (streamVerdict m tracks at ≡ Accepted)
   pattern-ready left some p =
       let next = pattern-next left some p in
       (omega (arith, next .inside, p .inside, size-least Pattern m at), omega (arith, next .inside), next .sound)
 
--- The patterns of a chunk, from the place on at which a loop begins.
+-- The patterns of a chunk, from the place at which a loop begins.
 pub patterns-from : {m : List ℕ} (chunk : ChunkSpan) {n tracks at : ℕ} → PatternsIn m chunk n tracks
     → at ≡ firstBlock Pattern chunk
     → PatternsTo m tracks n at (placeAfter (sizeOf Pattern m) n at)
 patterns-from chunk p e = rw e (record { sound = p .sound; ends = refl; inside = rw (p .ends) (p .inside) })
 
--- The blocks anew are no longer than the blocks that stand there.
+-- The rewritten blocks are no longer than the blocks before.
 pub blocks-shorter : (m : List ℕ) (tracks n at end : ℕ) → PatternsTo m tracks n at end → length (rewrittenBlocks m tracks n at) + at ≤ end
 blocks-shorter m tracks zero at end p = omega (arith, p .ends)
 blocks-shorter m tracks (suc n) at end p =
@@ -62,13 +62,13 @@ blocks-shorter m tracks (suc n) at end p =
       block-shorter m tracks at (next .sound) (omega (arith, ready .0)),
     )
 
--- Those of a chunk, by the place at which a loop begins.
+-- The same for a chunk, from the place at which a loop begins.
 pub data-shorter : {m : List ℕ} (chunk : ChunkSpan) {n tracks start : ℕ} → PatternsIn m chunk n tracks
     → start ≡ firstBlock Pattern chunk
     → length (rewrittenBlocks m tracks n start) ≤ chunk .length
 data-shorter {m} chunk {n} {tracks} p e = rw e (omega (arith, blocks-shorter m tracks n (firstBlock Pattern chunk) (dataEnd chunk) p))
 
--- The lengths of the blocks anew, counted.
+-- The lengths of the rewritten blocks, summed up.
 pub record Counting (m : List ℕ) (tracks n start end at counted left : ℕ) : Type 0 where
   pub same : counted + length (rewrittenBlocks m tracks left at) ≡ length (rewrittenBlocks m tracks n start)
   pub rest : PatternsTo m tracks left at end
@@ -93,7 +93,7 @@ module _ {m : List ℕ} {tracks n start end : ℕ} where
           rest = rw e (next .later);
         }
 
-    -- The sums stay small.
+    -- Bounds of the sums.
     pub counting-small : {size s : ℕ} → 0 < left → size ≡ length (repackedBlock m tracks at) → s ≡ sizeOf Pattern m at
         → (counted + size ≤ length (rewrittenBlocks m tracks n start)) × (at + s ≤ length m)
     counting-small some sized e =
@@ -106,7 +106,7 @@ module _ {m : List ℕ} {tracks n start end : ℕ} where
         let none : left ≡ 0 = omega arith in
         rw (← e) (omega (arith, rw none at (c .same)))
 
--- The blocks anew, written one behind the other to the front of an output.
+-- The rewritten blocks, written one after the other to the front of an output.
 pub record WritingBlocks (m : List ℕ) (tracks n start end : ℕ) (out₀ out : List ℕ) (at to left : ℕ) : Type 0 where
   pub done : List ℕ
   pub written : out ≡ done ++ drop (length done) out₀
@@ -142,7 +142,7 @@ module _ {m : List ℕ} {tracks n start end : ℕ} (out₀ : List ℕ) where
     pub blocks-part : 0 < left → length (repackedBlock m tracks at) ≤ length (midOf to (length out - to) out)
     blocks-part some = omega (arith, blocks-room some, blocks-length, ap length (mid-end to out), length-drop to out)
 
-    -- The next place stays small.
+    -- The bound of the next place.
     pub blocks-small : {s : ℕ} → 0 < left → s ≡ sizeOf Pattern m at → at + s ≤ length m
     blocks-small some e = let next = pattern-next left some (w .rest) in omega (arith, next .inside, w .rest .inside)
 
@@ -161,7 +161,7 @@ module _ {m : List ℕ} {tracks n start end : ℕ} (out₀ : List ℕ) where
           rest = rw e (next .later);
         }
 
--- The same of the patterns of a chunk, by the place at which the loop begins.
+-- The same for the patterns of a chunk, from the place at which the loop begins.
 module _ (m : List ℕ) (chunk : ChunkSpan) (n tracks : ℕ) {start : ℕ} where
   pub blocks-enough : {size : ℕ} → length (rewrittenBlocks m tracks n (firstBlock Pattern chunk)) ≤ size
       → start ≡ firstBlock Pattern chunk

@@ -1,5 +1,5 @@
--- The packer's stream of a pattern whose stream is sound, and the pattern's block anew: what repacking the stream answers and writes, how
--- long they are, and that they are no longer than what stands there.
+-- The packer's stream of a pattern with a sound stream, and the pattern's rewritten block: what repacking the stream answers and writes,
+-- their lengths, and that they are no longer than before.
 use Prim.Native.Nat.{ℕ, _+_, _%_, _≤_, _<_}
 use mathlib.Core.Path.{_≡_, refl, sym, ap, _∙_}
 use mathlib.Core.List.{List, _++_}
@@ -36,7 +36,7 @@ pub packed-size : (stream : List ℕ) → length (packed stream) ≡ 4 + length 
 packed-size stream =
     omega (arith, length-append stream (replicate (length stream % 2) 0), length-replicate {A = ℕ} (length stream % 2) 0)
 
--- A shorter stream makes no longer block.
+-- A shorter stream does not make the block longer.
 filled-shorter : (n k : ℕ) → n ≤ k → n + n % 2 ≤ k + k % 2
 filled-shorter n k h = omega arith
 
@@ -87,7 +87,7 @@ module _ (m : List ℕ) (tracks at : ℕ) (sound : streamVerdict m tracks at ≡
     unfolding sizeOf
     block-shorter = omega (arith, block-size, filled-shorter (length (repackedStream m tracks at)) (patternPackedLength m at) stream-least)
 
--- The length that repacking a stream answers, whether there is room or not.
+-- The length that repacking a stream answers, with or without enough room.
 abbrev pub lengthAnswered : Packing → ℕ
 lengthAnswered (Packed n) = n
 lengthAnswered (Refused r) = r .place
@@ -99,7 +99,7 @@ answered-needed needed room = go (ltb room needed)
     go true = refl
     go false = refl
 
--- What repacking the stream of a pattern leaves, by what its call was given and answered.
+-- What repacking the stream of a pattern leaves, from the arguments and the answer of its call.
 pub stream-done : (m : List ℕ) (tracks at : ℕ) → streamVerdict m tracks at ≡ Accepted
     → (p : Packing) (stream out out′ : List ℕ) (rows n : ℕ) → (stream ≡ packedBytes m at) × (length stream < 0x100000000)
     → rows ≡ patternRows m at → p ≡ repackStreamAnswer stream rows tracks (length out) → out′ ≡ repackStreamOutput stream rows tracks out

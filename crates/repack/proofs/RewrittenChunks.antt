@@ -1,4 +1,4 @@
--- The module repacked, by its chunks: its header, and its chunks with PATT's data anew.
+-- The repacked module by its chunks: its header, and its chunks with PATT's rewritten data.
 use Prim.Native.Nat.{ℕ}
 use mathlib.Core.Path.{_≡_, refl}
 use mathlib.Core.List.{List, _++_, map}
@@ -12,7 +12,7 @@ use Rattle.acceptance.proofs.ChangedChunks.{Change, chunks-read, module-changed
 use Rattle.acceptance.proofs.ChangedData.{dataChanged, no-change, data-change, data-read, chunk-read}
 use Rattle.repack.specs.Repacked.{repackedPatterns, repackedChunkBytes, repackedModule}
 
--- A chunk of a module of which pattIdentifier gets other data; every other chunk stays.
+-- A chunk of the repacked module: PATT gets other data, and every other chunk is unchanged.
 abbrev pub rewrittenChunk : List ℕ → List ℕ → List ℕ
 rewrittenChunk content = dataChanged pattIdentifier content (λ chunk. chunk)
 

@@ -1,4 +1,4 @@
--- Writing a pattern's block anew: its rows, then its stream behind the place of the length, then the length, then the filler.
+-- Writing a pattern's rewritten block: its rows, then its stream after the place of the length, then the length, then the filler.
 use Prim.Native.Nat.{ℕ, _+_, _-_, _%_, _≤_, _<_}
 use mathlib.Core.Path.{_≡_, refl, sym, ap, _∙_}
 use mathlib.Core.Logic.{_≢_}
@@ -18,7 +18,7 @@ use Rattle.repack.specs.Repacked.{packed, repackedStream, repackedBlock}
 use Rattle.repack.proofs.Rewritten.{block-size}
 use Rattle.repack.proofs.LengthBefore.{lent-length, third-is}
 
--- An even stream ends the block; behind an odd one a filler stands.
+-- A stream of even length ends the block; after one of odd length comes a filler.
 module _ (rows stream out third : List ℕ) (n : ℕ) (two : length rows ≡ 2) (size : n ≡ length stream)
     (is : third ≡ rows ++ (bytes32 n ++ (stream ++ drop (6 + n) out))) where
   even-written : n % 2 ≡ 0 → (6 + n ≡ length (rows ++ packed stream)) × (third ≡ (rows ++ packed stream) ++ drop (6 + n) out)
@@ -44,7 +44,7 @@ module _ (rows stream out third : List ℕ) (n : ℕ) (two : length rows ≡ 2) 
             ∙ rw whole (simp append-assoc),
       )
 
--- The same of a pattern at a place of a module, by what the calls were given and answered.
+-- The same for a pattern at a place of a module, from the arguments and the answers of the calls.
 module _ (m : List ℕ) (tracks at : ℕ) (inside : at + 6 ≤ length m) (sound : streamVerdict m tracks at ≡ Accepted) where
   pub block-long : length (repackedBlock m tracks at) ≡ 6 + length (repackedStream m tracks at) + length (repackedStream m tracks at) % 2
   block-long = block-size m tracks at sound (omega arith)

@@ -1,5 +1,5 @@
--- Writing the module with PATT's data anew: its bytes up to PATT's length, the data behind the length's place and the length; then its
--- bytes behind PATT.
+-- Writing the module with PATT's rewritten data: its bytes up to PATT's length, the data after the place of the length and the length; then
+-- its bytes after PATT.
 use Prim.Native.Nat.{ℕ, _+_, _-_, _≤_, _<_}
 use mathlib.Core.Path.{_≡_, refl, sym, ap, _∙_}
 use mathlib.Core.List.{List, _++_, append-assoc}
@@ -21,7 +21,7 @@ module _ (m : List ℕ) (chunk : ChunkSpan) (rewritten : List ℕ) (whole : data
   pub front-size : length front ≡ chunk .at + 4
   front-size = length-take-le (chunk .at + 4) m (omega arith)
 
-  -- How long it is.
+  -- The length of the module with PATT's data replaced.
   pub replaced-length : length (replaced m chunk rewritten) + chunk .length ≡ length m + length rewritten
   replaced-length =
       omega (
@@ -35,7 +35,7 @@ module _ (m : List ℕ) (chunk : ChunkSpan) (rewritten : List ℕ) (whole : data
   counted-length : {n : ℕ} → n ≡ length rewritten → length m - chunk .length + n ≡ length (replaced m chunk rewritten)
   counted-length size = omega (arith, replaced-length)
 
-  -- What the output must have, without counting and counted.
+  -- The room that the output needs, without counting and counted.
   pub room-enough : {room : ℕ} → length rewritten ≤ chunk .length → length m ≤ room
       → (length (replaced m chunk rewritten) ≤ length m) × (room < length m → length m ≡ length (replaced m chunk rewritten))
   room-enough shorter h = (omega (arith, replaced-length), λ less. absurd (omega arith))
@@ -45,14 +45,14 @@ module _ (m : List ℕ) (chunk : ChunkSpan) (rewritten : List ℕ) (whole : data
       × (room < length m - chunk .length + n → length m - chunk .length + n ≡ length (replaced m chunk rewritten))
   room-counted size = (omega (arith, counted-length size), λ less. counted-length size)
 
-  -- The module up to PATT's end, and what stands behind PATT.
+  -- The module up to PATT's end, and the bytes after PATT.
   pub front-length : length (rewrittenFront m chunk rewritten) ≡ chunk .at + 4 + 4 + length rewritten
   front-length = omega (arith, length-append front (bytes32 (length rewritten) ++ rewritten), front-size)
 
   pub front-room : {room : ℕ} → length (replaced m chunk rewritten) ≤ room → length (rewrittenFront m chunk rewritten) ≤ room
   front-room h = omega (arith, front-length, replaced-length)
 
-  -- Writing up to PATT's end: what the calls were given and answered, one after the other.
+  -- Writing up to PATT's end: the arguments and answers of the calls, one after the other.
   module _ (out₀ : List ℕ) (room : length (rewrittenFront m chunk rewritten) ≤ length out₀) where
     abbrev start : ℕ
     start = chunk .at + 4 + 4
@@ -79,7 +79,7 @@ module _ (m : List ℕ) (chunk : ChunkSpan) (rewritten : List ℕ) (whole : data
                 ∙ sym (append-assoc front (bytes32 (length rewritten) ++ rewritten) (drop (start + n) out₀)),
           )
 
-  -- Writing what stands behind PATT.
+  -- Writing the bytes after PATT.
   module _ (out₀ : List ℕ) (room : length (replaced m chunk rewritten) ≤ length out₀) {end : ℕ} {out₁ : List ℕ}
       (done : (end ≡ length (rewrittenFront m chunk rewritten)) × (out₁ ≡ rewrittenFront m chunk rewritten ++ drop end out₀)) where
     abbrev behind : ℕ

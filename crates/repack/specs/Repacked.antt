@@ -1,5 +1,5 @@
--- FORMAT.md, X1 to X4 (document 01, "Repacking a module keeps .."): a module repacked. Its header and its chunks stand in order and byte
--- for byte, except that pattIdentifier holds the packer's streams and the lengths that follow.
+-- FORMAT.md, X1 to X4 (document 01, "Repacking a module keeps .."): the repacked module. Its header and its chunks are in the same order
+-- and the same byte for byte, except that PATT has the packer's streams and the lengths that follow from them.
 use Prim.Native.Nat.{ℕ, _+_, _%_}
 use mathlib.Core.List.{List, [], _++_, map}
 use mathlib.Core.Bool.{cond}
@@ -24,23 +24,23 @@ use Rattle.module.specs.Outputs.{answerOpened, outputOpened}
 abbrev pub repackedStream : List ℕ → ℕ → ℕ → List ℕ
 repackedStream m tracks at = packedStream (rowsFrom tracks (entriesRead (readStream (patternRows m at) tracks (packedBytes m at))))
 
--- X3: a stream as it stands in a block: its length in 4 bytes, the stream, and a filler, 0, if its length is odd.
+-- X3: a stream as stored in a block: its length in 4 bytes, the stream, and a filler 0 if its length is odd.
 abbrev pub packed : List ℕ → List ℕ
 packed stream = bytes32 (length stream) ++ (stream ++ replicate (length stream % 2) 0)
 
--- X3: the block of the pattern at a place, anew: its rows as stored, and the packer's stream.
+-- X3: the rewritten block of the pattern at a place: its rows as stored, and the packer's stream.
 abbrev pub repackedBlock : List ℕ → ℕ → ℕ → List ℕ
 repackedBlock m tracks at = partOf m at 2 ++ packed (repackedStream m tracks at)
 
--- X2: the data of pattIdentifier, anew: the blocks of the patterns, in order.
+-- X2: the rewritten data of PATT: the rewritten blocks of the patterns, in order.
 abbrev pub repackedPatterns : List ℕ → Layout → List ℕ
 repackedPatterns m l = joined (map (repackedBlock m (l .tracks)) (patternBlocks m l))
 
--- X2: pattIdentifier, anew: its identifier, the length of its data, and the data.
+-- X2: the rewritten PATT: its identifier, the length of its data, and the data.
 abbrev pub repackedPatt : List ℕ → Layout → ChunkHeader → List ℕ
 repackedPatt m l c = partOf m (c .at) 4 ++ (bytes32 (length (repackedPatterns m l)) ++ repackedPatterns m l)
 
--- X1: every other chunk byte for byte: its header of 8 bytes, and its data.
+-- X1: every other chunk, byte for byte: its header of 8 bytes, and its data.
 abbrev pub repackedChunkBytes : List ℕ → Layout → ChunkHeader → List ℕ
 repackedChunkBytes m l c = cond (eqb (c .identifier) pattIdentifier) (repackedPatt m l c) (partOf m (c .at) (8 + c .length))
 
@@ -53,7 +53,7 @@ chunksRead (stopped r) = []
 abbrev pub repackedModule : List ℕ → Layout → List ℕ
 repackedModule m l = partOf m 0 8 ++ joined (map (repackedChunkBytes m l) (chunksRead (chunks m)))
 
--- The module repacked; nothing of a module that is refused.
+-- The repacked module; nothing for a module that is refused.
 abbrev pub repackedIf : List ℕ → Outline → List ℕ
 repackedIf m (Found l) = repackedModule m l
 repackedIf m (Refused r) = []
@@ -61,7 +61,7 @@ repackedIf m (Refused r) = []
 abbrev pub repacked : List ℕ → List ℕ
 repacked m = repackedIf m (opened m)
 
--- X4: the module's own refusal, then 17, else the length of the module repacked; and what the output then holds (F8).
+-- X4: the module's own refusal, then 17, else the length of the repacked module; and the output afterwards (F8).
 abbrev pub repackAnswer : List ℕ → ℕ → LengthAnswer
 repackAnswer m room = answerOpened (repackedModule m) room (opened m)
 

@@ -1,5 +1,5 @@
--- Definitions that private functions cite: the module repacked as its bytes up to PATT's length, that length and the data anew, and its
--- bytes behind PATT; and what is known of the patterns of an accepted module.
+-- Definitions that the contracts of private functions cite: the repacked module as its bytes up to PATT's length, that length and the
+-- rewritten data, and its bytes after PATT; and what is known about the patterns of an accepted module.
 use Prim.Native.Nat.{ℕ, zero, suc, _+_, _≤_}
 use mathlib.Core.Path.{_≡_}
 use mathlib.Core.List.{List, _++_, map}
@@ -14,23 +14,23 @@ use Rattle.blocks.specs.declared.BlockKind.the-variants.{Pattern}
 use Rattle.module.specs.Streams.{streamVerdict}
 use Rattle.repack.specs.Repacked.{repackedBlock}
 
--- The blocks anew of so many patterns from a place on.
+-- The rewritten blocks of n patterns from a place on.
 abbrev pub rewrittenBlocks : List ℕ → ℕ → ℕ → ℕ → List ℕ
 rewrittenBlocks m tracks n at = joined (map (repackedBlock m tracks) (placesFrom (sizeOf Pattern m) n at))
 
--- PATT's data put in the place of those that stand there: the module up to PATT's end, and all of it.
+-- The module with PATT's data replaced: the module up to PATT's end, and all of it.
 abbrev pub rewrittenFront : List ℕ → ChunkSpan → List ℕ → List ℕ
 rewrittenFront m chunk rewritten = take (chunk .at + 4) m ++ (bytes32 (length rewritten) ++ rewritten)
 
 abbrev pub replaced : List ℕ → ChunkSpan → List ℕ → List ℕ
 replaced m chunk rewritten = take (chunk .at + 4) m ++ (bytes32 (length rewritten) ++ (rewritten ++ drop (dataEnd chunk) m))
 
--- So many patterns from a place on have sound streams.
+-- The n patterns from a place on have sound streams.
 abbrev pub StreamsSound : List ℕ → ℕ → ℕ → ℕ → Type 0
 StreamsSound m tracks zero at = Unit {0}
 StreamsSound m tracks (suc n) at = (streamVerdict m tracks at ≡ Accepted) × StreamsSound m tracks n (at + sizeOf Pattern m at)
 
--- So many patterns from a place on end at another, inside the module, and have sound streams.
+-- The n patterns from a place on end at `end`, inside the module, and have sound streams.
 pub record PatternsTo (m : List ℕ) (tracks n at end : ℕ) : Type 0 where
   pub sound : StreamsSound m tracks n at
   pub ends : placeAfter (sizeOf Pattern m) n at ≡ end

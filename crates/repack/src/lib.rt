@@ -1,5 +1,5 @@
-// Repacking a whole module: the packer's streams in the place of those that PATT holds, with the lengths that follow; all else byte for
-// byte. Of the packed rows only the promises of `packed_rows` are used. The module is read in place, and no memory is needed beyond one
+// Repacking a whole module: the streams in PATT are replaced by the packer's, with the lengths that change with them; all other bytes are
+// unchanged. Only the promises of `packed_rows` are used about packed rows. The module is read in place, and no memory is needed beyond one
 // row.
 use blocks::BlockKind;
 use blocks::block_at;
@@ -32,8 +32,8 @@ ghost use Rattle.module.specs.Outputs.{answerOpened, outputOpened};
 ghost use Rattle.repack.specs.Repacked.{repackedStream, repackedBlock, repackedModule, repackAnswer, repackOutput};
 ghost use Rattle.repack.specs.Steps.{rewrittenBlocks, rewrittenFront, replaced, PatternsIn};
 
-// Writes the packer's stream of the pattern at a place to the front of an output that has room for it, and answers its length, also
-// where there is no room.
+// Writes the packer's stream of the pattern at a place to the front of the output if that has room for it. Returns the stream's length,
+// also if there is no room.
 fn repack_stream(m: &[u8], tracks: u16, at: usize, out: &mut [u8]) -> usize
     requires { ⌜ streamVerdict (now m) tracks at ≡ Accepted ⌝ }
     ensures { λ r. ⌜ (r ≡ length (repackedStream (now (m .entry)) tracks at))
@@ -47,7 +47,7 @@ fn repack_stream(m: &[u8], tracks: u16, at: usize, out: &mut [u8]) -> usize
     }
 }
 
-// The length of a pattern's block anew.
+// The length of a pattern's rewritten block.
 fn block_length(m: &[u8], tracks: u16, at: usize) -> usize
     requires { ⌜ (at + 6 ≤ length (now m)) × (streamVerdict (now m) tracks at ≡ Accepted) ⌝ }
     ensures { λ r. ⌜ r ≡ length (repackedBlock (now (m .entry)) tracks at) ⌝ }
@@ -57,7 +57,7 @@ fn block_length(m: &[u8], tracks: u16, at: usize) -> usize
     6 + n + n % 2
 }
 
-// The length of PATT's data anew.
+// The length of PATT's rewritten data.
 fn data_length(m: &[u8], chunk: ChunkSpan, patterns: u16, tracks: u16) -> usize
     requires { ⌜ PatternsIn (now m) chunk patterns tracks ⌝ }
     ensures { λ r. ⌜ r ≡ length (rewrittenBlocks (now (m .entry)) tracks patterns (firstBlock Pattern chunk)) ⌝ }
@@ -73,7 +73,7 @@ fn data_length(m: &[u8], chunk: ChunkSpan, patterns: u16, tracks: u16) -> usize
     length
 }
 
-// Writes a pattern's block anew to the front of an output, and answers its length.
+// Writes a pattern's rewritten block to the front of an output that has room for it, and returns its length.
 fn write_block(m: &[u8], tracks: u16, at: usize, out: &mut [u8]) -> usize
     requires { ⌜ (at + 6 ≤ length (now m)) × (streamVerdict (now m) tracks at ≡ Accepted) × (length (repackedBlock (now m) tracks at) ≤ length (now out)) ⌝ }
     ensures { λ r. ⌜ (r ≡ length (repackedBlock (now (m .entry)) tracks at))
@@ -90,7 +90,7 @@ fn write_block(m: &[u8], tracks: u16, at: usize, out: &mut [u8]) -> usize
     end + 1
 }
 
-// Writes PATT's data anew to the front of an output that has room for them, and answers their length.
+// Writes PATT's rewritten data to the front of an output that has room for them, and returns their length.
 fn write_data(m: &[u8], chunk: ChunkSpan, patterns: u16, tracks: u16, out: &mut [u8]) -> usize
     requires { ⌜ PatternsIn (now m) chunk patterns tracks × (length (rewrittenBlocks (now m) tracks patterns (firstBlock Pattern chunk)) ≤ length (now out)) ⌝ }
     ensures { λ r. ⌜ (r ≡ length (rewrittenBlocks (now (m .entry)) tracks patterns (firstBlock Pattern chunk)))
@@ -107,8 +107,8 @@ fn write_data(m: &[u8], chunk: ChunkSpan, patterns: u16, tracks: u16, out: &mut 
     to
 }
 
-// Writes the module up to PATT's end, with PATT's data anew, to the front of an output that has room for that, and answers the place
-// behind it. The data are written before their length, which is not known until then.
+// Writes the module up to PATT's end, with PATT's rewritten data, to the front of an output that has room for it, and returns the place
+// after it. The data are written before their length, which is not known until then.
 fn write_front(m: &[u8], chunk: ChunkSpan, patterns: u16, tracks: u16, out: &mut [u8]) -> usize
     requires { ⌜ PatternsIn (now m) chunk patterns tracks
         × (length (rewrittenFront (now m) chunk (rewrittenBlocks (now m) tracks patterns (firstBlock Pattern chunk))) ≤ length (now out)) ⌝ }
@@ -124,7 +124,7 @@ fn write_front(m: &[u8], chunk: ChunkSpan, patterns: u16, tracks: u16, out: &mut
     start + rewritten
 }
 
-// Writes the module with PATT's data anew to the front of an output that has room for it, and answers its length.
+// Writes the module with PATT's rewritten data to the front of an output that has room for it, and returns its length.
 fn write_module(m: &[u8], chunk: ChunkSpan, patterns: u16, tracks: u16, out: &mut [u8]) -> usize
     requires { ⌜ PatternsIn (now m) chunk patterns tracks
         × (length (replaced (now m) chunk (rewrittenBlocks (now m) tracks patterns (firstBlock Pattern chunk))) ≤ length (now out)) ⌝ }
@@ -138,8 +138,8 @@ fn write_module(m: &[u8], chunk: ChunkSpan, patterns: u16, tracks: u16, out: &mu
     end + (m.len() - behind)
 }
 
-// The length that an output with so much room needs: that of the module repacked. Where there is room for the module as it is, its own
-// length is answered, which is no less: so the streams need not be gone over to count.
+// The length that an output with this room needs. If there is room for the module itself, its own length is returned, which is no less than
+// that of the repacked module, so the streams are not read to count. Otherwise it is the length of the repacked module.
 fn room_needed(m: &[u8], chunk: ChunkSpan, patterns: u16, tracks: u16, room: usize) -> usize
     requires { ⌜ PatternsIn (now m) chunk patterns tracks ⌝ }
     ensures { λ r. ⌜ (length (replaced (now (m .entry)) chunk (rewrittenBlocks (now (m .entry)) tracks patterns (firstBlock Pattern chunk))) ≤ r)
@@ -152,7 +152,7 @@ fn room_needed(m: &[u8], chunk: ChunkSpan, patterns: u16, tracks: u16, room: usi
     m.len() - (chunk.length as usize) + rewritten
 }
 
-// Repacks a module that is accepted: 17.
+// Repacks an accepted module. The only refusal is 17.
 fn repack_opened(m: &[u8], l: Layout, out: &mut [u8]) -> LengthAnswer
     requires { ⌜ opened (now m) ≡ Found l ⌝ }
     ensures { λ r. ⌜ (r ≡ answerOpened (repackedModule (now (m .entry))) (length (now (out .entry))) (Found l))
@@ -167,7 +167,7 @@ fn repack_opened(m: &[u8], l: Layout, out: &mut [u8]) -> LengthAnswer
     written(write_module(m, chunk, l.patterns, l.tracks, out))
 }
 
-// Repacks a module: its own refusal, then 17.
+// Repacks a module. The refusals are the module's own, then 17.
 pub fn repack(m: &[u8], out: &mut [u8]) -> LengthAnswer
     ensures { λ r. ⌜ (r ≡ repackAnswer (now (m .entry)) (length (now (out .entry)))) × (now (out .exit) ≡ repackOutput (now (m .entry)) (now (out .entry))) ⌝ }
 {
