@@ -1,4 +1,5 @@
--- What an accepted module gives the code that writes its records: the values of envelopes fit 2 bytes, and the lengths are known before.
+-- What acceptance of a module provides for the code that writes its records: the values of envelopes fit 2 bytes, and the lengths are known
+-- in advance.
 use Prim.Native.Nat.{ℕ, _+_, _*_, _≤_}
 use mathlib.Core.Path.{_≡_, refl, sym, ap, subst, _∙_}
 use mathlib.Core.List.{List, _++_, map, append-assoc}
@@ -27,7 +28,7 @@ use Rattle.records.specs.Steps.{recordsFrom, recordsOfThree, ValuesScale
 use Rattle.records.proofs.Ahead.{every-any}
 use Rattle.records.proofs.RecordLengths.{summary-length, record-length, equal-lengths, block-lengths}
 
--- An envelope of panning whose rules hold.
+-- A panning envelope for which the rules hold.
 panning-fits : (m : List ℕ) (instruments version at : ℕ) → AllHold (envelopeRules m instruments (eqb version 3) at) → ValuesScale m version PanningEnvelope at
 panning-fits m instruments version at hold point h two =
     leb-true (envelopeValue m at point) 64 (rw two at (value-fits m instruments (eqb version 3) at hold point h))
@@ -53,7 +54,7 @@ module _ (m : List ℕ) (l : Layout) (o : opened m ≡ Found l) where
         opens .content .blocks .songs,
       )
 
--- The records of a kind that are of one length.
+-- The records of the kinds whose records have a fixed length.
 module _ (m : List ℕ) (l : Layout) where
   pub instruments-length : length (recordsOf m l Instrument) ≡ countOf m l Instrument * 50
   instruments-length = equal-lengths (recordAt m (l .version) Instrument) (sizeOf (blockKindOf Instrument) m) 50 (record-length m (l .version) Instrument) _ _
@@ -74,7 +75,7 @@ module _ (m : List ℕ) (l : Layout) where
       equal-lengths (recordAt m (l .version) PanningEnvelope) (sizeOf (blockKindOf PanningEnvelope) m) 136
       (record-length m (l .version) PanningEnvelope) _ _
 
-  -- The length that is told for each kind.
+  -- The length that is computed for each kind.
   pub songs-reported : opened m ≡ Found l → (kind : RecordKind) (chunk : ChunkSpan) → kind ≡ Song → chunk ≡ chunkOf l kind
       → chunk .length ≡ length (recordsOf m l kind)
   songs-reported o kind chunk e c = rw e (ap (λ (p : ChunkSpan). p .length) (rw e at c) ∙ sym (songs-length m l o))
@@ -84,7 +85,7 @@ module _ (m : List ℕ) (l : Layout) where
       → count * w ≡ length (recordsOf m l kind)
   reported kind other count w e size c = rw e (ap (λ (n : ℕ). n * w) (rw e at c) ∙ sym size)
 
-  -- All of them.
+  -- The length of all records.
   pub all-lengths : length (allRecords m l)
       ≡ 60 + length (recordsOf m l Song) + length (recordsOf m l Instrument) + length (recordsOf m l Pattern)
       + length (recordsOf m l Sample) + length (recordsOf m l VolumeEnvelope) + length (recordsOf m l PanningEnvelope)
@@ -105,7 +106,7 @@ module _ (m : List ℕ) (l : Layout) where
         length-append (recordsOf m l VolumeEnvelope) (recordsOf m l PanningEnvelope),
       )
 
--- The blocks of a kind, by what the code has of them.
+-- The blocks of a kind, from the values that the code has computed.
 module _ (m : List ℕ) (l : Layout) (kind : RecordKind) (blocks : BlockKind) (chunk : ChunkSpan) (start count : ℕ) (k : blocks ≡ blockKindOf kind)
     (c : chunk ≡ chunkOf l kind) (s : start ≡ blockAt m blocks chunk 0) (n : count ≡ countOf m l kind) where
   places-same : placesFrom (sizeOf blocks m) count start ≡ blocksOf m (blockKindOf kind) (chunkOf l kind) (countOf m l kind)
@@ -122,7 +123,7 @@ module _ (m : List ℕ) (l : Layout) (kind : RecordKind) (blocks : BlockKind) (c
       → (r ≡ length (recordsOf m l kind)) × (out′ ≡ recordsOf m l kind ++ drop r out)
   records-written out w = rw records-same at w
 
--- All records, as they are written: three kinds, and the three others.
+-- All records as they are written: the summary, three kinds, and the three others.
 abbrev pub byThrees : List ℕ → Layout → List ℕ
 byThrees m l =
     summaryRecord m l

@@ -1,5 +1,5 @@
--- Writing lists one behind the other to the front of an output: what is written, and what is still to come. Each is written by a call that
--- is lent the output from a place on.
+-- Writing lists one after the other to the front of an output: the part that is written, and the part still to be written. Each list is
+-- written by a call that is lent the output from a place on.
 use Prim.Native.Nat.{ℕ, zero, suc, _+_, _-_, _≤_, _<_}
 use mathlib.Core.Path.{_≡_, refl, sym, ap, _∙_}
 use mathlib.Core.List.{List, [], _∷_, _++_, map, append-assoc, append-nil}
@@ -14,7 +14,7 @@ use Rattle.numbers.proofs.PutBytes.{put-after}
 use Rattle.blocks.specs.Sizes.{placesFrom}
 use Rattle.acceptance.proofs.Ends.{mid-end, put-next, written-length}
 
--- Of all that is to be written everything but the rest is written, and the rest goes to a place.
+-- Everything except the rest is written, and the rest is written from this place on.
 pub record Ahead (out₀ all out : List ℕ) (to : ℕ) (rest : List ℕ) : Type 0 where
   pub done : List ℕ
   pub written : out ≡ done ++ drop (length done) out₀
@@ -76,7 +76,7 @@ module _ {out₀ all : List ℕ} (room : length all ≤ length out₀) (out : Li
       → (to + r ≡ length all) × (putMid to (length out - to) out mid ≡ all ++ drop (to + r) out₀)
   ahead-last mid next = ahead-over room (putMid to (length out - to) out mid) (ahead-next room out xs [] last mid next)
 
-  -- It is put at its place.
+  -- The last list is put at its place.
   pub ahead-put : putAt xs to out ≡ all ++ drop (to + length xs) out₀
   ahead-put =
       let rest : List ℕ = drop (length (a .done)) out₀ in
@@ -87,7 +87,7 @@ module _ {out₀ all : List ℕ} (room : length all ≤ length out₀) (out : Li
       ∙ ap (λ (l : List ℕ). l ++ drop (length xs) rest) (a .whole)
       ∙ ap (λ (l : List ℕ). all ++ l) (drop-drop (length xs) (length (a .done)) out₀ ∙ ap (λ (k : ℕ). drop (k + length xs) out₀) (a .place))
 
--- Three lists: the first by a call that is lent the whole output, the others behind it.
+-- Three lists: the first by a call that is lent the whole output, the others after it.
 module _ (xs ys zs out₀ : List ℕ) (room : length (xs ++ (ys ++ zs)) ≤ length out₀) where
   pub first-fits : length xs ≤ length out₀
   first-fits = omega (arith, length-append xs (ys ++ zs), room)
@@ -132,18 +132,18 @@ module _ (xs ys zs out₀ : List ℕ) (room : length (xs ++ (ys ++ zs)) ≤ leng
           → (p + q + r ≡ length (xs ++ (ys ++ zs))) × (putMid (p + q) (length out₂ - (p + q)) out₂ mid₃ ≡ (xs ++ (ys ++ zs)) ++ drop (p + q + r) out₀)
       three-written mid₃ e₃ = ahead-last room out₂ zs after-second mid₃ e₃
 
--- Nothing is asked of blocks.
+-- A condition that always holds, for blocks without a condition.
 pub every-any : {P : ℕ → Type 0} → ((x : ℕ) → P x) → (xs : List ℕ) → Every P xs
 every-any h [] = none
 every-any h (x ∷ xs) = also (h x) (every-any h xs)
 
--- The first of the blocks that are left, and the others.
+-- The first of the remaining blocks, and the others.
 pub blocks-split : (f : ℕ → List ℕ) (size : ℕ → ℕ) (left at : ℕ) → 0 < left
     → joined (map f (placesFrom size left at)) ≡ f at ++ joined (map f (placesFrom size (left - 1) (at + size at)))
 blocks-split f size zero at some = absurd (omega arith)
 blocks-split f size (suc left) at some = let less : suc left - 1 ≡ left = omega arith in rw less refl
 
--- So many blocks are written, and each of those that are left is as is asked.
+-- Some blocks are written, and the condition holds for each of the remaining ones.
 pub record AheadBlocks (f : ℕ → List ℕ) (size : ℕ → ℕ) (P : ℕ → Type 0) (n start : ℕ) (out₀ out : List ℕ) (at to left : ℕ) : Type 0 where
   pub ahead : Ahead out₀ (joined (map f (placesFrom size n start))) out to (joined (map f (placesFrom size left at)))
   pub each : Every P (placesFrom size left at)

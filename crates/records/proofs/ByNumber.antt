@@ -1,4 +1,4 @@
--- From the places of blocks to their numbers: the records of all blocks of a kind are what is told, number by number, of what is found.
+-- From the places of blocks to their numbers: the records of all blocks of a kind are the records of what is found, number by number.
 use Prim.Native.Nat.{ℕ, zero, suc, _+_, _-_, _<_}
 use mathlib.Core.Path.{_≡_, refl, ap, _∙_}
 use mathlib.Core.List.{List, map}
@@ -19,7 +19,7 @@ use Rattle.queries.specs.declared.Found.the-variants.{At}
 use Rattle.queries.proofs.Numbering.{counted-found}
 use Rattle.records.specs.Records.{recordAt, recordsOf}
 
--- What a function gives for each number, where that is what another gives for the place that so many blocks lead to.
+-- The results of a function for each number, if they are those of another function for the place of the block with that number.
 each-placed : {A : Type 0} (f g : ℕ → A) (size : ℕ → ℕ) (n k at : ℕ)
     → ((i : ℕ) → i < n → f (k + i) ≡ g (placeAfter size i at))
     → eachFrom f k n ≡ map g (placesFrom size n at)
@@ -31,7 +31,7 @@ each-placed f g size (suc n) k at h =
     cc
 
 module _ (m : List ℕ) (l : Layout) (o : opened m ≡ Opened l) (kind : RecordKind) where
-  -- The block of a number that is counted.
+  -- The block with a number that exists.
   abbrev numbered : ℕ → Block
   numbered i = record { at = blockAt m (blockKindOf kind) (chunkOf l kind) i; version = l .version; tracks = l .tracks }
 

@@ -1,4 +1,4 @@
--- The values of envelopes fit 2 bytes, and the points that are written.
+-- The values of envelopes fit 2 bytes, and the points are written as specified.
 use Prim.Native.Nat.{ℕ, _*_, _≤_, _<_}
 use mathlib.Core.Path.{_≡_, refl, ap, _∙_}
 use mathlib.Core.List.{List, [], _∷_, _++_, flatten}
@@ -22,7 +22,7 @@ use Rattle.envelopes.specs.declared.EnvelopeKind.{EnvelopeKind}
 use Rattle.envelopes.specs.declared.EnvelopeKind.the-variants.{Volume, Panning}
 use Rattle.records.specs.Steps.{pointRecord, ValueScales, ValuesScale}
 
--- A value as it is shown fits 2 bytes.
+-- A shown value fits 2 bytes.
 signed-mag : (v : ℕ) → v < 65536 → mag (signed16 v) < 65536
 signed-mag v h = go (ltb v 32768) refl
   where
@@ -38,7 +38,7 @@ value-mag Panning version v h fits = go (eqb version 2) refl
     go true t = simp t (less-mag (4 * v) 65536 (omega (arith, fits (eqb-true version 2 t))) (omega arith))
     go false t = simp t (signed-mag v h)
 
--- What is asked of a value in use.
+-- The condition on a value in use.
 value-ready : (m : List ℕ) (kind : EnvelopeKind) (version at : ℕ) → ValuesScale m version (recordKind kind) at → (point : ℕ)
     → point ≤ envelopeSections m at
     → ValueScales kind version (envelopeValue m at point)
@@ -55,7 +55,7 @@ shown-mag m kind version at point bytes fits = go (leb point (envelopeSections m
         simp t (value-mag kind version (envelopeValue m at point) (number16-below m bytes _) (value-ready m kind version at fits point used))
     go false t = simp t (omega arith)
 
--- A point: its position, and its value, which the code passes on in 4 bytes.
+-- A point: its position, and its value, which the code passes in 4 bytes.
 module _ (m : List ℕ) (kind : EnvelopeKind) (version at point sections : ℕ) (v : ℤ) (s : sections ≡ envelopeSections m at) (small : SFits w32 v)
     (shown : v ≡ valueShown m kind version at sections point) where
   passed : toZ w32 (ofZ w32 v) ≡ valueShown m kind version at (envelopeSections m at) point

@@ -1,4 +1,4 @@
--- How long records are: one by one, and all of a kind.
+-- The lengths of records: one by one, and all of a kind.
 use Prim.Native.Nat.{ℕ, zero, suc, _+_, _*_}
 use mathlib.Core.Path.{_≡_, refl}
 use mathlib.Core.List.{List, _++_, map}
@@ -18,7 +18,7 @@ use Rattle.blocks.specs.declared.RecordKind.the-variants.{Song, Instrument, Pat
 use Rattle.summary.specs.Shown.{nameOf, shownInfo}
 use Rattle.records.specs.Records.{infoRecord, countsRecord, summaryRecord, recordAt}
 
--- A name has 44 bytes, and with it the summary 60.
+-- A name has 44 bytes, so the summary has 60.
 pub name-length : (m : List ℕ) (l : Layout) → length (nameOf m l) ≡ 44
 name-length m l = go (l .spans .name .present)
   where
@@ -29,7 +29,7 @@ name-length m l = go (l .spans .name .present)
 pub summary-length : (m : List ℕ) (l : Layout) → length (summaryRecord m l) ≡ 60
 summary-length m l = omega (arith, length-append (nameOf m l) (infoRecord (shownInfo l) ++ countsRecord m l), name-length m l)
 
--- A song's record is as long as its block, and those of each other kind have one length.
+-- A song's record is as long as its block. The records of each other kind have a fixed length.
 abbrev recordLength : List ℕ → RecordKind → ℕ → ℕ
 recordLength m Song at = sizeOf SongBlock m at
 recordLength m Instrument at = 50

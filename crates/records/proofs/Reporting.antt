@@ -1,4 +1,4 @@
--- Theorem 19, kind by kind: what a query answers of a block that is found is what the block's record tells; of a playlist, entry by entry.
+-- Theorem 19, kind by kind: what a query answers for a block that is found is the block's record; for a playlist, entry by entry.
 use Prim.Native.Nat.{ℕ, zero, suc, _+_, _*_, _<_}
 use mathlib.Core.Path.{_≡_, refl, sym, ap, _∙_}
 use mathlib.Core.List.{List, _++_}
@@ -27,7 +27,7 @@ use Rattle.records.specs.Reported.{reportedSummary, reportedSong, report
 use Rattle.records.proofs.StoredRecords.{next16}
 use Rattle.records.proofs.ByNumber.{records-numbered}
 
--- Bytes that are numbers one behind the other, told number by number.
+-- Bytes that are numbers one after the other, given number by number.
 numbers-given : (m : List ℕ) → Bytes m → (f : ℕ → ℕ) (n k at : ℕ) → ((i : ℕ) → i < n → f (k + i) ≡ number16 m (at + 2 * i))
     → joined (eachFrom (λ (i : ℕ). bytes16 (f i)) k n) ≡ bytesFrom m at (2 * n)
 numbers-given m bytes f zero k at h = refl
@@ -49,7 +49,7 @@ playlist-given m bytes at =
     numbers-given m bytes (λ (entry : ℕ). entryIn m at entry .pattern) (songLength m at) 0 (at + 46)
     (λ i h. simp (lt-ltb (0 + i) (songLength m at) (omega arith)) (ap (λ (k : ℕ). songEntry m at k) (omega arith)))
 
--- Lists that are the same, one behind the other.
+-- Equal lists, appended in the same order.
 pub same-joint : {a b c d e f g a′ b′ c′ d′ e′ f′ g′ : List ℕ} → a ≡ a′ → b ≡ b′ → c ≡ c′ → d ≡ d′ → e ≡ e′ → f ≡ f′ → g ≡ g′
     → a ++ (b ++ (c ++ (d ++ (e ++ (f ++ g))))) ≡ a′ ++ (b′ ++ (c′ ++ (d′ ++ (e′ ++ (f′ ++ g′)))))
 same-joint p q r s t u v = rw (p, q, r, s, t, u, v) refl

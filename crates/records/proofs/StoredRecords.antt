@@ -1,4 +1,4 @@
--- Records that stand in the module as they are shown: the bytes from a place on are the fields one behind the other.
+-- Records that are stored in the module as they are shown: the bytes from a place on are the fields one after the other.
 use Prim.Native.Nat.{ℕ, zero, suc, _+_, _*_}
 use mathlib.Core.Path.{_≡_, refl, sym, ap, _∙_}
 use mathlib.Core.List.{List, [], _∷_, _++_, map}
@@ -44,7 +44,7 @@ module _ (m : List ℕ) (bytes : Bytes m) where
       let fourth : at + 2 + 1 ≡ at + 3 = omega arith in
       rw (third, fourth) (sym (number32-stored m bytes at))
 
-  -- A number, and what stands behind it.
+  -- A number, and the bytes after it.
   pub next16 : (k at to : ℕ) → at + 2 ≡ to → bytesFrom m at (2 + k) ≡ bytes16 (number16 m at) ++ bytesFrom m to k
   next16 k at to e = bytes-split m 2 k at to e ∙ ap (λ (l : List ℕ). l ++ bytesFrom m to k) (two-bytes at)
 
@@ -71,7 +71,7 @@ module _ (m : List ℕ) (bytes : Bytes m) where
       ∙ ap (λ (v : ℕ). bytes16 v ++ bytesFrom m (at + 48) 2) (sym (stored-again (instrumentPanning m at) (number16-below m bytes (at + 46))))
       ∙ ap (λ (rest : List ℕ). bytes16 (unsigned16 (signed16 (instrumentPanning m at))) ++ rest) (two-bytes (at + 48))))))))
 
-  -- What stands before the points of an envelope.
+  -- The bytes before the points of an envelope.
   head-stored : (at : ℕ)
       → bytesFrom m at 8
       ≡ bytes16 (number16 m at)
@@ -95,7 +95,7 @@ module _ (m : List ℕ) (bytes : Bytes m) where
       (points-joined (positionShown m at (envelopeSections m at)) (valueShown m kind version at (envelopeSections m at)) 32 0)
       ∙ ap (λ (head : List ℕ). head ++ pointsFrom m kind version at 32 0) (sym (head-stored at))
 
-  -- The record of an envelope: what stands before the points, and the points.
+  -- The record of an envelope: the bytes before the points, and the points.
   pub envelope-stored : (kind : EnvelopeKind) (version at : ℕ) → recordAt m version (recordKind kind) at ≡ bytesFrom m at 8 ++ pointsFrom m kind version at 32 0
   unfolding recordAt
   envelope-stored Volume version at = envelope-joined Volume version at

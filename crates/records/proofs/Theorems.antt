@@ -1,13 +1,13 @@
--- The theorem about all records of a module by one call. In plain words, for every list of bytes:
+-- The theorem about all records of a module by one call. For every list of bytes:
 --
--- 19. The records that the call writes are just what the queries answer, number by number: what the module says of itself, as version, name,
---     INFO's numbers and the numbers of envelopes are answered; then every song, with each entry of its playlist; every instrument, from 1;
---     the rows of every pattern; every sample, from 1; every volume envelope and every panning envelope; as many of each as the queries
---     say, in the order of Q16. So of an accepted module the call answers the length of these records, and writes them to the front of the
---     output; with too little room it answers 17 with that length, and the output stays. Of a refused module it answers the refusal, and
---     the output stays.
+-- 19. The records that the call writes are exactly what the queries answer, number by number: the summary, from the answers for version,
+--     name, INFO's numbers and the numbers of envelopes; then every song, with each entry of its playlist; every instrument, from 1; the
+--     rows of every pattern; every sample, from 1; every volume envelope and every panning envelope. There are as many of each as the
+--     queries say, in the order of Q16. So for an accepted module the call answers the length of these records and writes them to the
+--     front of the output. With too little room it answers 17 with that length, and the output is unchanged. For a refused module it
+--     answers the refusal, and the output is unchanged.
 --
--- What the call answers is `allAnswer`, and what it leaves `allOutput`: those that its contract cites. `reportedRecords` has the queries' own
+-- The answer of the call is `allAnswer`, and its output is `allOutput`; its contract cites these. `reportedRecords` uses the queries' own
 -- answers and no place of a block.
 use Prim.Native.Nat.{ℕ}
 use mathlib.Core.Path.{_≡_, ap, _∙_}
@@ -26,7 +26,7 @@ use Rattle.records.specs.Records.{allRecords, allAnswer, allOutput}
 use Rattle.records.specs.Reported.{reportedRecords}
 use Rattle.records.proofs.Reporting as Reporting
 
--- 19.
+-- Theorem 19.
 pub records-reported : (m : List ℕ) → Bytes m → (l : Layout) → opened m ≡ Found l → allRecords m l ≡ reportedRecords m
 records-reported m bytes l o = Reporting.records-reported m l o bytes
 

@@ -1,4 +1,4 @@
--- A signed number as it is stored in 2 bytes: the code adds 65,536, which leaves no sign, and takes what is left after whole 65,536s.
+-- A signed number as stored in 2 bytes: the code adds 65,536, so that the sum is not negative, and takes the remainder by 65,536.
 use Prim.Native.Nat.{ℕ, suc, _+_, _-_, _%_, _<_}
 use mathlib.Core.Path.{_≡_, refl, ap, _∙_}
 use native.Mathlib.Omega.{arith}
@@ -11,7 +11,7 @@ use mir.ValLaws.{toZ-ofZ}
 use borrow.Author.Tests.{le-ltb}
 use Rattle.numbers.specs.Numbers.{unsigned16}
 
--- The number and 65,536.
+-- The number plus 65,536.
 abbrev raised : ℤ → ℕ
 raised (pos n) = n + 65536
 raised (negsuc n) = 65535 - n

@@ -1,4 +1,4 @@
--- What the writers of records leave: each writes its record to the front of an output.
+-- The output of each function that writes a record: the record is at the front of the output.
 use Prim.Native.Nat.{ℕ, _-_, _*_, _≤_}
 use mathlib.Core.Path.{_≡_, refl, sym, ap, _∙_}
 use mathlib.Core.List.{List, [], _∷_, _++_, flatten}
@@ -25,17 +25,17 @@ use Rattle.records.proofs.Ahead.{Ahead, ahead-second, ahead-last, secon
 use Rattle.records.proofs.RecordLengths.{name-length, record-length, equal-lengths}
 use Rattle.records.proofs.StoredRecords.{two-bytes, song-stored, instrument-stored, envelope-stored}
 
--- A copy of so many bytes.
+-- A copy of n bytes.
 pub stored-written : (m : List ℕ) (at n : ℕ) (out copied : List ℕ) → copied ≡ bytesFrom m at (length (take n out))
     → n ≤ length out
     → copied ++ drop n out ≡ bytesFrom m at n ++ drop n out
 stored-written m at n out copied e h = ap (λ (l : List ℕ). l ++ drop n out) (e ∙ ap (bytesFrom m at) (length-take-le n out h))
 
--- What the writer of a record answers and leaves.
+-- The length that is returned for a record, and the output afterwards.
 abbrev pub RecordWritten : List ℕ → ℕ → RecordKind → ℕ → List ℕ → List ℕ → ℕ → Type 0
 RecordWritten m version kind at out out′ r = (r ≡ length (recordAt m version kind at)) × (out′ ≡ recordAt m version kind at ++ drop r out)
 
--- The room that is asked for is there.
+-- The required room is there.
 pub room-of : (m : List ℕ) (version at : ℕ) (kind : RecordKind) {other : RecordKind} {n k : ℕ} → kind ≡ other
     → length (recordAt m version other at) ≡ n → length (recordAt m version kind at) ≤ k
     → n ≤ k
@@ -93,7 +93,7 @@ module _ (m : List ℕ) (other : EnvelopeKind) (version at : ℕ) where
       let all : to ≡ 128 = done .0 ∙ points-size in
       done .1 ∙ ap (λ (k : ℕ). pointsFrom m other version at 32 0 ++ drop k out₀) all
 
--- An envelope's record: what stands before the points by a copy, and the points.
+-- An envelope's record: the bytes before the points by a copy, and the points.
 module _ (m : List ℕ) (bytes : Bytes m) (other : EnvelopeKind) (version at : ℕ) (out copied mid : List ℕ) where
   abbrev headed : List ℕ
   headed = copied ++ drop 8 out
@@ -109,7 +109,7 @@ module _ (m : List ℕ) (bytes : Bytes m) (other : EnvelopeKind) (version at : �
       let fits : length (bytesFrom m at 8 ++ points) ≤ length out = omega (arith, size, room) in
       ahead-last fits headed points a mid (size, is) .1 ∙ ap (λ (l : List ℕ). l ++ drop 136 out) (sym (envelope-stored m bytes other version at))
 
--- The numbers of INFO and how many envelopes there are: seven numbers, one after the other.
+-- The numbers of INFO and the numbers of envelopes: seven numbers, one after the other.
 module _ (m : List ℕ) (l : Layout) where
   abbrev numbers : List ℕ
   numbers = infoRecord (shownInfo l) ++ countsRecord m l
@@ -130,7 +130,7 @@ module _ (m : List ℕ) (l : Layout) where
     unfolding flatten
     counts-written room = put-each seven 46 out room ∙ rw (v, p) refl
 
--- What a module says of itself: version and revision by two stores, the name by a copy, and the numbers.
+-- The summary of a module: version and revision by two stores, the name by a copy, and the numbers.
 module _ (m : List ℕ) (l : Layout) (out name : List ℕ) (room : 60 ≤ length out) (same : name ≡ nameOf m l) where
   abbrev front : List ℕ
   front = l .version ∷ l .revision ∷ []

@@ -1,4 +1,5 @@
--- FORMAT.md, Q16: all records of a module, one behind the other. Each tells just what its own query answers; all numbers are big-endian.
+-- FORMAT.md, Q16: all records of a module, one after the other. Each contains exactly what its own query answers; all numbers are
+-- big-endian.
 use Prim.Native.Nat.{ℕ}
 use mathlib.Core.List.{List, [], _∷_, _++_, map}
 use lib.IntN.{ℤ}
@@ -34,11 +35,11 @@ versionRecord a = a .version ∷ a .revision ∷ []
 abbrev pub infoRecord : InfoAnswer → List ℕ
 infoRecord a = bytes16 (a .instruments) ++ (bytes16 (a .samples) ++ (bytes16 (a .songs) ++ (bytes16 (a .patterns) ++ bytes16 (a .tracks))))
 
--- Q9: how many volume envelopes and panning envelopes there are, 2 bytes each.
+-- Q9: the numbers of volume envelopes and of panning envelopes, 2 bytes each.
 abbrev pub countsRecord : List ℕ → Layout → List ℕ
 countsRecord m l = bytes16 (envelopeCount m (l .spans .venv)) ++ bytes16 (envelopeCount m (l .spans .penv))
 
--- Q4 to Q6, Q9: what a module says of itself, 60 bytes; the name is 44 of them.
+-- Q4 to Q6, Q9: the summary of a module, 60 bytes; the name is 44 of them.
 abbrev pub summaryRecord : List ℕ → Layout → List ℕ
 summaryRecord m l = versionRecord (shownVersion l) ++ (nameOf m l ++ (infoRecord (shownInfo l) ++ countsRecord m l))
 
@@ -74,7 +75,7 @@ envelopeRecord a =
     bytes16 (a .instrument)
     ++ (a .flags ∷ a .sections ∷ a .«first_sustain» ∷ a .«loop_first» ∷ a .«loop_last» ∷ a .«second_sustain» ∷ pointRecords (a .positions) (a .values))
 
--- The record of what stands at a place; of a pattern it is its rows, 2 bytes (Q10).
+-- The record of the block at a place; for a pattern it is its rows, 2 bytes (Q10).
 unfoldable pub recordAt : List ℕ → ℕ → RecordKind → ℕ → List ℕ
 recordAt m version Song at = songRecord (shownSong m at) (playlistBytes m at)
 recordAt m version Instrument at = instrumentRecord (shownInstrument m at)
@@ -83,11 +84,11 @@ recordAt m version Sample at = sampleRecord (shownSample m at)
 recordAt m version VolumeEnvelope at = envelopeRecord (shownEnvelope m Volume version at)
 recordAt m version PanningEnvelope at = envelopeRecord (shownEnvelope m Panning version at)
 
--- The records of all songs, of all instruments, and so on, in the order of their blocks (B1).
+-- The records of all blocks of a record kind, in the order of the blocks (B1).
 abbrev pub recordsOf : List ℕ → Layout → RecordKind → List ℕ
 recordsOf m l kind = joined (map (recordAt m (l .version) kind) (blocksOf m (blockKindOf kind) (chunkOf l kind) (countOf m l kind)))
 
--- Q16: all of them.
+-- Q16: all records.
 abbrev pub allRecords : List ℕ → Layout → List ℕ
 allRecords m l =
     summaryRecord m l
@@ -98,7 +99,7 @@ allRecords m l =
     ++ (recordsOf m l VolumeEnvelope
     ++ recordsOf m l PanningEnvelope)))))
 
--- Q16: the module's own refusal, then 17, else the length of the records; and what the output then holds (F8).
+-- Q16: the module's own refusal, then 17, else the length of the records; and the output afterwards (F8).
 abbrev pub allAnswer : List ℕ → ℕ → LengthAnswer
 allAnswer m room = answerOpened (allRecords m) room (opened m)
 

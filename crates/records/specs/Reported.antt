@@ -1,5 +1,5 @@
--- FORMAT.md, Q16: all records of a module, told by nothing but what its queries answer, by the numbers of Q2. Where the records stand in the
--- module is not spoken of.
+-- FORMAT.md, Q16: all records of a module, defined only by the answers of its queries, with the numbers of Q2. No place in the module is
+-- used.
 use Prim.Native.Nat.{ℕ}
 use mathlib.Core.List.{List, _++_}
 use Rattle.vocabulary.specs.Lists.{joined}
@@ -14,7 +14,7 @@ use Rattle.summary.specs.Shown.{versionAnswer, nameAnswer, infoAnswer}
 use Rattle.instruments.specs.Shown.{instrumentAnswer}
 use Rattle.records.specs.Records.{versionRecord, infoRecord, songRecord, instrumentRecord, sampleRecord, envelopeRecord}
 
--- Q4 to Q6, Q9: what a module says of itself.
+-- Q4 to Q6, Q9: the summary of a module.
 abbrev pub reportedSummary : List ℕ → List ℕ
 reportedSummary m =
     versionRecord (versionAnswer m)
@@ -43,7 +43,7 @@ reportedSample m sample = sampleRecord (sampleAnswer m sample)
 abbrev pub reportedEnvelope : List ℕ → EnvelopeKind → ℕ → List ℕ
 reportedEnvelope m kind envelope = envelopeRecord (envelopeAnswer m kind envelope)
 
--- Q16: all of them. Q2: instruments and samples are counted from 1, all else from 0.
+-- Q16: all records. Q2: instruments and samples are counted from 1, all else from 0.
 abbrev pub reportedRecords : List ℕ → List ℕ
 reportedRecords m =
     reportedSummary m

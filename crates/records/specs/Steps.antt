@@ -1,5 +1,5 @@
--- Definitions that private functions cite: the points of an envelope one by one, the records of some blocks, and what has to hold of
--- an envelope so that 2 bytes hold each value.
+-- Definitions that the contracts of private functions cite: the points of an envelope one by one, the records of some blocks, and the
+-- condition on an envelope under which each value fits 2 bytes.
 use Prim.Native.Nat.{ℕ, _≤_}
 use mathlib.Core.Path.{_≡_}
 use mathlib.Core.List.{List, _++_, map}
@@ -21,24 +21,24 @@ abbrev pub pointRecord : List ℕ → EnvelopeKind → ℕ → ℕ → ℕ → L
 pointRecord m kind version at point =
     bytes16 (positionShown m at (envelopeSections m at) point) ++ bytes16 (unsigned16 (valueShown m kind version at (envelopeSections m at) point))
 
--- So many points of it from one on.
+-- The records of n points of the envelope, from one on.
 abbrev pub pointsFrom : List ℕ → EnvelopeKind → ℕ → ℕ → ℕ → ℕ → List ℕ
 pointsFrom m kind version at n point = joined (map (pointRecord m kind version at) (placesFrom (λ point. 1) n point))
 
--- The records of so many blocks from a place on.
+-- The records of n blocks from a place on.
 abbrev pub recordsFrom : List ℕ → BlockKind → RecordKind → ℕ → ℕ → ℕ → List ℕ
 recordsFrom m blocks kind version n at = joined (map (recordAt m version kind) (placesFrom (sizeOf blocks m) n at))
 
--- The records of three kinds, one kind behind the other.
+-- The records of three kinds, one kind after the other.
 abbrev pub recordsOfThree : List ℕ → Layout → RecordKind → RecordKind → RecordKind → List ℕ
 recordsOfThree m l a b c = recordsOf m l a ++ (recordsOf m l b ++ recordsOf m l c)
 
--- V5: a value of panning in version 2 is at most 64. Nothing is asked of any other.
+-- V5: a panning value in version 2 is at most 64. There is no condition on other values.
 abbrev pub ValueScales : EnvelopeKind → ℕ → ℕ → Type 0
 ValueScales Volume version v = Unit {0}
 ValueScales Panning version v = version ≡ 2 → v ≤ 64
 
--- The values in use of the panning envelope at a place are so. Nothing is asked of anything else.
+-- This holds for the values in use of the panning envelope at a place. There is no condition on other record kinds.
 abbrev pub ValuesScale : List ℕ → ℕ → RecordKind → ℕ → Type 0
 ValuesScale m version Song at = Unit {0}
 ValuesScale m version Instrument at = Unit {0}

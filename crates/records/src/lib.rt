@@ -1,5 +1,5 @@
-// All records of a module by one call: one check of the module, and one pass over its blocks. Each record tells just what its own query
-// answers.
+// All records of a module by one call: one check of the module, and one pass over its blocks. Each record contains exactly what its own
+// query answers.
 use blocks::BlockKind;
 use blocks::RecordKind;
 use blocks::block_at;
@@ -44,7 +44,7 @@ ghost use Rattle.summary.specs.Shown.{shownInfo};
 ghost use Rattle.records.specs.Records.{infoRecord, countsRecord, summaryRecord, sampleRecord, recordAt, recordsOf, allRecords, allAnswer, allOutput};
 ghost use Rattle.records.specs.Steps.{pointRecord, pointsFrom, recordsFrom, recordsOfThree, ValuesScale};
 
-// Writes the numbers of INFO and how many volume and panning envelopes there are: 14 bytes from 46 on.
+// Writes the numbers of INFO and the numbers of volume and panning envelopes: 14 bytes from 46 on.
 fn write_counts(m: &[u8], l: Layout, out: &mut [u8])
     requires { ⌜ 60 ≤ length (now out) ⌝ }
     ensures { λ r. ⌜ now (out .exit) ≡ putAt (infoRecord (shownInfo l) ++ countsRecord (now (m .entry)) l) 46 (now (out .entry)) ⌝ }
@@ -61,7 +61,7 @@ fn write_counts(m: &[u8], l: Layout, out: &mut [u8])
     put16(panning, 58, out);
 }
 
-// Writes what a module says of itself to the front of an output: 60 bytes.
+// Writes the summary of a module to the front of an output: 60 bytes.
 fn write_summary(m: &[u8], l: Layout, out: &mut [u8])
     requires { ⌜ 60 ≤ length (now out) ⌝ }
     ensures { λ r. ⌜ now (out .exit) ≡ summaryRecord (now (m .entry)) l ++ drop 60 (now (out .entry)) ⌝ }
@@ -73,7 +73,7 @@ fn write_summary(m: &[u8], l: Layout, out: &mut [u8])
     write_counts(m, l, out);
 }
 
-// Writes so many bytes of the module to the front of an output, and answers how many.
+// Writes n bytes of the module, from a place on, to the front of an output, and returns n.
 fn write_stored(m: &[u8], at: usize, n: usize, out: &mut [u8]) -> usize
     requires { ⌜ n ≤ length (now out) ⌝ }
     ensures { λ r. ⌜ (r ≡ n) × (now (out .exit) ≡ bytesFrom (now (m .entry)) at n ++ drop n (now (out .entry))) ⌝ }
@@ -82,7 +82,7 @@ fn write_stored(m: &[u8], at: usize, n: usize, out: &mut [u8]) -> usize
     n
 }
 
-// Writes the record of the sample at a place to the front of an output, and answers its length.
+// Writes the record of the sample at a place to the front of an output, and returns its length.
 fn write_sample(m: &[u8], at: usize, out: &mut [u8]) -> usize
     requires { ⌜ 6 ≤ length (now out) ⌝ }
     ensures { λ r. ⌜ (r ≡ 6) × (now (out .exit) ≡ sampleRecord (shownSample (now (m .entry)) at) ++ drop 6 (now (out .entry))) ⌝ }
@@ -93,7 +93,7 @@ fn write_sample(m: &[u8], at: usize, out: &mut [u8]) -> usize
     6
 }
 
-// A signed number as it is stored in 2 bytes: 65,536 more where it is negative.
+// A signed number as stored in 2 bytes: 65,536 is added if it is negative.
 fn unsigned(v: i32) -> u16
     requires { ⌜ mag v < 65536 ⌝ }
     ensures { λ r. ⌜ r ≡ unsigned16 v ⌝ }
@@ -137,7 +137,7 @@ fn write_points(m: &[u8], kind: EnvelopeKind, version: u8, at: usize, out: &mut 
     }
 }
 
-// Writes the record of the envelope at a place to the front of an output, and answers its length.
+// Writes the record of the envelope at a place to the front of an output, and returns its length.
 fn write_envelope(m: &[u8], kind: EnvelopeKind, version: u8, at: usize, out: &mut [u8]) -> usize
     requires { ⌜ ValuesScale (now m) version (recordKind kind) at × (136 ≤ length (now out)) ⌝ }
     ensures { λ r. ⌜ (r ≡ 136) × (now (out .exit) ≡ recordAt (now (m .entry)) version (recordKind kind) at ++ drop 136 (now (out .entry))) ⌝ }
@@ -147,7 +147,7 @@ fn write_envelope(m: &[u8], kind: EnvelopeKind, version: u8, at: usize, out: &mu
     136
 }
 
-// Writes the record of what stands at a place to the front of an output, and answers its length.
+// Writes the record of the block at a place to the front of an output, and returns its length.
 fn write_record(m: &[u8], kind: RecordKind, version: u8, at: usize, out: &mut [u8]) -> usize
     requires { ⌜ ValuesScale (now m) version kind at × (length (recordAt (now m) version kind at) ≤ length (now out)) ⌝ }
     ensures { λ r. ⌜ (r ≡ length (recordAt (now (m .entry)) version kind at))
@@ -163,7 +163,7 @@ fn write_record(m: &[u8], kind: RecordKind, version: u8, at: usize, out: &mut [u
     }
 }
 
-// Writes the records of so many blocks from a place on to the front of an output, and answers their length.
+// Writes the records of `count` blocks from a place on to the front of an output, and returns their length.
 fn write_blocks(
     m: &[u8],
     blocks: BlockKind,
@@ -190,7 +190,7 @@ fn write_blocks(
     to
 }
 
-// Writes the records of all songs, of all instruments, and so on, to the front of an output, and answers their length.
+// Writes the records of all blocks of a record kind to the front of an output, and returns their length.
 fn write_records(m: &[u8], l: Layout, kind: RecordKind, out: &mut [u8]) -> usize
     requires { ⌜ (opened (now m) ≡ Found l) × (length (recordsOf (now m) l kind) ≤ length (now out)) ⌝ }
     ensures { λ r. ⌜ (r ≡ length (recordsOf (now (m .entry)) l kind)) × (now (out .exit) ≡ recordsOf (now (m .entry)) l kind ++ drop r (now (out .entry))) ⌝ }
@@ -201,7 +201,7 @@ fn write_records(m: &[u8], l: Layout, kind: RecordKind, out: &mut [u8]) -> usize
     write_blocks(m, blocks, kind, l.version, start, count, out)
 }
 
-// How long the records of all songs, of all instruments, and so on, are. Those of songs are as long as their chunk's data.
+// The length of the records of all blocks of a record kind. Those of songs are as long as their chunk's data.
 fn records_length(m: &[u8], l: Layout, kind: RecordKind) -> usize
     requires { ⌜ opened (now m) ≡ Found l ⌝ }
     ensures { λ r. ⌜ (r ≡ length (recordsOf (now (m .entry)) l kind)) × (r < 0x100000000) ⌝ }
@@ -217,7 +217,7 @@ fn records_length(m: &[u8], l: Layout, kind: RecordKind) -> usize
     }
 }
 
-// How long all records are.
+// The length of all records.
 fn all_length(m: &[u8], l: Layout) -> usize
     requires { ⌜ opened (now m) ≡ Found l ⌝ }
     ensures { λ r. ⌜ r ≡ length (allRecords (now (m .entry)) l) ⌝ }
@@ -231,7 +231,7 @@ fn all_length(m: &[u8], l: Layout) -> usize
     60 + songs + instruments + patterns + samples + volume + panning
 }
 
-// Writes the records of three kinds to the front of an output, one kind behind the other, and answers their length.
+// Writes the records of three kinds to the front of an output, one kind after the other, and returns their length.
 fn write_three(
     m: &[u8],
     l: Layout,
@@ -249,7 +249,7 @@ fn write_three(
     second + write_records(m, l, c, &mut out[second..])
 }
 
-// Writes all records to the front of an output that has room for them, and answers their length.
+// Writes all records to the front of an output that has room for them, and returns their length.
 fn write_all(m: &[u8], l: Layout, out: &mut [u8]) -> usize
     requires { ⌜ (opened (now m) ≡ Found l) × (length (allRecords (now m) l) ≤ length (now out)) ⌝ }
     ensures { λ r. ⌜ (r ≡ length (allRecords (now (m .entry)) l)) × (now (out .exit) ≡ allRecords (now (m .entry)) l ++ drop r (now (out .entry))) ⌝ }
@@ -275,7 +275,7 @@ fn write_all(m: &[u8], l: Layout, out: &mut [u8]) -> usize
         )
 }
 
-// Writes all records of a module that is accepted: 17.
+// Writes all records of an accepted module. The only refusal is 17.
 fn all_opened(m: &[u8], l: Layout, out: &mut [u8]) -> LengthAnswer
     requires { ⌜ opened (now m) ≡ Found l ⌝ }
     ensures { λ r. ⌜ (r ≡ answerOpened (allRecords (now (m .entry))) (length (now (out .entry))) (Found l))
@@ -288,7 +288,7 @@ fn all_opened(m: &[u8], l: Layout, out: &mut [u8]) -> LengthAnswer
     written(write_all(m, l, out))
 }
 
-// Writes all records of a module: its own refusal, then 17.
+// Writes all records of a module. The refusals are the module's own, then 17.
 pub fn all(m: &[u8], out: &mut [u8]) -> LengthAnswer
     ensures { λ r. ⌜ (r ≡ allAnswer (now (m .entry)) (length (now (out .entry)))) × (now (out .exit) ≡ allOutput (now (m .entry)) (now (out .entry))) ⌝ }
 {
