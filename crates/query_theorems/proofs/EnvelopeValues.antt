@@ -30,7 +30,7 @@ use Rattle.envelopes.specs.declared.EnvelopeKind.the-variants.{Volume, Panning}
 use Rattle.query_theorems.specs.Queries.{valueAt, Between}
 use Rattle.query_theorems.proofs.FoundBlocks.{found-numbered, found-opened}
 
--- What stands in a list that a function fills, and in a list of one value.
+-- The element of a list that a function fills, and of a list of one value.
 each-at : {A : Type 0} (f : ℕ → A) (other : A) (n k i : ℕ) → i < n → getD (eachFrom f k n) i other ≡ f (k + i)
 each-at f other zero k i h = absurd (omega arith)
 each-at f other (suc n) k zero h = ap f (omega arith)
@@ -66,7 +66,7 @@ panning-holds m envelope b e =
           (envelopeCount m (l .spans .penv)) (firstBlock Envelope (l .spans .penv)) .0 rules (envelope - 0) (s .counted)),
     )
 
--- What is shown for a point of an envelope that is found.
+-- The value that is shown for a point of an envelope that is found.
 point-shown : (m : List ℕ) (kind : EnvelopeKind) (envelope : ℕ) (b : Block) → found m (recordKind kind) envelope ≡ At b
     → (point : ℕ) → point < 32
     → valueAt m kind envelope point ≡ valueShown m kind (b .version) (b .at) (envelopeSections m (b .at)) point
@@ -75,7 +75,7 @@ point-shown m kind envelope b e point h =
     ∙ each-at (valueShown m kind (b .version) (b .at) (envelopeSections m (b .at))) (pos 0) 32 0 point h
     ∙ ap (valueShown m kind (b .version) (b .at) (envelopeSections m (b .at))) (omega arith)
 
--- What holds of 0 and of each value in use holds of each value that is shown.
+-- What holds for 0 and for each value in use holds for each value that is shown.
 each-value : (P : ℤ → Type 0) (m : List ℕ) (kind : EnvelopeKind) (envelope : ℕ) → P (pos 0)
     → ((b : Block) → found m (recordKind kind) envelope ≡ At b → (point : ℕ) → point ≤ envelopeSections m (b .at)
     → P (valueOf kind (b .version) (envelopeValue m (b .at) point))) → (point : ℕ)
@@ -100,7 +100,7 @@ each-value P m kind envelope none each point = go (found m (recordKind kind) env
     go (At b) e = within b e (ltb point 32) refl
     go (Refused r) e = subst P (sym (ap (λ (f : Found). getD (envelopeIf m kind f .values) point (pos 0)) e ∙ same-at (pos 0) 32 point)) none
 
--- The ranges.
+-- The ranges of the shown values.
 zero-panning : Between (negsuc 127) (pos 128) (pos 0)
 zero-panning = (record { le = tt }, record { le = tt })
 
@@ -143,7 +143,7 @@ panning-values m envelope = each-value (Between (negsuc 127) (pos 128)) m Pannin
         let (instruments, hold) = panning-holds m envelope b e in
         panning-between (b .version) (envelopeValue m (b .at) point) (value-fits m instruments (eqb (b .version) 3) (b .at) hold point h)
 
--- Version 2.
+-- Version 2: the scaled panning values.
 pub panning-scaled : (m : List ℕ) (envelope : ℕ) (b : Block) → found m PanningEnvelope envelope ≡ At b → b .version ≡ 2
     → (point : ℕ) → point ≤ envelopeSections m (b .at)
     → (envelopeValue m (b .at) point ≤ 64) × (valueAt m Panning envelope point ≡ pos (4 * envelopeValue m (b .at) point) -ℤ pos 128)

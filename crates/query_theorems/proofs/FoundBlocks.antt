@@ -1,6 +1,6 @@
--- The blocks that queries find (theorems 13 and 14). A query finds a block only in a module that is accepted. There the blocks of each
--- chunk fill it, so each lies in the chunk's data, and the chunk in the module; each begins where the one before it ends, and the last
--- ends where the data do.
+-- The blocks that queries find (theorems 13 and 14). A query finds a block only in an accepted module. There the blocks of each chunk fill
+-- it, so each lies in the chunk's data, and the chunk in the module; each begins where the one before it ends, and the last ends where the
+-- data end.
 use Prim.Native.Nat.{ℕ, zero, suc, _+_, _-_, _≤_, _<_}
 use mathlib.Core.Path.{_≡_, refl, sym, ap, _∙_}
 use mathlib.Core.List.{List}
@@ -35,7 +35,7 @@ use Rattle.acceptance.proofs.WholeChunks.{WholeAt, SpansWhole}
 use Rattle.acceptance.proofs.OpenModules.{Opens, module-opens}
 use Rattle.query_theorems.specs.Queries.{identifierOf, InChunk}
 
--- The block that a query finds in a module that opens: that of a number which is counted.
+-- The block that a query finds in a module that opens is that of a number in range.
 pub record Numbered (m : List ℕ) (l : Layout) (kind : RecordKind) (number : ℕ) (b : Block) : Type 0 where
   pub first : firstOf kind ≤ number
   pub counted : number - firstOf kind < countOf m l kind
@@ -65,7 +65,7 @@ module _ (m : List ℕ) (kind : RecordKind) (number : ℕ) (b : Block) where
   pub found-numbered : (l : Layout) → opened m ≡ Opened l → found m kind number ≡ At b → Numbered m l kind number b
   found-numbered l o e = found-in m l kind number b (sym (ap (foundIf m kind number) o) ∙ e)
 
--- The chunk of a thing; of envelopes, where there is one.
+-- The chunk of a record kind is present; for envelopes, if there is at least one.
 count-there : (m : List ℕ) (span : ChunkSpan) (i : ℕ) → i < envelopeCount m span → span .present ≡ true
 count-there m span i h = go (span .present) refl
   where
@@ -82,7 +82,7 @@ module _ {m : List ℕ} {l : Layout} where
   kind-whole c VolumeEnvelope i h = c .venv (count-there m (l .spans .venv) i h)
   kind-whole c PanningEnvelope i h = c .penv (count-there m (l .spans .penv) i h)
 
--- The next block begins at most where the blocks end.
+-- Each block ends no later than the end of all blocks.
 after-next : (size : ℕ → ℕ) (n i start : ℕ) → i < n → placeAfter size i start + size (placeAfter size i start) ≤ placeAfter size n start
 after-next size zero i start h = absurd (omega arith)
 after-next size (suc n) zero start h = after-least size n (start + size start)
@@ -95,7 +95,7 @@ first-after PatternBlock span = omega arith
 first-after SampleBlock span = omega arith
 first-after EnvelopeBlock span = omega arith
 
--- A block of a kind lies at a place in a chunk's data.
+-- A block of a kind is at a place within a chunk's data.
 record BlockIn (m : List ℕ) (kind : BlockKind) (span : ChunkSpan) (at : ℕ) : Type 0 where
   behind : span .at + 8 ≤ at
   inside : at + sizeOf kind m at ≤ dataEnd span
@@ -107,7 +107,7 @@ block-in m kind span n i e h = record {
   inside = omega (arith, after-next (sizeOf kind m) n i (firstBlock kind span) h, e);
 }
 
--- 13.
+-- Theorem 13.
 pub block-in-chunk : (m : List ℕ) (kind : RecordKind) (number : ℕ) (b : Block) → found m kind number ≡ At b → InChunk m kind (b .at)
 block-in-chunk m kind number b e = in-layout (found-opened m kind number b e .0) (found-opened m kind number b e .1)
   where
@@ -131,7 +131,7 @@ block-in-chunk m kind number b e = in-layout (found-opened m kind number b e .0)
           whole = w .inside;
         })
 
--- 14.
+-- Theorem 14.
 pub first-block : (m : List ℕ) (l : Layout) (kind : RecordKind) (b : Block) → opened m ≡ Opened l
     → found m kind (firstOf kind) ≡ At b
     → b .at ≡ firstBlock (blockKindOf kind) (chunkOf l kind)
@@ -139,7 +139,7 @@ first-block m l kind b o e =
     let none : firstOf kind - firstOf kind ≡ 0 = omega arith in
     ap (λ (c : Block). c .at) (found-numbered m kind (firstOf kind) b l o e .block) ∙ ap (blockAt m (blockKindOf kind) (chunkOf l kind)) none
 
--- One block more leads to behind the last.
+-- The place after one block more is the end of the last.
 after-more : (size : ℕ → ℕ) (n at : ℕ) → placeAfter size (suc n) at ≡ placeAfter size n at + size (placeAfter size n at)
 after-more size zero at = refl
 after-more size (suc n) at = after-more size n (at + size at)

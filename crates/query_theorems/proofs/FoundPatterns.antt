@@ -1,5 +1,5 @@
 -- The patterns that queries find (theorem 16): the module is accepted, so the check accepts the stream of each pattern with its rows and
--- the module's tracks; unpacking it can lack room only, and each of its cells is there.
+-- the module's tracks. The only refusal of unpacking it is 17, and each of its cells exists.
 use Prim.Native.Nat.{ℕ, _+_, _-_, _≤_, _<_}
 use mathlib.Core.Path.{_≡_, refl, sym, ap, _∙_}
 use mathlib.Core.Logic.{_↔_}
@@ -45,7 +45,7 @@ module _ (stream : List ℕ) (rows tracks : ℕ) (accepted : checkAnswer stream 
   fits : sizesFit rows tracks ≡ true
   fits = accepted-sizes stream rows tracks accepted
 
-  -- 17 at the most.
+  -- The only refusal is 17.
   unpacked : (room : ℕ) → lengthOfUnpacking (streamAnswer stream rows tracks room) ≡ lengthIf (cellBytes rows tracks) room
   unpacked room = simp (fits, holds stream rows tracks accepted .read) (go (ltb room (cellBytes rows tracks)))
     where
@@ -72,7 +72,7 @@ module _ (stream : List ℕ) (rows tracks : ℕ) (accepted : checkAnswer stream 
     cell-lacks : cellThere rows tracks row track ≡ false → cellOf stream rows tracks row track ≡ CellRefused (refusal NotThere 0)
     cell-lacks h = simp (fits, h)
 
--- A row and a track that are there.
+-- A row and a track that exist.
 there-says : (rows tracks row track : ℕ) → (cellThere rows tracks row track ≡ true) ↔ ((row < rows) × (1 ≤ track) × (track ≤ tracks))
 there-says rows tracks row track = (
   λ h.

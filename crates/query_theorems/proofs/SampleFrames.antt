@@ -1,5 +1,5 @@
 -- The frames of a sample that a query finds (theorem 15): the block lies in the data of SMPL, and the frames are the rest of the block
--- behind its 8 bytes of flags and number; so the part of the module that is handed out is never cut.
+-- after its 8 bytes of flags and number. So the part of the module that is returned is never cut.
 use Prim.Native.Nat.{ℕ, _+_, _-_, _*_, _≤_}
 use mathlib.Core.Path.{_≡_, ap, _∙_}
 use mathlib.Core.Logic.{_⊎_, inl, inr}
@@ -28,7 +28,7 @@ use Rattle.samples.specs.Shown.{bytesPerFrame, framesIf, framesPart}
 use Rattle.query_theorems.specs.Queries.{InChunk, FramesIn}
 use Rattle.query_theorems.proofs.FoundBlocks.{found-numbered, block-in-chunk}
 
--- Flags that the check lets pass say 1, 2 or 4 bytes.
+-- Flags that the check accepts mean frames of 1, 2 or 4 bytes.
 width-of : (flags : ℕ) → not (eqb (widthOf flags) 0) ≡ true → (widthOf flags ≡ 1) ⊎ ((widthOf flags ≡ 2) ⊎ (widthOf flags ≡ 4))
 width-of flags h = go (width-says flags .0 h)
   where

@@ -25,13 +25,13 @@ use Rattle.envelopes.specs.declared.EnvelopeAnswer.{EnvelopeAnswer}
 use Rattle.envelopes.specs.declared.EnvelopeKind.the-variants.{Panning}
 use Rattle.query_theorems.proofs.SmallModules.{checked, moduleChecked, chunk, smallModule, instrument}
 
--- A row of the table: the sample's number (0: none of the register), what the definitions give, and what the register says.
+-- A row of the table: the sample's number (0 if it is not in the register), what the definitions give, and what the register says.
 pub record Sample : Type 0 where
   pub number : ℕ
   pub found : List ℕ
   pub registered : List ℕ
 
--- What the cells of a stream pack to.
+-- The packed stream of the cells of a stream.
 repacked : ℕ → ℕ → List ℕ → List ℕ
 repacked rows tracks stream = packedStream (rowsOf rows tracks (cellsRead rows tracks stream))
 
@@ -79,11 +79,11 @@ g4Cells =
 emptyCells : List ℕ
 emptyCells = replicate 24 0
 
--- One row, in track 1 a cell of six different fields.
+-- One row with a cell of six different fields in track 1.
 sixFields : List ℕ
 sixFields = 0x01 ∷ 0x3F ∷ 0x47 ∷ 0x02 ∷ 0x03 ∷ 0x04 ∷ 0x05 ∷ 0x06 ∷ 0x00 ∷ []
 
--- One row of 4 cells, all but the second non-empty, and what it packs to: tracks 1, 3 and 4, with masks $01, $22 and $3F.
+-- One row of 4 cells, all non-empty except the second, and its packed stream: tracks 1, 3 and 4, with masks $01, $22 and $3F.
 threeCells : List ℕ
 threeCells =
     0x47 ∷ 0 ∷ 0 ∷ 0 ∷ 0 ∷ 0
@@ -100,18 +100,18 @@ threePacked =
     ∷ 0x00
     ∷ []
 
--- How a note is shown, in numbers: kind, octave, semitone, the byte of an unknown one.
+-- A shown note in numbers: kind, octave, semitone, the byte of an unknown one.
 noteShown : ℕ → List ℕ
 noteShown note =
     let n = noteNumbers (shownNote note) in
     n .kind ∷ n .octave ∷ n .semitone ∷ n .unknown ∷ []
 
--- A signed number as two: 1 and its magnitude where it is negative, else 0 and itself.
+-- A signed number as two: 1 and its magnitude if it is negative, else 0 and itself.
 signNumbers : ℤ → List ℕ
 signNumbers (pos n) = 0 ∷ n ∷ []
 signNumbers (negsuc n) = 1 ∷ suc n ∷ []
 
--- The first so many values of an envelope as it is shown, after number and place of its refusal; and a frame likewise.
+-- The first n shown values of an envelope, after the number and place of its refusal; and a frame in the same form.
 valueNumbers : ℕ → EnvelopeAnswer → List ℕ
 unfolding signNumbers
 valueNumbers n a = outcomeNumbers (a .outcome) ++ joined (map signNumbers (take n (a .values)))
@@ -120,12 +120,12 @@ frameShown : FrameAnswer → List ℕ
 unfolding signNumbers
 frameShown a = outcomeNumbers (a .outcome) ++ signNumbers (a .frame)
 
--- P10: a sample of 100 frames of 8 bits, and an instrument of it with a forward loop. Its block stands at 42.
+-- P10: a sample of 100 frames of 8 bits, and an instrument with it and a forward loop. The instrument's block is at 42.
 p10 : List ℕ → List ℕ → List ℕ
 unfolding smallModule instrument
 p10 start size = smallModule 3 1 1 (instrument 1 start size 1) (0 ∷ 0 ∷ 0 ∷ 1 ∷ 0 ∷ 0 ∷ 0 ∷ 100 ∷ replicate 100 0) []
 
--- P11: version 2, and one panning envelope of three points, at 118. The value of the last point stands at 136.
+-- P11: version 2, and one panning envelope of three points, at 118. The value of the last point is at 136.
 p11 : ℕ → ℕ → ℕ → List ℕ
 unfolding smallModule instrument chunk
 p11 first second third =
@@ -184,7 +184,7 @@ samples =
     ∷ record { number = 0; found = cellsRead 1 4 threePacked; registered = threeCells }
     ∷ []
 
--- The statement.
+-- The statement: both columns are equal.
 pub samples-agree : map (λ (s : Sample). s .found) samples ≡ map (λ (s : Sample). s .registered) samples
 unfolding samples readFrom reading byteAt number16 number32 chunksFrom chunks sizeOf
 samples-agree = refl

@@ -1,5 +1,5 @@
--- Names and playlists that queries show (theorem 17): the chunk or the block lies in the module, so its bytes are shown as they stand
--- there, none of them past the end.
+-- Names and playlists that queries show (theorem 17): the chunk or the block lies in the module, so its bytes are shown as stored, and none
+-- of them is past the end.
 use Prim.Native.Nat.{ℕ, _+_, _*_, _≤_}
 use mathlib.Core.Path.{_≡_, refl, ap, _∙_}
 use mathlib.Core.List.{List}

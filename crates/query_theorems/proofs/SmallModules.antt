@@ -1,5 +1,5 @@
--- Small modules written out part by part, for the tables of `Samples` and `WorkedRefusals`; and what a check says, as numbers. Each part
--- says how many bytes it has, so that a place in a module can be counted.
+-- Small modules written out part by part, for the tables of `Samples` and `WorkedRefusals`; and what a check answers, as numbers. Each part
+-- states its number of bytes, so that places in a module can be counted.
 use Prim.Native.Nat.{ℕ, _-_, _*_, _/_, _%_}
 use mathlib.Core.List.{List, [], _∷_, _++_, map}
 use lib.ListN.{length, replicate}
@@ -9,11 +9,11 @@ use Rattle.refusal.specs.Numbers.{verdictNumbers}
 use Rattle.packed_rows.specs.Answers.{checkAnswer}
 use Rattle.module.specs.Verdicts.{moduleVerdict}
 
--- What the check of a stream says: number and place; 0 0 is accepted.
+-- The answer of the check of a stream: number and place; 0 0 is accepted.
 unfoldable pub checked : ℕ → ℕ → List ℕ → List ℕ
 checked rows tracks stream = verdictNumbers (checkAnswer stream rows tracks)
 
--- What the check of a module says.
+-- The answer of the check of a module.
 unfoldable pub moduleChecked : List ℕ → List ℕ
 moduleChecked m = verdictNumbers (moduleVerdict m)
 
@@ -21,16 +21,16 @@ moduleChecked m = verdictNumbers (moduleVerdict m)
 unfoldable pub word : ℕ → List ℕ
 word n = n / 256 ∷ n % 256 ∷ []
 
--- A chunk: 8 bytes, and its data, of which there are less than 65,536.
+-- A chunk: 8 bytes, and its data, of less than 65,536 bytes.
 unfoldable pub chunk : List ℕ → List ℕ → List ℕ
 unfolding word
 chunk letters bytes = letters ++ (0 ∷ 0 ∷ (word (length bytes) ++ bytes))
 
--- The header of a version, 8 bytes, and chunks after it: the first begins at 8.
+-- The header with a version, 8 bytes, and chunks after it: the first begins at 8.
 unfoldable pub moduleOf : ℕ → List (List ℕ) → List ℕ
 moduleOf version chunks = 0x44 ∷ 0x42 ∷ 0x4D ∷ 0x30 ∷ version ∷ 0 ∷ 0 ∷ 0 ∷ joined chunks
 
--- INFO, 18 bytes. Where it begins at 8, its instruments are at 16, samples at 18, songs at 20, patterns at 22 and tracks at 24, and the next
+-- INFO, 18 bytes. If it begins at 8, its instruments are at 16, samples at 18, songs at 20, patterns at 22 and tracks at 24, and the next
 -- chunk begins at 26.
 unfoldable pub info : ℕ → ℕ → ℕ → ℕ → ℕ → List ℕ
 unfolding chunk word
@@ -42,8 +42,8 @@ unfoldable pub song : List ℕ → List ℕ
 unfolding word
 song entries = replicate 44 0 ++ (word (length entries) ++ joined (map word entries))
 
--- An instrument, 50 bytes: name 30, sample at 30, volume at 32, rate at 34, loop start at 38 and length at 42 (4 bytes each), panning at 46,
--- flags at 48.
+-- An instrument, 50 bytes: name 30, sample at 30, volume at 32, rate at 34, loop start at 38 and length at 42 (4 bytes each), panning at
+-- 46, flags at 48.
 unfoldable pub fullInstrument : ℕ → ℕ → List ℕ → List ℕ → ℕ → ℕ → List ℕ
 unfolding word
 fullInstrument sample volume start size panning flags =
@@ -64,8 +64,8 @@ unfoldable pub sample : ℕ → ℕ → List ℕ → List ℕ
 unfolding word
 sample flags frames bytes = 0 ∷ 0 ∷ 0 ∷ flags ∷ 0 ∷ 0 ∷ (word frames ++ bytes)
 
--- An envelope, 136 bytes: instrument, flags at 2, sections at 3, S1 at 4, L1 at 5, L2 at 6, S2 at 7, and 32 points from 8 on, 4 bytes each: the
--- first value is at 10, the next at 14. All positions are 0, and so is each value after the given ones.
+-- An envelope, 136 bytes: instrument, flags at 2, sections at 3, S1 at 4, L1 at 5, L2 at 6, S2 at 7, and 32 points from 8 on, 4 bytes each:
+-- the first value is at 10, the next at 14. All positions are 0, and so is each value after the given ones.
 unfoldable pub envelope : ℕ → ℕ → ℕ → ℕ → ℕ → ℕ → ℕ → List ℕ → List ℕ
 unfolding word
 envelope instrument flags sections s1 l1 l2 s2 values =
@@ -77,8 +77,8 @@ unfoldable pub oneEnvelope : List ℕ → List ℕ → List ℕ
 unfolding chunk
 oneEnvelope letters bytes = chunk letters (0 ∷ 1 ∷ bytes)
 
--- A module of version 3 and 4 tracks: INFO at 8, SONG at 26, then INST, PATT and SMPL with these blocks, INFO's numbers being theirs; and
--- chunks after them. Where no block is in SONG, INST begins at 34; where none is in INST either, PATT begins at 42, SMPL at 50.
+-- A module of version 3 and 4 tracks: INFO at 8, SONG at 26, then INST, PATT and SMPL with these blocks, and chunks after them. INFO's
+-- numbers are those of the blocks. If SONG has no block, INST begins at 34; if INST has none either, PATT begins at 42 and SMPL at 50.
 unfoldable pub content : List (List ℕ) → List (List ℕ) → List (List ℕ) → List (List ℕ) → List (List ℕ) → List ℕ
 unfolding moduleOf info chunk
 content songs instruments patterns samples after =
@@ -90,7 +90,7 @@ content songs instruments patterns samples after =
     ∷ chunk smplLetters (joined samples)
     ∷ after)
 
--- A module of 4 tracks with no song and no pattern, by its version, its numbers of instruments and samples, and the data of INST and
+-- A module of 4 tracks with no song and no pattern, from its version, its numbers of instruments and samples, and the data of INST and
 -- SMPL; and chunks after them.
 unfoldable pub smallModule : ℕ → ℕ → ℕ → List ℕ → List ℕ → List ℕ → List ℕ
 unfolding moduleOf info chunk

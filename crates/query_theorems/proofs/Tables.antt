@@ -1,5 +1,5 @@
--- Two columns of a table that are computed: where a test finds them the same, they are. To compute the test costs a quarter of what it costs
--- to compare the columns themselves by `refl`.
+-- Two computed columns of a table: if a test finds them equal, they are equal. Computing the test costs a quarter of comparing the columns
+-- themselves by `refl`.
 use Prim.Native.Nat.{ℕ}
 use mathlib.Core.Path.{_≡_, refl}
 use mathlib.Core.List.{List, [], _∷_}
@@ -8,7 +8,7 @@ use lib.Dec.{eqb}
 use borrow.Author.Tests.{eqb-true}
 use Rattle.acceptance.proofs.Holding.{and-says}
 
--- Whether a test finds all elements of two lists the same.
+-- Whether a test finds all elements of two lists equal.
 unfoldable pub sameEach : {A : Type 0} → (A → A → Bool) → List A → List A → Bool
 sameEach same [] [] = true
 sameEach same [] (y ∷ ys) = false
@@ -24,7 +24,7 @@ same-each same each (x ∷ xs) (y ∷ ys) e =
     let parts = and-says (same x y) (sameEach same xs ys) .0 e in
     simp (each x y (parts .0), same-each same each xs ys (parts .1))
 
--- Whether two columns hold the same rows, which are lists of numbers.
+-- Whether two columns have the same rows, which are lists of numbers.
 abbrev pub sameRows : List (List ℕ) → List (List ℕ) → Bool
 sameRows = sameEach (sameEach eqb)
 

@@ -1,26 +1,25 @@
--- The theorems about what queries answer, and the computed tables. In plain words:
+-- The theorems about what queries answer, and the computed tables.
 --
 -- 12. The register samples P1 to P12: what the definitions give, as numbers, is what the register says.
--- 13. For every list of numbers: where a query finds the block of a song, an instrument, a pattern, a sample or an envelope, the module
---     is accepted, the chunk that holds such blocks is there, with its own identifier and the length that its header says, the block
---     lies within its data, and these within the module.
--- 14. The first block of each kind stands at the beginning of its chunk's data (that of an envelope behind their count), each other
---     behind the one before it, with nothing between, and the last ends where the data do.
--- 15. The frames of a sample that is found are handed out whole: as many bytes as its frames times the bytes of a frame, which are 1, 2
---     or 4, behind the block's flags and number, and within the data of SMPL. Of a sample that is refused no byte is handed out.
--- 16. The stream of a pattern that is found is as long as its block says, never cut, and the check accepts it with the pattern's rows
---     and the module's tracks. So unpacking it never gives 16 or 15: it gives 17 with too little room, else the length of the cells. A
---     query for a cell gives 18 exactly where the pattern has no such row or track; else it shows that cell of those that the stream
---     holds.
--- 17. The 44 bytes that are shown as the name of a module that has NAME, the 44 of the name of a song that is found, its playlist, and
---     the 30 of the name of an instrument that is found are bytes of the module, none of them past its end.
--- 18. Every value that is shown of a volume envelope is 0 to 64, of a panning envelope −128 to 128, whatever the module and the point.
---     In version 2 the value that is shown for a point in use of a panning envelope is 4v − 128, with v the stored one, at most 64.
--- 24. Worked refusals: for some two hundred small inputs, written out, what the check of a module, the queries and the calls on streams give
---     is the number and the place that document 01 says. Each number from 2 to 18 is there, and for each two faults that follow one another
---     in document 01's order an input with both. And every list of more than 16,777,216 numbers gives 1 at 0, whatever else is wrong.
+-- 13. For every list of numbers: if a query finds the block of a song, an instrument, a pattern, a sample or an envelope, the module is
+--     accepted, the chunk with such blocks is present, with its own identifier and the length in its header, the block lies within its
+--     data, and these within the module.
+-- 14. The first block of each kind is at the beginning of its chunk's data (for envelopes after their count). Each other block begins where
+--     the one before it ends, and the last ends where the data end.
+-- 15. The frames of a sample that is found are returned whole: as many bytes as its frames times the bytes of a frame, which are 1, 2 or 4,
+--     after the block's flags and number, and within the data of SMPL. For a sample that is refused no byte is returned.
+-- 16. The stream of a pattern that is found is as long as its block says, never cut, and the check accepts it with the pattern's rows and
+--     the module's tracks. So unpacking it never gives 16 or 15: it gives 17 with too little room, else the length of the cells. A query
+--     for a cell gives 18 exactly if the pattern has no such row or track; else it shows that cell of the stream's cells.
+-- 17. The 44 bytes that are shown as the name of a module with NAME, the 44 of the name of a song that is found, its playlist, and the 30
+--     of the name of an instrument that is found are bytes of the module, and none of them is past its end.
+-- 18. Every shown value of a volume envelope is 0 to 64, and of a panning envelope −128 to 128, for every module and every point. In
+--     version 2 the value that is shown for a point in use of a panning envelope is 4v − 128, with v the stored one, at most 64.
+-- 24. Worked refusals: for some two hundred small inputs, written out, the answers of the check of a module, the queries and the calls on
+--     streams are the number and the place that document 01 says. Each number from 2 to 18 occurs, and for each two consecutive faults in
+--     document 01's order there is an input with both. Every list of more than 16,777,216 numbers gives 1 at 0, whatever else is wrong.
 --
--- The check is `moduleVerdict`, which the contract cites; a query finds by `found`; and what a query shows are the answers that the
+-- The check is `moduleVerdict`, which the contract cites. A query finds a block by `found`, and what a query shows are the answers that the
 -- contracts of the queries cite.
 use Prim.Native.Nat.{ℕ, _+_, _*_, _≤_, _<_}
 use mathlib.Core.Path.{_≡_}
@@ -66,15 +65,15 @@ use Rattle.query_theorems.proofs.ShownBytes as ShownBytes
 use Rattle.query_theorems.proofs.EnvelopeValues as EnvelopeValues
 use Rattle.query_theorems.proofs.WorkedRefusals as WorkedRefusals
 
--- 12.
+-- Theorem 12.
 pub samples-agree : map (λ (s : Samples.Sample). s .found) Samples.samples ≡ map (λ (s : Samples.Sample). s .registered) Samples.samples
 samples-agree = Samples.samples-agree
 
--- 13.
+-- Theorem 13.
 pub block-in-chunk : (m : List ℕ) (kind : RecordKind) (number : ℕ) (b : Block) → found m kind number ≡ At b → InChunk m kind (b .at)
 block-in-chunk = FoundBlocks.block-in-chunk
 
--- 14.
+-- Theorem 14.
 pub first-block : (m : List ℕ) (l : Layout) (kind : RecordKind) (b : Block) → opened m ≡ Opened l
     → found m kind (firstOf kind) ≡ At b
     → b .at ≡ firstBlock (blockKindOf kind) (chunkOf l kind)
@@ -90,14 +89,14 @@ pub last-block : (m : List ℕ) (kind : RecordKind) (number : ℕ) (b : Block) �
     → b .at + sizeOf (blockKindOf kind) m (b .at) ≡ dataEnd (chunkOf l kind)
 last-block = FoundBlocks.last-block
 
--- 15.
+-- Theorem 15.
 pub frames-whole : (m : List ℕ) (sample : ℕ) (b : Block) → found m Sample sample ≡ At b → FramesIn m sample (b .at)
 frames-whole = SampleFrames.frames-in
 
 pub frames-refused : (m : List ℕ) (sample : ℕ) (r : Refusal) → found m Sample sample ≡ FindingRefused r → framesPart m sample ≡ []
 frames-refused = SampleFrames.frames-refused
 
--- 16.
+-- Theorem 16.
 module _ (m : List ℕ) (pattern : ℕ) (b : Block) (there : found m Pattern pattern ≡ At b) where
   pub packed-whole : length (packedBytes m (b .at)) ≡ patternPackedLength m (b .at)
   packed-whole = FoundPatterns.packed-whole m pattern b there
@@ -114,7 +113,7 @@ module _ (m : List ℕ) (pattern : ℕ) (b : Block) (there : found m Pattern pat
   pub cell-shown : (row track : ℕ) → HasCell m b row track → cellAnswer m pattern row track ≡ CellFound (shownCell (storedCell m b row track))
   cell-shown = FoundPatterns.cell-shown m pattern b there
 
--- 17.
+-- Theorem 17.
 pub module-name : (m : List ℕ) (l : Layout) → opened m ≡ Opened l → l .spans .name .present ≡ true → nameAnswer m .name ≡ partOf m (l .spans .name .at + 8) 44
 module-name = ShownBytes.module-name
 
@@ -128,7 +127,7 @@ pub instrument-name : (m : List ℕ) (instrument : ℕ) (b : Block) → found m 
     → instrumentAnswer m instrument .name ≡ partOf m (b .at) 30
 instrument-name = ShownBytes.instrument-name
 
--- 18.
+-- Theorem 18.
 pub volume-values : (m : List ℕ) (envelope point : ℕ) → Between (pos 0) (pos 64) (valueAt m Volume envelope point)
 volume-values = EnvelopeValues.volume-values
 
@@ -140,7 +139,7 @@ pub panning-scaled : (m : List ℕ) (envelope : ℕ) (b : Block) → found m Pan
     → (envelopeValue m (b .at) point ≤ 64) × (valueAt m Panning envelope point ≡ pos (4 * envelopeValue m (b .at) point) -ℤ pos 128)
 panning-scaled = EnvelopeValues.panning-scaled
 
--- 24.
+-- Theorem 24.
 pub refusals-agree : map (λ (w : WorkedRefusals.Worked). w .found) WorkedRefusals.worked ≡ map (λ (w : WorkedRefusals.Worked). w .said) WorkedRefusals.worked
 refusals-agree = WorkedRefusals.refusals-agree
 

@@ -1,9 +1,9 @@
--- Worked refusals (document 01, "Refusal numbers and their order"), as the rows of one table under one statement: for small inputs, what the
--- definitions give is the number and the place that document 01 says. Each number from 2 to 18 is there, and for each two faults that
--- follow one another in document 01's order an input that has both, with the refusal that comes first. Number 1 is not computed: it is a
--- law of all lists that are too long, below.
+-- Worked refusals (document 01, "Refusal numbers and their order"), as the rows of one table under one statement: for small inputs, what
+-- the definitions give is the number and the place that document 01 says. Each number from 2 to 18 occurs, and for each two consecutive
+-- faults in document 01's order there is an input with both, and the refusal is the one that comes first. Number 1 is not computed: it is
+-- a theorem about all lists that are too long, below.
 --
--- The numbers and places are counted by document 01 and by the lengths in `SmallModules`; each part of the table says where its chunks
+-- The numbers and places are counted from document 01 and from the lengths in `SmallModules`; each part of the table says where its chunks
 -- begin. 0 0 is accepted.
 use Prim.Native.Nat.{ℕ, _<_}
 use mathlib.Core.Path.{_≡_, refl}
@@ -44,7 +44,7 @@ pub record Worked : Type 0 where
 gives : List ℕ → ℕ → ℕ → Worked
 gives found number place = record { found = found; said = number ∷ place ∷ [] }
 
--- What the check of a module gives.
+-- The answer of the check of a module.
 checkGives : List ℕ → ℕ → ℕ → Worked
 unfolding gives moduleChecked
 checkGives m number place = gives (moduleChecked m) number place
@@ -67,11 +67,11 @@ headers =
     ∷ checkGives (moduleOf 4 ((0 ∷ []) ∷ [])) 3 4
     ∷ []
 
--- A chunk whose header says so many bytes (below 256), whatever follows it.
+-- A chunk whose header states this length (below 256), whatever follows it.
 chunkSaying : ℕ → List ℕ → List ℕ → List ℕ
 chunkSaying size letters bytes = letters ++ (0 ∷ 0 ∷ 0 ∷ size ∷ bytes)
 
--- Identifiers that are not covered: XXXX, and two that are not four letters: @XXX, where @ comes just before A, and XXX[, where [ comes just after Z.
+-- Identifiers that are not covered: XXXX, and two that are not four letters: @XXX, with @ just before A, and XXX[, with [ just after Z.
 other : List ℕ
 other = replicate 4 0x58
 
@@ -81,12 +81,12 @@ beforeA = 0x40 ∷ replicate 3 0x58
 afterZ : List ℕ
 afterZ = 0x58 ∷ 0x58 ∷ 0x58 ∷ 0x5B ∷ []
 
--- NAME with so many zeros: with 44 it has 52 bytes, so that after a NAME at 8 the next chunk begins at 60.
+-- NAME with `size` zeros: with 44 it has 52 bytes, so that after a NAME at 8 the next chunk begins at 60.
 name : ℕ → List ℕ
 unfolding chunk
 name size = chunk nameLetters (replicate size 0)
 
--- INFO of a module that holds nothing; at 8, so that the next chunk begins at 26.
+-- INFO of a module without records; it is at 8, so that the next chunk begins at 26.
 noneThere : List ℕ
 unfolding info
 noneThere = info 0 0 0 0 4
@@ -107,7 +107,7 @@ unfolding checkGives moduleOf chunk chunkSaying other beforeA afterZ name noneTh
 chunkFaults =
     checkGives (moduleOf 3 ((0x58 ∷ []) ∷ [])) 4 8
     ∷ checkGives (moduleOf 3 ((0x58 ∷ 0x58 ∷ 0x58 ∷ 0x58 ∷ 0 ∷ 0 ∷ 0 ∷ []) ∷ [])) 4 8
-    -- 4 (7 bytes left) before 5: no byte of them is a letter.
+    -- 4 (7 bytes left) before 5: none of them is a letter.
     ∷ checkGives (moduleOf 3 (replicate 7 0 ∷ [])) 4 8
     ∷ checkGives (moduleOf 3 (chunk beforeA [] ∷ [])) 5 8
     ∷ checkGives (moduleOf 3 (noneThere ∷ chunk afterZ [] ∷ [])) 5 26
@@ -128,7 +128,7 @@ chunkFaults =
     ∷ checkGives (twice smplLetters) 6 34
     ∷ checkGives (twice venvLetters) 6 34
     ∷ checkGives (twice penvLetters) 6 34
-    -- Other chunks may repeat: what is left is 8.
+    -- Other chunks may repeat: the only refusal is 8.
     ∷ checkGives (twice other) 8 42
     -- 6 before 9 and before 10: NAME again, of 43 bytes; INFO again, with 5 tracks.
     ∷ checkGives (moduleOf 3 (name 44 ∷ name 43 ∷ [])) 6 60
@@ -138,10 +138,10 @@ chunkFaults =
     ∷ checkGives (early instLetters) 7 8
     ∷ checkGives (early pattLetters) 7 8
     ∷ checkGives (early smplLetters) 7 8
-    -- 6 and 7 of one chunk cannot be seen together: where one of the four comes twice before INFO, the first is 7.
+    -- 6 and 7 cannot both apply to one chunk: if one of the four occurs twice before INFO, the first is refused with 7.
     ∷ checkGives (moduleOf 3 (chunk songLetters [] ∷ chunk songLetters [] ∷ [])) 7 8
     ∷ checkGives (moduleOf 3 (name 44 ∷ name 44 ∷ chunk songLetters [] ∷ [])) 6 60
-    -- 7 and 9 are of different chunks: the chunk in front comes first, be it 7 or 9.
+    -- 7 and 9 are faults of different chunks: the fault of the earlier chunk comes first, be it 7 or 9.
     ∷ checkGives (moduleOf 3 (chunk songLetters [] ∷ name 43 ∷ [])) 7 8
     ∷ checkGives (moduleOf 3 (name 43 ∷ chunk songLetters [] ∷ [])) 9 8
     -- 9: NAME of 43 and of 45 bytes; INFO of 9 bytes, at 60.
@@ -162,12 +162,13 @@ infoFaults =
     ∷ checkGives (moduleOf 3 (info 255 255 32768 1025 5 ∷ [])) 10 20
     ∷ checkGives (moduleOf 3 (info 255 255 32767 1025 5 ∷ [])) 10 22
     ∷ checkGives (moduleOf 3 (info 255 255 32767 1024 5 ∷ [])) 10 24
-    -- The fault of a chunk in front before that of a later one, though 10 is listed last: after INFO a byte is left (4), or INFO again (6).
+    -- The fault of an earlier chunk comes before that of a later one, although 10 is listed last: after INFO a byte is left (4), or INFO
+    -- again (6).
     ∷ checkGives (moduleOf 3 (info 0 0 0 0 2 ∷ (0 ∷ []) ∷ [])) 10 24
     ∷ checkGives (moduleOf 3 (info 0 0 0 0 256 ∷ info 0 0 0 0 4 ∷ [])) 10 24
     ∷ []
 
--- The module of 58 bytes that holds nothing: INFO at 8, SONG at 26, INST at 34, PATT at 42, SMPL at 50.
+-- The module of 58 bytes without records: INFO at 8, SONG at 26, INST at 34, PATT at 42, SMPL at 50.
 smallest : List ℕ
 unfolding content
 smallest = content [] [] [] [] []
@@ -191,11 +192,11 @@ missing =
     ∷ checkGives (three songLetters pattLetters smplLetters) 8 50
     ∷ checkGives (three songLetters instLetters smplLetters) 8 50
     ∷ checkGives (three songLetters instLetters pattLetters) 8 50
-    -- 8 before 11: SONG has no song, where INFO says 1.
+    -- 8 before 11: SONG has no song, and INFO says 1.
     ∷ checkGives (moduleOf 3 (info 0 0 1 0 4 ∷ chunk songLetters [] ∷ chunk instLetters [] ∷ chunk pattLetters [] ∷ [])) 8 50
     ∷ []
 
--- The chunks in the order in which the checks from 11 on do not go: INFO at 8, PENV at 26, then VENV, SMPL, PATT, INST and SONG.
+-- The chunks in the reverse order of the checks from 11 on: INFO at 8, PENV at 26, then VENV, SMPL, PATT, INST and SONG.
 reversed : List ℕ → List ℕ → List ℕ → List ℕ → List ℕ → List ℕ
 unfolding moduleOf chunk
 reversed numbers penv venv inst song =
@@ -209,13 +210,13 @@ reversed numbers penv venv inst song =
     ∷ chunk songLetters song
     ∷ [])
 
--- PENV without data at 26, VENV at 34; and where VENV has no data either, SMPL at 42, PATT at 50, INST at 58 and SONG at 66, all empty.
+-- PENV without data at 26, VENV at 34; if VENV has no data either, SMPL is at 42, PATT at 50, INST at 58 and SONG at 66, all empty.
 unfilled : ℕ → ℕ → ℕ → ℕ → List ℕ → List ℕ
 unfolding reversed info chunk
 unfilled instruments samples songs patterns venv =
     reversed (info instruments samples songs patterns 4) (chunk penvLetters []) (chunk venvLetters venv) [] []
 
--- An instrument by sample, volume, panning and flags, with no loop.
+-- An instrument with this sample, volume, panning and flags, without a loop.
 plain : ℕ → ℕ → ℕ → ℕ → List ℕ
 unfolding fullInstrument
 plain sample volume panning flags = fullInstrument sample volume (replicate 4 0) (replicate 4 0) panning flags
@@ -224,15 +225,15 @@ plain sample volume panning flags = fullInstrument sample volume (replicate 4 0)
 blockFaults : List Worked
 unfolding checkGives unfilled content plain chunk song sample
 blockFaults =
-    -- In each row the chunk and all that are listed after it do not hold what INFO says, or have no count.
+    -- In each row this chunk and all that are listed after it do not have what INFO says, or have no count.
     checkGives (unfilled 1 1 1 1 []) 11 66
     ∷ checkGives (unfilled 1 1 0 1 []) 11 58
     ∷ checkGives (unfilled 0 1 0 1 []) 11 50
     ∷ checkGives (unfilled 0 1 0 0 []) 11 42
     ∷ checkGives (unfilled 0 0 0 0 []) 11 34
-    -- VENV with the count 0 is right.
+    -- VENV with the count 0 is correct.
     ∷ checkGives (unfilled 0 0 0 0 (0 ∷ 0 ∷ [])) 11 26
-    -- A byte too many in SONG at 26 and in INST at 34; in PATT at 42 a stream of one byte, which lacks its filler.
+    -- A byte too many in SONG at 26 and in INST at 34; in PATT at 42 a stream of one byte, without its filler.
     ∷ checkGives (content ((song [] ++ (0 ∷ [])) ∷ []) [] [] [] []) 11 26
     ∷ checkGives (content [] ((plain 0 0 0 0 ++ (0 ∷ [])) ∷ []) [] [] []) 11 34
     ∷ checkGives (content [] [] ((0 ∷ 1 ∷ 0 ∷ 0 ∷ 0 ∷ 1 ∷ 0 ∷ []) ∷ []) [] []) 11 42
@@ -251,7 +252,7 @@ blockFaults =
 fieldFaults : List Worked
 unfolding checkGives content song plain pattern
 fieldFaults =
-    -- A song at 34, its entries at 80 and 82; with one pattern, pattern 0 is there and pattern 1 is not.
+    -- A song at 34, its entries at 80 and 82; with one pattern, pattern 0 exists and pattern 1 does not.
     checkGives (content (song (0 ∷ []) ∷ []) [] [] [] []) 12 80
     ∷ checkGives (content (song (0 ∷ 1 ∷ []) ∷ []) [] (pattern 0 [] ∷ []) [] []) 12 82
     ∷ checkGives (content (song (1 ∷ 1 ∷ []) ∷ []) [] (pattern 0 [] ∷ []) [] []) 12 80
@@ -265,19 +266,19 @@ fieldFaults =
     -- Panning −129 and −128.
     ∷ checkGives (content [] (plain 0 64 0xFF7F 3 ∷ []) [] [] []) 13 88
     ∷ checkGives (content [] (plain 0 64 0xFF80 3 ∷ []) [] [] []) 0 0
-    -- The second instrument is at 92, its sample at 122: by field, and not 12 before 13.
+    -- The second instrument is at 92, its sample at 122: the order is by field, and not 12 before 13.
     ∷ checkGives (content [] (plain 0 0 0 4 ∷ plain 1 0 0 0 ∷ []) [] [] []) 13 90
     ∷ checkGives (content [] (plain 0 0 0 0 ∷ plain 1 65 129 4 ∷ []) [] [] []) 12 122
     ∷ []
 
--- An envelope of this instrument with no flag and one point, of this value.
+-- An envelope of this instrument without flags and with one point, of this value.
 oneValue : ℕ → ℕ → List ℕ
 unfolding envelope
 oneValue instrument value = envelope instrument 0 0 0 0 0 0 (value ∷ [])
 
--- One instrument, one song, no pattern and no sample, reversed: PENV at 26, its envelope at 36 and its value at 46; VENV at 172, its envelope at
--- 182 and its value at 192; SMPL at 318, PATT at 326; INST at 334, the instrument at 342, its sample at 372 and its flags at 390; SONG at 392,
--- the song at 400, its entry at 446.
+-- One instrument, one song, no pattern and no sample, reversed: PENV at 26, its envelope at 36 and its value at 46; VENV at 172, its
+-- envelope at 182 and its value at 192; SMPL at 318, PATT at 326; INST at 334, the instrument at 342, its sample at 372 and its flags at
+-- 390; SONG at 392, the song at 400, its entry at 446.
 fields : List ℕ → List ℕ → List ℕ → List ℕ → List ℕ
 unfolding reversed info oneEnvelope song
 fields entries instrument venv penv =
@@ -297,8 +298,8 @@ fieldOrder =
     ∷ checkGives (fields [] (plain 0 0 0 0) (oneValue 1 64) (oneValue 1 128)) 0 0
     ∷ []
 
--- A module with one instrument and a chunk of one envelope after INFO: the chunk is at 26, the envelope at 36: instrument at 36, flags at 38,
--- sections at 39, S1 at 40, L1 at 41, L2 at 42, S2 at 43, the values of the first points at 46, 50, 54 and 58.
+-- A module with one instrument and a chunk of one envelope after INFO: the chunk is at 26, the envelope at 36: instrument at 36, flags at
+-- 38, sections at 39, S1 at 40, L1 at 41, L2 at 42, S2 at 43, the values of the first points at 46, 50, 54 and 58.
 enveloped : ℕ → List ℕ → List ℕ → List ℕ
 unfolding moduleOf info oneEnvelope chunk plain
 enveloped version letters bytes =
@@ -311,7 +312,7 @@ enveloped version letters bytes =
     ∷ chunk smplLetters []
     ∷ [])
 
--- The check of a module with this envelope of volume: instrument, flags, sections, S1, L1, L2, S2, values.
+-- The check of a module with this volume envelope: instrument, flags, sections, S1, L1, L2, S2, values.
 volumeGives : List ℕ → ℕ → ℕ → Worked
 unfolding checkGives enveloped
 volumeGives bytes number place = checkGives (enveloped 3 venvLetters bytes) number place
@@ -336,7 +337,7 @@ envelopeFaults =
     -- The points in use are sections + 1: the third is the last.
     ∷ volumeGives (envelope 1 0x0E 2 2 2 2 2 (64 ∷ 64 ∷ 65 ∷ [])) 13 54
     ∷ volumeGives (envelope 1 0x0E 2 2 2 2 2 (64 ∷ 64 ∷ 64 ∷ 65 ∷ [])) 0 0
-    -- Bits 0, 1, 2 and 3 alone: nothing, S1, L1 and L2, S2 is checked.
+    -- Bits 0, 1, 2 and 3 alone: with 0 nothing is checked, with 1 S1, with 2 L1 and L2, with 3 S2.
     ∷ volumeGives (envelope 1 1 2 3 3 3 3 []) 0 0
     ∷ volumeGives (envelope 1 2 2 3 3 3 3 []) 13 40
     ∷ volumeGives (envelope 1 4 2 3 3 3 3 []) 13 41
@@ -349,12 +350,12 @@ envelopeFaults =
     ∷ checkGives (enveloped 2 penvLetters (oneValue 1 65)) 13 46
     ∷ []
 
--- A looped instrument without a sample, by its flags.
+-- A looped instrument without a sample, with these flags.
 loopWithoutSample : ℕ → List ℕ
 unfolding instrument
 loopWithoutSample flags = instrument 0 (replicate 4 0) (0 ∷ 0 ∷ 0 ∷ 1 ∷ []) flags
 
--- PATT at 26 has a pattern that lacks its row end, at 34; INST at 40 has a looped instrument without a sample, at 48.
+-- PATT at 26 has a pattern at 34 whose row end is missing; INST at 40 has a looped instrument without a sample, at 48.
 pattFirst : List ℕ
 unfolding moduleOf info chunk pattern loopWithoutSample
 pattFirst =
@@ -367,7 +368,7 @@ pattFirst =
     ∷ [])
 
 -- 14 at the instrument's block, by instrument; then 15 at the pattern's block, by pattern. Without songs the first instrument is at 42, the
--- second at 92; without instruments too the first pattern is at 50.
+-- second at 92; without instruments as well the first pattern is at 50.
 loopAndStreamFaults : List Worked
 unfolding checkGives content loopWithoutSample pattFirst plain instrument sample pattern oneValue oneEnvelope
 loopAndStreamFaults =
@@ -384,12 +385,12 @@ loopAndStreamFaults =
     -- The first of two patterns; the second, at 56.
     ∷ checkGives (content [] [] (pattern 1 [] ∷ pattern 1 [] ∷ []) [] []) 15 50
     ∷ checkGives (content [] [] (pattern 0 [] ∷ pattern 1 [] ∷ []) [] []) 15 56
-    -- Whatever the fault's place in the stream; and a filler is no row end.
+    -- The fault may be anywhere in the stream; and a filler is not a row end.
     ∷ checkGives (content [] [] (pattern 2 (0 ∷ 5 ∷ 1 ∷ 0 ∷ []) ∷ []) [] []) 15 50
     ∷ checkGives (content [] [] (pattern 2 (0 ∷ []) ∷ []) [] []) 15 50
     ∷ []
 
--- What a query's answer gives: number and place; and a cell that is refused: each of its values is 0.
+-- The number and place of a query's answer; and for a cell that is refused, also that each of its values is 0.
 answerGives : Outcome → ℕ → ℕ → Worked
 unfolding gives
 answerGives outcome = gives (outcomeNumbers outcome)
@@ -397,7 +398,7 @@ answerGives outcome = gives (outcomeNumbers outcome)
 cellGives : CellAnswer → ℕ → ℕ → Worked
 cellGives answer number place = record { found = cellNumbers answer; said = number ∷ place ∷ replicate 9 0 }
 
--- The 42 bytes, whose own refusal is 8 at 42.
+-- The 42 bytes with the module's own refusal, 8 at 42.
 cut : List ℕ
 unfolding smallest
 cut = take 42 smallest
@@ -406,18 +407,18 @@ cut = take 42 smallest
 entryStream : List ℕ
 entryStream = 0x02 ∷ 0x03 ∷ 0x47 ∷ 0x01 ∷ 0x00 ∷ 0x00 ∷ []
 
--- An accepted module with one of each but envelopes: a song of one entry, an instrument, a pattern of 2 rows and 4 tracks, and a sample of
--- 2 frames.
+-- An accepted module with one record of each kind except envelopes: a song of one entry, an instrument, a pattern of 2 rows and 4 tracks,
+-- and a sample of 2 frames.
 oneOfEach : List ℕ
 unfolding content song plain pattern entryStream sample
 oneOfEach = content (song (0 ∷ []) ∷ []) (plain 1 0 0 0 ∷ []) (pattern 2 entryStream ∷ []) (sample 1 2 (0 ∷ 0 ∷ []) ∷ []) []
 
--- An accepted module with one envelope, of volume.
+-- An accepted module with one volume envelope.
 oneVolume : List ℕ
 unfolding enveloped oneValue
 oneVolume = enveloped 3 venvLetters (oneValue 1 0)
 
--- The module's own refusal, before 18 and 17: `cut` has nothing of what is asked for, and there is no room.
+-- The module's own refusal, before 18 and 17: `cut` has none of the requested records, and there is no room.
 ownRefusals : List Worked
 unfolding answerGives cellGives cut
 ownRefusals =
@@ -471,14 +472,14 @@ queries =
     ∷ answerGives (playlistAnswer oneOfEach 0 1 .outcome) 17 2
     ∷ answerGives (patternAnswer oneOfEach 0 47 .outcome) 17 48
     ∷ answerGives (allFramesAnswer oneOfEach 1 3 .outcome) 17 4
-    -- With just that room there is no refusal.
+    -- With exactly that room there is no refusal.
     ∷ answerGives (playlistAnswer oneOfEach 0 2 .outcome) 0 0
     ∷ answerGives (patternAnswer oneOfEach 0 48 .outcome) 0 0
     ∷ answerGives (allFramesAnswer oneOfEach 1 4 .outcome) 0 0
     ∷ []
 
--- An accepted module with 1 song, 2 instruments, 3 patterns and 4 samples. INFO is at 8, SONG with 46 bytes of data at 26, INST with 100 at 80,
--- PATT with 36 at 188 and SMPL with 40 at 232.
+-- An accepted module with 1 song, 2 instruments, 3 patterns and 4 samples. INFO is at 8, SONG with 46 bytes of data at 26, INST with 100 at
+-- 80, PATT with 36 at 188 and SMPL with 40 at 232.
 manyOfEach : List ℕ
 unfolding content song plain pattern entryStream sample
 manyOfEach =
@@ -487,7 +488,7 @@ manyOfEach =
     let s = sample 1 2 (0 ∷ 0 ∷ []) in
     content (song [] ∷ []) (i ∷ i ∷ []) (p ∷ p ∷ p ∷ []) (s ∷ s ∷ s ∷ s ∷ []) []
 
--- An outline and a block that is found, in numbers: all of an answer's values.
+-- An outline, and a block that is found, in numbers: all values of an answer.
 values : List Worked
 unfolding manyOfEach
 values =
@@ -501,7 +502,7 @@ values =
     ∷ record { found = foundNumbers (foundBlock manyOfEach Instrument 3); said = 18 ∷ 0 ∷ 0 ∷ 0 ∷ 0 ∷ [] }
     ∷ []
 
--- Number and place of what unpacking, packing and repacking answer.
+-- The number and place of the answers of unpacking, packing and repacking.
 unpacked : List ℕ → ℕ → ℕ → ℕ → List ℕ
 unpacked stream rows tracks room = take 2 (unpackingNumbers (unpackAnswer stream rows tracks room))
 
@@ -524,12 +525,12 @@ streams =
     ∷ gives (checked 1 2 broken) 16 0
     ∷ gives (checked 1 5 broken) 16 0
     ∷ gives (checked 1 256 broken) 16 0
-    -- 15 at the faulty entry: of no such track, with bit 6 in its mask, cut within its fields, cut before its mask.
+    -- 15 at the faulty entry: a track that does not exist, bit 6 set in the mask, cut within its fields, cut before its mask.
     ∷ gives (checked 2 4 (0 ∷ 5 ∷ 0 ∷ 0 ∷ [])) 15 1
     ∷ gives (checked 1 4 (1 ∷ 1 ∷ 0x47 ∷ 2 ∷ 0x41 ∷ 0x47 ∷ 0 ∷ [])) 15 3
     ∷ gives (checked 1 4 (1 ∷ 0 ∷ 2 ∷ 3 ∷ 0x47 ∷ [])) 15 2
     ∷ gives (checked 2 4 (0 ∷ 1 ∷ [])) 15 1
-    -- 15 at the first byte left over, and at the stream's length where row ends lack.
+    -- 15 at the first byte left over, and at the stream's length if row ends are missing.
     ∷ gives (checked 1 4 (1 ∷ 0 ∷ 0 ∷ 0 ∷ 5 ∷ [])) 15 3
     ∷ gives (checked 1 4 (1 ∷ 0 ∷ [])) 15 2
     -- Unpacking: 16 before 17 and before 15; 17 before 15; 15.
@@ -547,7 +548,7 @@ streams =
     ∷ gives (packed (replicate 30 1) 1 5 0) 16 0
     ∷ gives (packed [] 0 256 0) 16 0
     ∷ gives (packed [] 65536 4 0) 16 0
-    -- 17: 1 row of 4 tracks with no field zero is 33 bytes; that of `entryStream` 6.
+    -- 17: 1 row of 4 tracks without a zero field is 33 bytes; the stream of `entryStream` is 6.
     ∷ gives (packed (replicate 24 1) 1 4 32) 17 33
     ∷ gives (packed (replicate 24 1) 1 4 33) 0 0
     ∷ gives (packed (cellsRead 2 4 entryStream) 2 4 5) 17 6
@@ -584,11 +585,11 @@ worked =
     ∷ streams
     ∷ [])
 
--- The statement.
+-- The statement: both columns are equal.
 pub refusals-agree : map (λ (w : Worked). w .found) worked ≡ map (λ (w : Worked). w .said) worked
 unfolding worked sameEach readFrom reading byteAt number16 number32 chunksFrom chunks sizeOf
 refusals-agree = same-rows (map (λ (w : Worked). w .found) worked) (map (λ (w : Worked). w .said) worked) refl
 
--- Number 1.
+-- Number 1: a list that is too long.
 pub too-long : (m : List ℕ) → 16777216 < length m → moduleVerdict m ≡ Refused (record { number = 1; place = 0 })
 too-long m long = simp (lt-leb _ _ long)

@@ -1,6 +1,6 @@
--- FORMAT.md, B1 to B6 and Q9 to Q12: the terms that the theorems about queries use: where a block that a query finds lies, the frames of
--- a sample, the cells of a pattern and the values of an envelope. A thing is what a query asks for: a song, an instrument, a pattern, a
--- sample, an envelope of volume or of panning.
+-- FORMAT.md, B1 to B6 and Q9 to Q12: the terms that the theorems about queries use: the place of a block that a query finds, the frames of
+-- a sample, the cells of a pattern and the values of an envelope. A record kind is what a query requests: a song, an instrument, a pattern,
+-- a sample, a volume envelope or a panning envelope.
 use Prim.Native.Nat.{ℕ, _+_, _-_, _*_, _≤_, _<_}
 use mathlib.Core.Path.{_≡_}
 use mathlib.Core.Logic.{_⊎_}
@@ -28,7 +28,7 @@ use Rattle.samples.specs.Shown.{bytesPerFrame, framesPart}
 use Rattle.envelopes.specs.Shown.{envelopeAnswer}
 use Rattle.envelopes.specs.declared.EnvelopeKind.{EnvelopeKind}
 
--- The identifier of the chunk that holds a thing.
+-- The identifier of the chunk with the blocks of a record kind.
 abbrev pub identifierOf : RecordKind → ℕ
 identifierOf Song = songIdentifier
 identifierOf Instrument = instIdentifier
@@ -37,8 +37,8 @@ identifierOf Sample = smplIdentifier
 identifierOf VolumeEnvelope = venvIdentifier
 identifierOf PanningEnvelope = penvIdentifier
 
--- The block of a thing at a place lies within the data of its chunk. The module is accepted and has this layout; the chunk is there, with
--- its own identifier and the length that its header says; and it is whole.
+-- The block of a record kind at a place lies within the data of its chunk. The module is accepted and has this layout. The chunk is
+-- present, with its own identifier and the length in its header, and it is whole.
 pub record InChunk (m : List ℕ) (kind : RecordKind) (at : ℕ) : Type 0 where
   pub layout : Layout
   pub opens : opened m ≡ Opened layout
@@ -50,8 +50,8 @@ pub record InChunk (m : List ℕ) (kind : RecordKind) (at : ℕ) : Type 0 where
   pub inside : at + sizeOf (blockKindOf kind) m at ≤ dataEnd (chunkOf layout kind)
   pub whole : dataEnd (chunkOf layout kind) ≤ length m
 
--- The frames of a sample whose block stands at a place: as many bytes as the block says, behind its flags and its number of frames, and
--- within the data of smplIdentifier; a frame has 1, 2 or 4 bytes.
+-- The frames of a sample whose block is at a place: as many bytes as the block says, after its flags and its number of frames, and within
+-- the data of SMPL; a frame has 1, 2 or 4 bytes.
 pub record FramesIn (m : List ℕ) (sample at : ℕ) : Type 0 where
   pub chunk : InChunk m Sample at
   pub width : (bytesPerFrame m at ≡ 1) ⊎ ((bytesPerFrame m at ≡ 2) ⊎ (bytesPerFrame m at ≡ 4))
@@ -59,19 +59,19 @@ pub record FramesIn (m : List ℕ) (sample at : ℕ) : Type 0 where
   pub size : length (framesPart m sample) ≡ sampleFrames m at * bytesPerFrame m at
   pub inside : at + 8 + length (framesPart m sample) ≤ dataEnd (chunk .layout .spans .smpl)
 
--- Q10: the pattern whose block this is has this row and this track. Rows are counted from 0, tracks from 1.
+-- Q10: the pattern with this block has this row and this track. Rows are counted from 0, tracks from 1.
 abbrev pub HasCell : List ℕ → Block → ℕ → ℕ → Type 0
 HasCell m b row track = (row < number16 m (b .at)) × (1 ≤ track) × (track ≤ b .tracks)
 
--- The cell there, of the cells that the pattern's packed bytes hold (C3).
+-- The cell there, from the cells of the pattern's packed bytes (C3).
 abbrev pub storedCell : List ℕ → Block → ℕ → ℕ → List ℕ
 storedCell m b row track =
     getD (getD (rowsOf (number16 m (b .at)) (b .tracks) (cellsRead (number16 m (b .at)) (b .tracks) (packedBytes m (b .at)))) row []) (track - 1) emptyCell
 
--- Q9: the value that is shown for a point of an envelope, both counted from 0; 0 where there is no such point.
+-- Q9: the value that is shown for a point of an envelope, both counted from 0; 0 if there is no such point.
 abbrev pub valueAt : List ℕ → EnvelopeKind → ℕ → ℕ → ℤ
 valueAt m kind envelope point = getD (envelopeAnswer m kind envelope .values) point (pos 0)
 
--- A number from the one to the other.
+-- A number from `least` to `most`.
 abbrev pub Between : ℤ → ℤ → ℤ → Type 0
 Between least most z = (least ≤ℤ z) × (z ≤ℤ most)
