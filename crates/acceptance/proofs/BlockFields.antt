@@ -112,8 +112,8 @@ module _ {m block : List ℕ} {at : ℕ} (p : PartAt m at block) (s : Sized Inst
         number16-at p 48 (omega (arith, instrument-size)),
       ) Iff·rfl
 
-  -- The rules and the loop rules of an instrument hold in the module exactly if they hold for its block. The count of samples is that of
-  -- their blocks, and the frames of each sample are those of its block.
+  -- The rules and the loop rules of an instrument hold in the module exactly if they hold for its block, given that the frames of each
+  -- sample are those of its block. The count of samples is that of their blocks.
   pub instrument-holds : (chunk : ChunkSpan) (samples : List (List ℕ))
       → ((sample : ℕ) → 1 ≤ sample → sample ≤ length samples → framesOfSample m chunk sample ≡ number32 (getD samples (sample - 1) []) 4)
       → (AllHold (instrumentRules m (length samples) at) × AllHold (instrumentLoopRules m chunk at)) ↔ InstrumentRules samples block

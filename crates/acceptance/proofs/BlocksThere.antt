@@ -104,7 +104,7 @@ module _ {m : List ℕ} {l : Layout} (o : Outlined m l) where
     pub part : PartAt m at (here .block)
     pub sized : Sized (blockKindOf kind) (here .block)
 
-  -- If the blocks fill their chunks.
+  -- The blocks, if they fill their chunks.
   module _ (fill : BlocksHold m l) where
     sizes-of : (kind : RecordKind) {chunk : List ℕ} {list : List (List ℕ)} → BlocksThere kind chunk list → Every (SizeFits kind) list
     unfolding sizeOf

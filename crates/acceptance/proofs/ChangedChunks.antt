@@ -1,6 +1,7 @@
 -- Chunks that are changed one by one. A change keeps the letters of a chunk, leaves it whole, and affects only chunks with certain
--- identifiers. So a chunk is among the changed ones exactly if it was among the chunks before, the rules that depend on letters still hold,
--- and M2 to M9 hold for the changed module. If one chunk changes, the bytes and the length of the module follow from that chunk.
+-- identifiers. So a chunk that does not change is among the changed ones exactly if it is among the chunks, the rules that depend on
+-- letters still hold, and M2 to M9 hold for the changed module. If one chunk changes, the bytes and the length of the module follow from
+-- that chunk.
 use Prim.Native.Nat.{ℕ, _+_, _≤_}
 use mathlib.Core.Path.{_≡_, refl, sym, ap, subst, _∙_}
 use mathlib.Core.List.{List, [], _∷_, _++_, map, append-assoc, append-nil}

@@ -1,8 +1,8 @@
 -- The rules of a module, second of three statements: over bytes (FORMAT.md, M1 to M9, B1 to B6 and V1 to V7). It is the step between the
 -- description (the third statement, crates/format/specs) and the check (the first): by theorem 8 the check accepts a module exactly if
 -- these rules hold for its bytes. No reader is used: no walk, no step, no refusal. A module is a header followed by its chunks. A chunk
--- with blocks is its front followed by its blocks. Chunks and blocks are lists of bytes. A number in one is read at its offset: number16
--- block 44 is the 2-byte number at offset 44 of the block.
+-- with blocks is its front followed by its blocks. Chunks and blocks are lists of bytes. A number in one is read at its offset:
+-- `number16 block 44` is the 2-byte number at offset 44 of the block.
 use Prim.Native.Nat.{ℕ, _+_, _-_, _*_, _/_, _%_, _≤_, _<_}
 use mathlib.Core.Path.{_≡_}
 use mathlib.Core.Logic.{_⊎_}

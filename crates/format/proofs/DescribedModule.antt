@@ -43,7 +43,7 @@ module _ (m : List ℕ) (bytes : Bytes m) (r : Rules m) where
   abbrev content : Content (r .header) (r .chunks) (r .info) (r .song) (r .inst) (r .patt) (r .smpl)
   content = r .content
 
-  -- Header and chunks are bytes.
+  -- Header and chunks consist of bytes.
   header-bytes : Bytes (r .header)
   header-bytes = bytes-front (r .header) (joined (r .chunks)) (subst Bytes (rules .bytes) bytes)
 

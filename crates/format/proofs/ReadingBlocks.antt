@@ -1,4 +1,4 @@
--- The encoding of a block: each field is at its offset, and the length of the block.
+-- The encoding of a block: each field at its offset, and the length of the block.
 use Prim.Native.Nat.{ℕ, _+_, _*_, _<_}
 use mathlib.Core.Path.{_≡_, refl, ap, _∙_}
 use mathlib.Core.List.{List, map}

@@ -107,7 +107,7 @@ module _ (d : Description) (w : WellFormed d) where
       ∙ ap (λ (patt : List ℕ). headerBytes d ++ joined (map (rewrittenChunk patt) (map chunkBytes (d .chunks)))) (content-is l layout)
       ∙ encoded-changed d (repackedChunk tracks) (rewrittenChunk content) (λ c i. chunk-rewritten c i (in-every whole i))
 
--- Chunks of patterns change, and no others.
+-- Only chunks of patterns change.
 abbrev patternsOnly : ChunkKind → Bool
 patternsOnly k = isKind k patterns
 

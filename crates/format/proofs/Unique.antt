@@ -83,7 +83,7 @@ module _ (d e : Description) (w : WellFormed d) (v : WellFormed e) (same : encod
       each-same chunkBytes (chunk-same (v .info .tracks)) (d .chunks) (e .chunks)
       (subst (λ (i : Info). Every (Plain (i .tracks)) (d .chunks)) info-is (plain d w)) (plain e v) chunks-are
 
--- One description only.
+-- Two well-formed descriptions with the same encoding are equal.
 pub described-once : (d e : Description) → WellFormed d → WellFormed e → encoded d ≡ encoded e → d ≡ e
 described-once d e w v same =
     let byte : (k : ℕ) → getD (headerBytes d) k 0 ≡ getD (headerBytes e) k 0 = λ k. ap (λ (l : List ℕ). getD l k 0) (halves d e w v same .0) in

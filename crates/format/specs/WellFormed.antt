@@ -146,7 +146,7 @@ pub record ListsFit (info : Info) (songs : List Song) (instruments : List Instru
   pub instrumentCount : length instruments ≡ info .instruments
   pub patternCount : length patterns ≡ info .patterns
   pub sampleCount : length samples ≡ info .samples
-  -- B2 to B5, V1, V2, V6 and V7: each of them fits.
+  -- B2 to B5, V1, V2, V6 and V7: each song, instrument, pattern and sample fits.
   pub songsFit : Every (SongFits (length patterns)) songs
   pub instrumentsFit : Every (InstrumentFits samples) instruments
   pub patternsFit : Every (PatternFits (info .tracks)) patterns

@@ -128,7 +128,7 @@ chunkFaults =
     ∷ checkGives (twice smplLetters) 6 34
     ∷ checkGives (twice venvLetters) 6 34
     ∷ checkGives (twice penvLetters) 6 34
-    -- Other chunks may repeat: the only refusal is 8.
+    -- Other chunks may repeat: the refusal is 8.
     ∷ checkGives (twice other) 8 42
     -- 6 before 9 and before 10: NAME again, of 43 bytes; INFO again, with 5 tracks.
     ∷ checkGives (moduleOf 3 (name 44 ∷ name 43 ∷ [])) 6 60
@@ -138,7 +138,7 @@ chunkFaults =
     ∷ checkGives (early instLetters) 7 8
     ∷ checkGives (early pattLetters) 7 8
     ∷ checkGives (early smplLetters) 7 8
-    -- 6 and 7 cannot both apply to one chunk: if one of the four occurs twice before INFO, the first is refused with 7.
+    -- No input shows 6 and 7 of one chunk: if one of the four occurs twice before INFO, the first occurrence already gives 7.
     ∷ checkGives (moduleOf 3 (chunk songLetters [] ∷ chunk songLetters [] ∷ [])) 7 8
     ∷ checkGives (moduleOf 3 (name 44 ∷ name 44 ∷ chunk songLetters [] ∷ [])) 6 60
     -- 7 and 9 are faults of different chunks: the fault of the earlier chunk comes first, be it 7 or 9.

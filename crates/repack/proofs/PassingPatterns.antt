@@ -17,7 +17,7 @@ use Rattle.repack.specs.Repacked.{repackedBlock}
 use Rattle.repack.specs.Steps.{rewrittenBlocks, PatternsTo, PatternsIn}
 use Rattle.repack.proofs.Rewritten.{block-shorter}
 
--- The first of the remaining patterns: its stream is sound, its block ends before the end, and the others follow.
+-- The first of the remaining patterns: its stream is sound, its block ends no later than the end, and the others follow.
 pub record NextPattern (m : List ℕ) (tracks left at end : ℕ) : Type 0 where
   pub sound : streamVerdict m tracks at ≡ Accepted
   pub inside : at + sizeOf Pattern m at ≤ end

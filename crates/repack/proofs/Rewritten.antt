@@ -99,7 +99,7 @@ answered-needed needed room = go (ltb room needed)
     go true = refl
     go false = refl
 
--- What repacking the stream of a pattern leaves, from the arguments and the answer of its call.
+-- The result of repacking the stream of a pattern, from the arguments and the answer of its call.
 pub stream-done : (m : List ℕ) (tracks at : ℕ) → streamVerdict m tracks at ≡ Accepted
     → (p : Packing) (stream out out′ : List ℕ) (rows n : ℕ) → (stream ≡ packedBytes m at) × (length stream < 0x100000000)
     → rows ≡ patternRows m at → p ≡ repackStreamAnswer stream rows tracks (length out) → out′ ≡ repackStreamOutput stream rows tracks out

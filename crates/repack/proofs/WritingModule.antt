@@ -35,7 +35,7 @@ module _ (m : List ℕ) (chunk : ChunkSpan) (rewritten : List ℕ) (whole : data
   counted-length : {n : ℕ} → n ≡ length rewritten → length m - chunk .length + n ≡ length (replaced m chunk rewritten)
   counted-length size = omega (arith, replaced-length)
 
-  -- The room that the output needs, without counting and counted.
+  -- The room that the output needs: the module's own length, or the counted length.
   pub room-enough : {room : ℕ} → length rewritten ≤ chunk .length → length m ≤ room
       → (length (replaced m chunk rewritten) ≤ length m) × (room < length m → length m ≡ length (replaced m chunk rewritten))
   room-enough shorter h = (omega (arith, replaced-length), λ less. absurd (omega arith))

@@ -16,7 +16,7 @@ use Rattle.acceptance.proofs.BlockStreams.{accepted-sizes, holds}
 abbrev pub rowsHeld : ℕ → ℕ → List ℕ → List Row
 rowsHeld rows tracks stream = rowsFrom tracks (entriesRead (readStream rows tracks stream))
 
--- They are the rows of the cells as which the stream is accepted.
+-- If the stream is accepted as these cells, its rows are the rows of these cells.
 held-rows : {rows tracks : ℕ} {stream cells : List ℕ} → AcceptedAs rows tracks stream cells → rowsHeld rows tracks stream ≡ rowsOf rows tracks cells
 held-rows {tracks = tracks} a = ap (λ (r : Reading). rowsFrom tracks (entriesRead r)) (a .read) ∙ sym (accepted-rows a)
 

@@ -42,7 +42,7 @@ pub record SamePattern (tracks : ℕ) (m n : List ℕ) (at to : ℕ) : Type 0 wh
   pub cells : rowsFrom tracks (entriesRead (readStream (number16 n to) tracks (packedBytes n to)))
       ≡ rowsFrom tracks (entriesRead (readStream (number16 m at) tracks (packedBytes m at)))
 
--- What two blocks of a record kind have in common: all bytes; for a pattern only the cells, which may be packed in different ways.
+-- What two blocks of a record kind have in common: all bytes; for a pattern its rows and its cells, which may be packed in different ways.
 abbrev pub SameRecord : RecordKind → ℕ → List ℕ → List ℕ → ℕ → ℕ → Type 0
 SameRecord Song tracks m n at to = SameBlock (blockKindOf Song) m n at to
 SameRecord Instrument tracks m n at to = SameBlock (blockKindOf Instrument) m n at to

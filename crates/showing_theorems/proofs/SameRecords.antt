@@ -1,4 +1,5 @@
--- All records by one call: the number of records of each kind is the same, and for each number the records of blocks with the same content.
+-- All records by one call: the number of records of each kind is the same, and the records for each number are those of blocks with the
+-- same content.
 use Prim.Native.Nat.{ℕ, _+_}
 use mathlib.Core.Path.{_≡_, refl, sym, ap, _∙_}
 use mathlib.Core.List.{List, []}
