@@ -1,4 +1,4 @@
--- What holds of every one of a list: of the first and the rest, of two lists one after the other, of the one at a place.
+-- A property of every element of a list: for the first element and the rest, for two lists one after the other, for the element at a place.
 use Prim.Native.Nat.{ℕ, zero, suc, _<_}
 use mathlib.Core.Logic.{_↔_}
 use mathlib.Core.List.{List, [], _∷_, _++_}

@@ -1,4 +1,4 @@
--- Lists that are joined: of two lists of lists, of one list more at the end, and of lists that become no longer.
+-- Joined lists: two lists of lists, one more list at the end, and lists that a function does not lengthen.
 use Prim.Native.Nat.{_≤_}
 use mathlib.Core.Path.{_≡_, refl, sym}
 use mathlib.Core.List.{List, [], _∷_, _++_, map, append-assoc, append-nil}
@@ -10,7 +10,7 @@ pub joined-append : {A : Type 0} (xs ys : List (List A)) → joined (xs ++ ys) �
 joined-append [] ys = refl
 joined-append (x ∷ xs) ys = rw (joined-append xs ys) (sym (append-assoc x (joined xs) (joined ys)))
 
--- One list more at the end; and the same where a list is before them.
+-- One more list at the end; and the same with a list before them.
 pub joined-last : {A : Type 0} (xs : List (List A)) (x : List A) → joined (xs ++ (x ∷ [])) ≡ joined xs ++ x
 joined-last xs x = rw (joined-append xs (x ∷ []), append-nil x)
 
@@ -18,7 +18,7 @@ pub joined-next : {A : Type 0} (front : List A) (before : List (List A)) (x : Li
     → (front ++ joined before) ++ joined (x ∷ rest) ≡ (front ++ joined (before ++ (x ∷ []))) ++ joined rest
 joined-next front before x rest = rw (joined-last before x) (simp append-assoc)
 
--- Lists that become no longer.
+-- A function that lengthens no list of the list does not lengthen the joined list.
 pub joined-shorter : {A : Type 0} (g : List A → List A) {xs : List (List A)}
     → Every (λ x. length (g x) ≤ length x) xs → length (joined (map g xs)) ≤ length (joined xs)
 joined-shorter g none = omega arith

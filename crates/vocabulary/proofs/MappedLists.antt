@@ -1,5 +1,4 @@
--- Lists that a function gives one by one: of two lists one after the other, a split of such a list, what holds of every one, and two
--- functions that give the same.
+-- Mapped lists: two lists one after the other, a split of a mapped list, a property of every element, and two functions that agree.
 use Prim.Native.Nat.{ℕ}
 use mathlib.Core.Path.{_≡_, refl, sym, ap, _∙_}
 use mathlib.Core.Logic.{_↔_}
@@ -16,7 +15,7 @@ pub map-itself : {A : Type 0} (xs : List A) → map (λ (x : A). x) xs ≡ xs
 map-itself [] = refl
 map-itself (x ∷ xs) = ap (λ (l : List _). x ∷ l) (map-itself xs)
 
--- A split of what a function gives comes from a split of the list.
+-- A split of a mapped list comes from a split of the list.
 pub record MapSplit {A B : Type 0} (f : A → B) (all : List A) (before : List B) (chunk : B) (after : List B) : Type 0 where
   pub front : List A
   pub one : A
@@ -48,7 +47,7 @@ map-split {A} {B} f (x ∷ all) (b ∷ before) after chunk e =
       backIs = s .backIs;
     }
 
--- What holds of every one that a function gives.
+-- A property of every element of a mapped list.
 pub every-map : {A B : Type 0} {P : B → Type 0} (f : A → B) (xs : List A) → Every P (map f xs) ↔ Every (λ x. P (f x)) xs
 every-map f [] = (λ e. none, λ e. none)
 every-map f (x ∷ xs) = (
@@ -56,7 +55,7 @@ every-map f (x ∷ xs) = (
   λ e. also (every-first e) (every-map f xs .1 (every-rest e)),
 )
 
--- Functions that give the same of every one, and one that leaves every one as it is.
+-- Two functions that agree on every element, and a function that leaves every element unchanged.
 pub map-same : {A B : Type 0} (f g : A → B) {xs : List A} → Every (λ x. f x ≡ g x) xs → map f xs ≡ map g xs
 map-same f g none = refl
 map-same f g (also p e) = let rest = map-same f g e in λ i. p i ∷ rest i

@@ -1,4 +1,4 @@
--- FORMAT.md, M6: the identifiers of the covered chunks, as lists of their letters: N A M E and so on.
+-- FORMAT.md, M6: the identifiers of document 01's "covered" chunks, as lists of their letters: N A M E and so on.
 use Prim.Native.Nat.{ℕ}
 use mathlib.Core.List.{List, [], _∷_}
 
