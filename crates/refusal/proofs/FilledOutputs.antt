@@ -1,4 +1,4 @@
--- What calls share that fill a lent output.
+-- Laws about the answer and the output of a call that fills a lent output.
 use Prim.Native.Nat.{ℕ, _<_, _≤_}
 use mathlib.Core.Path.{_≡_, refl, sym, ap, _∙_}
 use mathlib.Core.List.{List, _++_}
@@ -11,18 +11,18 @@ use Rattle.refusal.specs.declared.Reason.the-variants.{Room}
 use Rattle.refusal.specs.declared.LengthAnswer.{LengthAnswer}
 
 module _ (needed : ℕ) (written out : List ℕ) where
-  -- 17, and the output does not change.
+  -- Too little room: 17, and the output is unchanged.
   pub lacking : length out < needed
       → (refusedLength (refusal Room needed) ≡ lengthIf needed (length out)) × (out ≡ outputIf (lengthIf needed (length out)) written out)
   lacking h = (simp (lt-ltb (length out) needed h), simp (lt-ltb (length out) needed h))
 
-  -- What is written, and after it what was there.
+  -- Enough room: the output holds what is written and then what was there before.
   pub enough : length written ≡ needed → needed ≤ length out
       → (writtenLength needed ≡ lengthIf needed (length out)) × (written ++ drop needed out ≡ outputIf (lengthIf needed (length out)) written out)
   enough e h =
       (simp (le-ltb (length out) needed h), simp (le-ltb (length out) needed h) (ap (λ (n : ℕ). written ++ drop n out) (sym e)))
 
--- The same by what is to be written.
+-- The same, by the bytes to write.
 module _ (bytes out : List ℕ) where
   pub all-lacking : (needed : ℕ) → needed ≡ length bytes → length out < needed → (answer : LengthAnswer) → answer ≡ refusedLength (refusal Room needed)
       → (answer ≡ lengthIf (length bytes) (length out)) × (out ≡ outputIf (lengthIf (length bytes) (length out)) bytes out)

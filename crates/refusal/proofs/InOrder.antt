@@ -1,4 +1,4 @@
--- Rules that are checked part by part, in their order: the verdict is that of the first part that refuses.
+-- Rules that are checked part by part, in order: the verdict is that of the first part that refuses.
 use mathlib.Core.Path.{_≡_, sym, _∙_}
 use mathlib.Core.List.{List, _++_}
 use Rattle.refusal.specs.Rules.{Rule, firstBroken}
@@ -7,7 +7,7 @@ use Rattle.refusal.specs.declared.Verdict.{Verdict}
 use Rattle.refusal.specs.declared.Verdict.the-variants.{Accepted, Refused}
 use Rattle.refusal.proofs.RuleLists.{broken-stopped, broken-passed}
 
--- What was told of the first rules, on the way to the verdict of all.
+-- The verdict of the first rules, as a step to the verdict of all rules.
 module _ (xs ys : List Rule) {reported : Verdict} (checked : reported ≡ firstBroken xs) where
   pub rules-stopped : {r : Refusal} → reported ≡ Refused r → Refused r ≡ firstBroken (xs ++ ys)
   rules-stopped e = sym (broken-stopped ys xs (sym checked ∙ e))
@@ -15,7 +15,7 @@ module _ (xs ys : List Rule) {reported : Verdict} (checked : reported ≡ firstB
   pub rules-passed : {v : Verdict} → reported ≡ Accepted → v ≡ firstBroken ys → v ≡ firstBroken (xs ++ ys)
   rules-passed e later = later ∙ sym (broken-passed ys xs (sym checked ∙ e))
 
--- Four parts, one behind the other.
+-- Four parts, one after the other.
 module _ (first second third last : List Rule) {v : Verdict} (v-is : v ≡ firstBroken first) where
   pub first-stopped : {r : Refusal} → v ≡ Refused r → Refused r ≡ firstBroken (first ++ (second ++ (third ++ last)))
   first-stopped e = rules-stopped first (second ++ (third ++ last)) v-is e

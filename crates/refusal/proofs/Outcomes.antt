@@ -1,4 +1,5 @@
--- Answers in numbers: an answer that is the right one has the right numbers; the head of an answer is the verdict's numbers.
+-- Answers in numbers: an answer that equals the expected one has the expected numbers; the first part of an answer is the verdict's
+-- numbers.
 use Prim.Native.Nat.{ℕ}
 use mathlib.Core.Path.{_≡_, refl, _∙_, ap}
 use mathlib.Core.List.{List}
@@ -18,6 +19,6 @@ module _ {A : Type 0} (numbers : A → List ℕ) {given answer : A} where
   pub is-answer : given ≡ answer → IsAnswer numbers given answer
   is-answer e = (e, ap numbers e)
 
-  -- The same with what else a contract says.
+  -- The same, with the rest of a contract.
   pub is-answer-with : {B : Type 0} → (given ≡ answer) × B → IsAnswer numbers given answer × B
   is-answer-with both = (is-answer (both .0), both .1)

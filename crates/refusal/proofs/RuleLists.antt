@@ -1,4 +1,4 @@
--- Rules in order: what the first broken rule of a list tells of its rules, and of lists one behind the other.
+-- Rules in order: what the first broken rule of a list says of its rules, and of lists one after the other.
 use Prim.Native.Nat.{ℕ}
 use mathlib.Core.Path.{_≡_, refl}
 use mathlib.Core.List.{List, [], _∷_, _++_}
@@ -9,7 +9,7 @@ use Rattle.refusal.specs.declared.Refusal.{Refusal}
 use Rattle.refusal.specs.declared.Verdict.{Verdict}
 use Rattle.refusal.specs.declared.Verdict.the-variants.{Accepted, Refused}
 
--- Each rule of a list holds.
+-- All rules of a list hold.
 abbrev pub Hold : List Rule → Type 0
 Hold [] = Unit {0}
 Hold (r ∷ rs) = (r .holds ≡ true) × Hold rs
@@ -18,14 +18,14 @@ held : (b : Bool) (v : Verdict) (r : Refusal) → cond b v (Refused r) ≡ Accep
 held true v r e = (refl, e)
 held false v r e = let z : _≡_ {A = ℕ} 0 1 = cc in absurd (omega arith)
 
--- Where no rule is broken, each holds.
+-- If no rule is broken, all rules hold.
 pub rules-held : (rs : List Rule) → firstBroken rs ≡ Accepted → Hold rs
 rules-held [] e = tt
 rules-held (r ∷ rs) e =
     let both = held (r .holds) (firstBroken rs) _ e in
     (both .0, rules-held rs (both .1))
 
--- Rules behind rules that all hold, and behind one that does not.
+-- Rules after rules that all hold, and after one that does not.
 module _ (ys : List Rule) where
   pub broken-passed : (xs : List Rule) → firstBroken xs ≡ Accepted → firstBroken (xs ++ ys) ≡ firstBroken ys
   broken-passed [] e = refl
@@ -43,7 +43,7 @@ module _ (ys : List Rule) where
       go true t later = rw t (later (rw t at e))
       go false t later = rw t (rw t at e)
 
--- A verdict, and then another.
+-- The first verdict if it is a refusal, else the second.
 abbrev pub andThen : Verdict → Verdict → Verdict
 andThen Accepted v = v
 andThen (Refused r) v = Refused r

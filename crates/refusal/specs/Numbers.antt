@@ -12,7 +12,7 @@ use Rattle.refusal.specs.declared.Outcome.{Outcome}
 use Rattle.refusal.specs.declared.Verdict.{Verdict}
 use Rattle.refusal.specs.declared.Verdict.the-variants.{Accepted, Refused}
 
--- F1: the table's numbers.
+-- F1: the number of each reason, from document 01's table.
 abbrev pub numberOf : Reason → ℕ
 numberOf TooLong = 1
 numberOf NotAModule = 2
@@ -33,11 +33,11 @@ numberOf Sizes = 16
 numberOf Room = 17
 numberOf NotThere = 18
 
--- A refusal is one number and one place.
+-- A refusal: one number and one place. The "place" of document 01's table is a byte offset, a length or 0.
 abbrev pub refusal : Reason → ℕ → Refusal
 refusal reason place = record { number = numberOf reason; place = place }
 
--- F1: the head of every answer: the refusal's number and place, 0 and 0 where there is none.
+-- F1: the first part of every answer: the refusal's number and place, 0 and 0 if there is none.
 abbrev pub noRefusal : Outcome
 noRefusal = record { number = 0; place = 0 }
 
@@ -48,8 +48,8 @@ abbrev pub outcomeOf : Verdict → Outcome
 outcomeOf Accepted = noRefusal
 outcomeOf (Refused r) = refusedOutcome r
 
--- F1: an answer in document 01's numbers: the refusal's number and place, 0 and 0 where there is none, and then its values. On a refusal
--- each of so many values is 0.
+-- F1: an answer in document 01's numbers: the refusal's number and place, 0 and 0 if there is none, and then its values. On a refusal all
+-- values are 0.
 abbrev pub outcomeNumbers : Outcome → List ℕ
 outcomeNumbers outcome = outcome .number ∷ outcome .place ∷ []
 
@@ -64,6 +64,6 @@ abbrev pub verdictNumbers : Verdict → List ℕ
 verdictNumbers Accepted = acceptedNumbers []
 verdictNumbers (Refused r) = refusedNumbers r 0
 
--- What a contract says of an answer: it is this one, and its numbers are this one's.
+-- What a contract says of an answer: it equals the answer given here, and so do its numbers.
 abbrev pub IsAnswer : {A : Type 0} → (A → List ℕ) → A → A → Type 0
 IsAnswer numbers given answer = (given ≡ answer) × (numbers given ≡ numbers answer)

@@ -7,7 +7,7 @@ use Rattle.refusal.specs.declared.Reason.{Reason}
 use Rattle.refusal.specs.declared.Verdict.{Verdict}
 use Rattle.refusal.specs.declared.Verdict.the-variants.{Accepted, Refused}
 
--- A rule: whether it holds, and the reason and the place of the refusal where it does not.
+-- A rule: whether it holds, and the reason and the place of the refusal if it does not.
 pub record Rule : Type 0 where
   pub holds : Bool
   pub reason : Reason
@@ -21,12 +21,12 @@ abbrev pub firstBroken : List Rule → Verdict
 firstBroken [] = Accepted
 firstBroken (r ∷ rs) = cond (r .holds) (firstBroken rs) (Refused (refusal (r .reason) (r .place)))
 
--- The rules of each of these places, one after the other.
+-- The rules of each of the given places, one after the other.
 abbrev pub rulesOfEach : (ℕ → List Rule) → List ℕ → List Rule
 rulesOfEach rulesAt [] = []
 rulesOfEach rulesAt (at ∷ places) = rulesAt at ++ rulesOfEach rulesAt places
 
--- Whether a verdict is no refusal.
+-- Whether a verdict is "accepted": it has no refusal.
 abbrev pub accepted : Verdict → Bool
 accepted Accepted = true
 accepted (Refused r) = false

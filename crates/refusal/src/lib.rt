@@ -1,32 +1,32 @@
-// Document 01's refusals: what each is given for, its number, the one function that makes a refusal, the one that makes the head of an
+// Document 01's refusals: the reasons, their numbers, the one function that makes a refusal, the one that makes the first part of an
 // answer, and the answer of a call that fills a lent output.
 ghost use mathlib.Core.Path.{_≡_};
 ghost use Rattle.refusal.specs.Numbers.{numberOf, refusal, outcomeOf};
 ghost use Rattle.refusal.specs.Lengths.{refusedLength, writtenLength};
 
-// What a refusal is given for, in the order of document 01's table.
+// The reason of a refusal, in the order of document 01's table.
 pub enum Reason {
     // The module has over 16,777,216 bytes.
     TooLong,
     // Under 8 bytes, or not DBM0.
     NotAModule,
-    // Version or revision.
+    // The version or the revision is out of range.
     Version,
     // A chunk's header or data is cut.
     ChunkCut,
     // An identifier is not four letters A to Z.
     Identifier,
-    // A covered chunk stands a second time.
+    // A covered chunk occurs a second time.
     Repeated,
     // SONG, INST, PATT or SMPL before INFO.
     BeforeInfo,
     // A mandatory chunk is missing.
     Missing,
-    // The length of NAME or INFO.
+    // The length of NAME or INFO is wrong.
     FixedLength,
     // A number of INFO is out of range.
     InfoRange,
-    // Blocks do not fill the chunk, or a sample's flags.
+    // Blocks do not fill the chunk, or the flags of a sample are not 1, 2 or 4.
     Blocks,
     // A playlist entry, a sample or an envelope's instrument does not exist.
     Reference,
@@ -50,13 +50,13 @@ pub struct Refusal {
     pub place: usize,
 }
 
-// What a check says.
+// The result of a check.
 pub enum Verdict {
     Accepted,
     Refused(Refusal),
 }
 
-// The head of every answer: the refusal's number and place, 0 and 0 where there is none.
+// The first part of every answer: the refusal's number and place, 0 and 0 if there is none.
 #[repr(C)]
 pub struct Outcome {
     pub number: u64,
@@ -106,7 +106,7 @@ pub fn refuse(reason: Reason, place: usize) -> Refusal
     }
 }
 
-// The head of an answer: every one is made here.
+// The first part of an answer. Every one is made here.
 pub fn outcome_of(verdict: Verdict) -> Outcome
     ensures { λ r. ⌜ r ≡ outcomeOf verdict ⌝ }
 {
@@ -132,7 +132,7 @@ pub fn refused(r: Refusal) -> LengthAnswer
     }
 }
 
-// The answer of a call that has filled so much of an output.
+// The answer of a call that has written the given number of bytes to an output.
 pub fn written(length: usize) -> LengthAnswer
     ensures { λ r. ⌜ r ≡ writtenLength length ⌝ }
 {
