@@ -1,4 +1,4 @@
--- A shown note loses nothing: its byte is the note that is stored (N2 to N4). And which note each number is, without the tests.
+-- A shown note loses nothing: its byte is the stored note (N2 to N4). And the note of each number, without the tests.
 use Prim.Native.Nat.{ℕ, _/_, _%_}
 use mathlib.Core.Path.{_≡_, refl, sym, subst, _∙_}
 use mathlib.Core.Logic.{_↔_}

@@ -7,7 +7,7 @@ use lib.ListN.{length, take, drop, replicate}
 use lib.Dec.{eqb, leb, ltb}
 use Rattle.vocabulary.specs.Lists.{joined}
 
--- C2.
+-- C2: a cell, a row, and both empty, with zeros in all fields.
 abbrev pub Cell : Type 0
 Cell = List ℕ
 
@@ -24,16 +24,16 @@ emptyRow tracks = replicate tracks emptyCell
 abbrev pub sizesFit : ℕ → ℕ → Bool
 sizesFit rows tracks = leb rows 65535 && (leb 4 tracks && (leb tracks 254 && eqb (tracks % 2) 0))
 
--- C3: how many bytes the cells of a pattern are.
+-- C3: the number of bytes of a pattern's cells.
 abbrev pub cellBytes : ℕ → ℕ → ℕ
 cellBytes rows tracks = rows * (tracks * 6)
 
--- So many blocks of one size, from the front.
+-- The first n blocks of one size.
 abbrev pub groupsOf : ℕ → ℕ → List ℕ → List (List ℕ)
 groupsOf zero size bytes = []
 groupsOf (suc n) size bytes = take size bytes ∷ groupsOf n size (drop size bytes)
 
--- C3: the cells of a row, and the rows of a pattern, off its bytes; and the bytes of rows.
+-- C3: the row that some bytes hold, the rows that they hold, and the bytes of rows.
 abbrev pub rowOf : ℕ → List ℕ → Row
 rowOf tracks bytes = groupsOf tracks 6 bytes
 
@@ -43,16 +43,16 @@ rowsOf rows tracks bytes = map (rowOf tracks) (groupsOf rows (tracks * 6) bytes)
 abbrev pub bytesOf : List Row → List ℕ
 bytesOf rows = joined (map joined rows)
 
--- The numbers of a list that are not 0, in their order.
+-- The numbers of a list that are not 0, in order.
 abbrev pub nonZeros : List ℕ → List ℕ
 nonZeros [] = []
 nonZeros (f ∷ fs) = cond (eqb f 0) (nonZeros fs) (f ∷ nonZeros fs)
 
--- C4.
+-- C4, document 01's "non-empty": at least one field of the cell is not 0.
 abbrev pub nonEmpty : Cell → Bool
 nonEmpty cell = ltb 0 (length (nonZeros cell))
 
--- How many cells of a list are not empty.
+-- The number of non-empty cells in a list.
 abbrev pub nonEmptyCells : List Cell → ℕ
 nonEmptyCells [] = 0
 nonEmptyCells (cell ∷ cells) = cond (nonEmpty cell) (suc (nonEmptyCells cells)) (nonEmptyCells cells)

@@ -1,4 +1,4 @@
-// A cell as it is shown.
+// Cells and notes as they are shown.
 ghost use mathlib.Core.Path.{_≡_};
 ghost use Rattle.cells.specs.Shown.{isPitch, shownNote, noteNumbers, shownCell};
 
@@ -10,8 +10,8 @@ pub enum Note {
     Unknown(u8),
 }
 
-// A note in numbers: its kind (0 none, 1 key off, 2 pitch, 3 unknown), octave and semitone of a pitch, and the byte of an unknown one;
-// what a kind does not have is 0.
+// A note in numbers: its kind (0 none, 1 key off, 2 pitch, 3 unknown), the octave and semitone of a pitch, the byte of an unknown note.
+// What a kind does not have is 0.
 pub struct NoteNumbers {
     pub kind: u8,
     pub octave: u8,
@@ -87,7 +87,7 @@ pub fn note_numbers(note: Note) -> NoteNumbers
     }
 }
 
-// A cell as it is shown.
+// The shown cell of six stored bytes.
 pub fn shown(cell: [u8; 6]) -> Cell
     ensures { λ r. ⌜ r ≡ shownCell cell ⌝ }
 {
