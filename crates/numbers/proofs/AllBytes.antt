@@ -1,6 +1,5 @@
--- Lists of bytes: each number is below 256. It holds of a list exactly when it holds of each of its parts: of the first byte and the rest,
--- of two lists one behind the other, of the lists that are joined; and so of what `take` and `drop` leave. A lent slice of bytes is such a
--- list.
+-- Lists of bytes: each number is below 256. A list is one exactly if each of its parts is: the first byte and the rest, two lists one after
+-- the other, lists that are joined. So are the results of `take` and `drop`. A lent slice of bytes is such a list.
 use Prim.Native.Nat.{ℕ, zero, suc, _+_, _/_, _<_}
 use mathlib.Core.Logic.{_↔_}
 use mathlib.Core.List.{List, [], _∷_, _++_}
@@ -13,12 +12,12 @@ use Rattle.vocabulary.specs.Lists.{joined, Every, none, also}
 use Rattle.vocabulary.proofs.EveryOne.{every-first, every-rest, every-append}
 use Rattle.numbers.specs.Numbers.{byteAt, Bytes, number16, number32, partOf, bytes16, bytes32}
 
--- One of them, or the 0 past the end.
+-- One of the bytes, or the 0 past the end.
 pub bytes-getD : (xs : List ℕ) (i : ℕ) → Bytes xs → getD xs i 0 < 256
 unfolding byteAt
 bytes-getD xs i h = h i
 
--- No byte, and one byte more.
+-- No byte, and one more byte.
 pub bytes-nil : Bytes []
 unfolding byteAt
 bytes-nil i = omega arith
@@ -37,7 +36,7 @@ module _ (b : ℕ) (bs : List ℕ) where
   unfolding byteAt
   bytes-rest h i = h (suc i)
 
--- The same, of every one of the list.
+-- The same, as a property of every element.
 pub bytes-every : (xs : List ℕ) → Bytes xs ↔ Every (λ b. b < 256) xs
 bytes-every [] = (λ h. none, λ e. bytes-nil)
 bytes-every (b ∷ bs) = (
@@ -45,7 +44,7 @@ bytes-every (b ∷ bs) = (
   λ e. bytes-cons b bs (every-first e) (bytes-every bs .1 (every-rest e)),
 )
 
--- Two lists, one behind the other.
+-- Two lists, one after the other.
 module _ (xs ys : List ℕ) where
   pub bytes-append : Bytes xs → Bytes ys → Bytes (xs ++ ys)
   bytes-append h k = bytes-every (xs ++ ys) .1 (every-append xs ys .1 (bytes-every xs .0 h, bytes-every ys .0 k))
@@ -56,7 +55,7 @@ module _ (xs ys : List ℕ) where
   pub bytes-after : Bytes (xs ++ ys) → Bytes ys
   bytes-after h = bytes-every ys .1 (every-append xs ys .0 (bytes-every (xs ++ ys) .0 h) .1)
 
--- What `take` and `drop` leave, and a part.
+-- The results of `take` and `drop`, and a part.
 module _ (n : ℕ) (xs : List ℕ) where
   pub bytes-take : Bytes xs → Bytes (take n xs)
   bytes-take h = bytes-front (take n xs) (drop n xs) (rw take-append-drop h)
@@ -67,7 +66,7 @@ module _ (n : ℕ) (xs : List ℕ) where
 pub bytes-of-part : (m : List ℕ) (at n : ℕ) → Bytes m → Bytes (partOf m at n)
 bytes-of-part m at n h = bytes-take n (drop at m) (bytes-drop at m h)
 
--- Lists that are joined.
+-- Joined lists.
 pub bytes-joined : (xss : List (List ℕ)) → Every Bytes xss ↔ Bytes (joined xss)
 bytes-joined [] = (λ e. bytes-nil, λ h. none)
 bytes-joined (xs ∷ xss) = (
@@ -80,7 +79,7 @@ pub bytes-replicate : (n : ℕ) → Bytes (replicate n 0)
 bytes-replicate zero = bytes-nil
 bytes-replicate (suc n) = bytes-cons 0 (replicate n 0) (omega arith) (bytes-replicate n)
 
--- The numbers that are read in such a list.
+-- The numbers read from such a list.
 module _ (m : List ℕ) (bytes : Bytes m) where
   pub number16-below : (at : ℕ) → number16 m at < 65536
   unfolding number16

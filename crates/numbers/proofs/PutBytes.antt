@@ -1,11 +1,11 @@
--- Bytes put at a place of an output.
---     put-over    an output that does not reach so far stays as it was
---     put-there   what the output holds where it reaches so far
---     put-length  its length stays
---     put-after  the output is written up to the place
---     put-both    two lists put one after the other are both put at once
---     put-each    so are several
---     put-front   so are several from the front on
+-- Bytes written at a place of an output.
+--     put-over    an output that is too short is unchanged
+--     put-there   what the output holds if it is long enough
+--     put-length  its length is unchanged
+--     put-after   the output is written up to the place
+--     put-both    two lists written one after the other are the same as both written at once
+--     put-each    so are several lists
+--     put-front   so are several lists from the front on
 --     put-sets    the stores of the code
 use Prim.Native.Nat.{ℕ, _+_, _<_, _≤_}
 use mathlib.Core.Path.{_≡_, refl, sym, ap, _∙_}
@@ -79,7 +79,7 @@ module _ (xs ys : List ℕ) (at to : ℕ) (out : List ℕ) (e : at + length xs �
       ∙ ap (λ (l : List ℕ). take at out ++ l) (sym (append-assoc xs ys (drop (at + length (xs ++ ys)) out)))
       ∙ sym (put-there (xs ++ ys) at out (omega (arith, end)))
 
--- Lists put one after the other, as calls leave them.
+-- Lists written one after the other, as calls leave them.
 abbrev pub putEach : List (List ℕ) → ℕ → List ℕ → List ℕ
 putEach [] at out = out
 putEach (xs ∷ more) at out = putEach more (at + length xs) (putAt xs at out)
