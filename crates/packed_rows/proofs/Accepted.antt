@@ -1,5 +1,5 @@
--- An accepted stream: its entries are sound, and the rows that they give are those of its cells, of the right shape and length;
--- where the entries of a row leave each field of its cells.
+-- An accepted stream: its entries are sound, and the rows that they give are the rows of its cells, with the right shape and length; and
+-- what the entries of a row leave in each field of its cells.
 use Prim.Native.Nat.{ℕ, _+_, _*_, _<_}
 use mathlib.Core.Path.{_≡_, ap, _∙_}
 use mathlib.Core.List.{List, []}

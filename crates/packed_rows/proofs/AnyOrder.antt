@@ -14,11 +14,11 @@ use Rattle.packed_rows.proofs.PackedRow.{Packs, done, written, passed, 
 use Rattle.packed_rows.proofs.Storing.{all-zeros, store-packed}
 use Rattle.packed_rows.proofs.Soundness.{named-packed}
 
--- The cells of two entries are not the same.
+-- Two entries have different cells.
 abbrev pub Other : Entry → Entry → Type 0
 Other e f = ¬ (e .track - 1 ≡ f .track - 1)
 
--- No two entries are of one track.
+-- No two entries have the same track.
 pub data Apart : List Entry → Type 0 where
   alone : Apart []
   apart : {n : ℕ} {e : Entry} {es : List Entry} → Each (Other e) n es → Apart es → Apart (e ∷ es)

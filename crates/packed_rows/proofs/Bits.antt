@@ -1,4 +1,4 @@
--- Masks: the bits of a number, and the number of bits, undo each other.
+-- Masks: the bits of a number and the number of given bits are inverse to each other.
 use Prim.Native.Nat.{ℕ, zero, suc, _+_, _*_, _/_, _%_, _^_, _<_}
 use native.Mathlib.Nat.{pow-suc}
 use native.Mathlib.Omega.{arith}
@@ -11,7 +11,7 @@ use lib.Dec.{eqb}
 use Rattle.packed_rows.specs.Entries.{bits}
 use Rattle.packed_rows.specs.Packer.{ofBits}
 
--- A number whose lowest bit is b, above which m stands.
+-- A number with lowest bit b and the bits of m above it.
 low-bit : (b : Bool) (m : ℕ) → eqb ((cond b 1 0 + 2 * m) % 2) 1 ≡ b
 low-bit true m = eq-eqb ((1 + 2 * m) % 2) 1 (omega arith)
 low-bit false m = ne-eqb ((0 + 2 * m) % 2) 1 (λ q. omega arith)

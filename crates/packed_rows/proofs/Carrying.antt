@@ -1,4 +1,4 @@
--- Carrying out the entries of a row on the row's bytes is what `carryAll` says of its cells.
+-- Carrying out the entries of a row on the row's bytes gives what `carryAll` gives on its cells.
 use Prim.Native.Nat.{ℕ, zero, suc, _+_, _-_, _*_, _<_, _≤_}
 use mathlib.Core.Path.{_≡_, refl, sym, ap, _∙_}
 use mathlib.Core.List.{List, [], _∷_, _++_, append-assoc}
@@ -18,7 +18,7 @@ use Rattle.packed_rows.proofs.Checking.{EntryAt, row-end-at, entry-at}
 use Rattle.packed_rows.proofs.Soundness.{Sound, sound-facts}
 use Rattle.packed_rows.proofs.Shapes.{length-store, joined-row}
 
--- The block of a number, and another in its place.
+-- The block with a number, and its replacement by another.
 pub block-at : (n size k : ℕ) (l : List ℕ) (d : List ℕ) → k < n → getD (groupsOf n size l) k d ≡ take size (drop (k * size) l)
 block-at zero size k l d h = absurd (omega arith)
 block-at (suc n) size zero l d h = rw (zero-mul size)
@@ -45,7 +45,7 @@ block-set (suc n) size (suc k) l c h w f =
     )
     (ap (take size l ∷_) (block-set n size k (drop size l) c (omega arith) w (omega (arith, length-drop size l))))
 
--- Only the named fields count.
+-- Only the named fields matter.
 pub store-take : (ns : List Bool) (values : List ℕ) (cell : Cell) → count ns ≤ length values → store ns (take (count ns) values) cell ≡ store ns values cell
 store-take [] values cell h = refl
 store-take (n ∷ ns) values [] h = refl
@@ -66,7 +66,7 @@ add-entry-whole e (brokenAt p) h = absurd (never-whole _ h)
 add-entry-whole e (whole []) h = absurd (let z : _≡_ {A = ℕ} 0 1 = cc in omega arith)
 add-entry-whole e (whole (es ∷ rows)) h = (es, cc, cc)
 
--- The rows that stand at a place, with one row at least.
+-- The rows at a place, if there is at least one.
 module _ (s : List ℕ) (tracks left at : ℕ) (es : List Entry) (later : List (List Entry))
     (reads : reading tracks (suc left) at (drop at s) ≡ whole (es ∷ later)) where
   -- An entry, and then the rest of its row.
@@ -113,7 +113,7 @@ module _ (s : List ℕ) (tracks left at : ℕ) (es : List Entry) (later : List (
           (sym (reading-entry tracks left at (drop at s) f rest e) ∙ reads) in
           record { e = f; rest = inner .0; bytes = rest; is = inner .1; found = found; reads-on = rw (← found .rest-is) (inner .2) }
 
-  -- What is known of an entry that is met.
+  -- What is known of the entry at the place.
   pub record EntryMet : Type 0 where
     pub named-inside : at + 2 + fieldsNamed (getD s (at + 1) 0) < length s
     pub track-low : 1 ≤ getD s at 0
@@ -144,7 +144,7 @@ carries s tracks at e bytes row found long =
     rw (same) (block-set tracks 6 k row (store (named (e .mask)) (e .fields) cell) inside (length-store (named (e .mask)) (e .fields) cell ∙ six) (omega arith)
     ∙ rw (block-at tracks 6 k row emptyCell inside))
 
--- Where the loop over a row's entries stands: the entries left, and that carrying them out gives what all of them give.
+-- The state of the loop over a row's entries: the entries left, and that carrying them out gives what all of them give.
 pub record Carrying (s : List ℕ) (start : ℕ) (row₀ : List ℕ) (ahead : RowAhead s start (length row₀)) (row : List ℕ) (at : ℕ) : Type 0 where
   pub entries : List Entry
   pub reads : reading (ahead .tracks) (suc (ahead .left)) at (drop at s) ≡ whole (entries ∷ ahead .later)
@@ -210,7 +210,7 @@ module _ (s : List ℕ) (start : ℕ) (row₀ : List ℕ) (ahead : RowAhead s st
         ap (λ (es : List Entry). carryAll es (rowOf (ahead .tracks) row)) (sym (last .0)) ∙ state .same in
         (last .1, sym (joined-row (ahead .tracks) row (long ∙ ahead .fits)) ∙ ap joined none, omega (arith, carrying-inside))
 
--- Where a loop that passes over a row's entries stands.
+-- The state of a loop that skips a row's entries.
 pub record Skipping (s : List ℕ) (start size : ℕ) (ahead : RowAhead s start size) (at : ℕ) : Type 0 where
   pub entries : List Entry
   pub reads : reading (ahead .tracks) (suc (ahead .left)) at (drop at s) ≡ whole (entries ∷ ahead .later)

@@ -22,7 +22,7 @@ pub zeros-row : (tracks : ℕ) → rowOf tracks (replicate (tracks * 6) 0) ≡ e
 zeros-row zero = refl
 zeros-row (suc n) = rw (suc-mul n 6, add-comm (n * 6) 6, ← replicate-append-replicate {A = ℕ} 6 (n * 6) 0) (ap (emptyCell ∷_) (zeros-row n))
 
--- With a row left, a row was read.
+-- If a row is left, a row was read.
 pub one-row : (s : List ℕ) (tracks left at : ℕ) (later : List (List Entry)) → reading tracks (suc left) at s ≡ whole later
     → (es : List Entry) × (rest : List (List Entry)) × (later ≡ es ∷ rest)
 one-row s tracks left at [] h = absurd (omega (arith, reads-from (suc left) tracks at s [] .0 h .count))
@@ -110,7 +110,7 @@ module _ (s : List ℕ) (rows tracks : ℕ) where
               gives = state .gives ∙ rw is (rw (← row) (sym (append-assoc (state .done) part _)));
             }
 
-      -- The part that is lent is k bytes long.
+      -- The lent part is k bytes long.
       module _ (k : ℕ) (wide : k ≡ tracks * 6) where
         found : (es : List Entry) × (rest : List (List Entry)) × (state .later ≡ es ∷ rest)
         found = one-row (drop at s) tracks l at (state .later) (rw some at (state .reads))

@@ -1,4 +1,4 @@
--- A row end or an entry at a place of a stream, and what one turn of the check's loop does.
+-- A row end or an entry at a place of a stream, and one iteration of the check's loop.
 use Prim.Native.Nat.{ℕ, suc, _+_, _-_, _<_, _≤_}
 use mathlib.Core.Path.{_≡_, refl, sym, ap, _∙_}
 use mathlib.Core.List.{List, [], _∷_, _++_}
@@ -17,7 +17,7 @@ use Rattle.packed_rows.specs.Steps.{frontLength}
 use Rattle.packed_rows.proofs.Reading.{front-of, reading-end, reading-over, reading-nothing, reading-fault, reading-row-end, reading-entry}
 use Rattle.packed_rows.proofs.Soundness.{sound-facts}
 
--- What stands at the front of a part is there in the whole.
+-- The front of a part is also there in the whole stream.
 module _ (s xs rest : List ℕ) (at : ℕ) (splits : drop at s ≡ xs ++ rest) where
   pub after-piece : rest ≡ drop (at + length xs) s
   after-piece = sym (sym (drop-drop (length xs) at s) ∙ rw splits (drop-append-seam xs rest))
@@ -74,7 +74,7 @@ verdict-add-entry e (brokenAt p) = refl
 verdict-add-entry e (whole []) = refl
 verdict-add-entry e (whole (es ∷ rows)) = refl
 
--- One turn of the check, with rows left: a fault, a row end, or an entry.
+-- One iteration of the check, with rows left: a fault, a row end, or an entry.
 module _ (s : List ℕ) (tracks rows left at n : ℕ) (some : left ≡ suc rows) (is : n ≡ frontLength (front tracks (drop at s))) where
   length-of : {f : Front} → front tracks (drop at s) ≡ f → n ≡ frontLength f
   length-of e = is ∙ ap frontLength e
@@ -124,7 +124,7 @@ module _ (s : List ℕ) (tracks at : ℕ) where
   pub check-end : length s ≤ at → verdictOfReading (reading tracks 0 at (drop at s)) ≡ Accepted
   check-end h = rw (drop-of-length-le s h) (ap verdictOfReading (reading-end tracks at))
 
--- What stands at the front lies inside the stream.
+-- The front is inside the stream.
 pub front-inside : (s : List ℕ) (tracks at n : ℕ) → n ≡ frontLength (front tracks (drop at s)) → (n ≡ 0 → ⊥) → at + n ≤ length s
 front-inside s tracks at n is p = go (front tracks (drop at s)) refl
   where

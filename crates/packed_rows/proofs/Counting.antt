@@ -1,4 +1,4 @@
--- What is not 0, and which cells are not empty, counted part by part, and the six fields of a cell.
+-- Counting fields that are not 0 and non-empty cells, part by part; and the six fields of a cell.
 use Prim.Native.Nat.{ℕ, zero, suc, _+_, _-_, _*_, _<_, _≤_}
 use mathlib.Core.Path.{_≡_, refl, sym, ap, _∙_}
 use mathlib.Core.List.{List, [], _∷_, _++_}
@@ -16,7 +16,7 @@ use Rattle.packed_rows.specs.Packer.{nonZero}
 use Rattle.packed_rows.specs.Steps.{oneIf, cellAt}
 use Rattle.packed_rows.proofs.Storing.{non-zeros-append}
 
--- A value that is kept or not.
+-- The list of a value if it is kept, else the empty list.
 abbrev pub kept : Bool → ℕ → List ℕ
 kept b x = cond b (x ∷ []) []
 
@@ -48,7 +48,7 @@ pub byte-one : (b : Bool) → boolByte b ≡ cond b 1 0
 byte-one true = refl
 byte-one false = refl
 
--- The list from a place on, and its first value.
+-- The list from a place on is its first value and the rest.
 pub drop-next : (xs : List ℕ) (at k : ℕ) → at + k < length xs → drop (at + k) xs ≡ getD xs (at + k) 0 ∷ drop (at + suc k) xs
 drop-next xs at k h = rw (add-suc at k) (drop-cons xs (at + k) 0 h)
 
@@ -124,7 +124,7 @@ cell-filled bytes at h =
           or-false (nonZero f),
         )
 
--- Counting the cells that are not empty, cell by cell: so many are left, and with those counted they give what is to be given.
+-- The state of counting the non-empty cells, cell by cell: the cells left and those counted give the result.
 pub record CountingCells (cells : List ℕ) (n count at : ℕ) : Type 0 where
   pub left : ℕ
   pub place : at + left * 6 ≡ length cells
@@ -172,7 +172,7 @@ module _ (cells : List ℕ) (n : ℕ) where
         go zero e b p = (omega arith, omega arith)
         go (suc left) e b p = absurd (omega (arith, suc-mul left 6))
 
--- The same of the six bytes as one number, in which the two in the middle stand twice.
+-- The same for the six bytes as one number, in which the two in the middle occur twice.
 or-none : (a b : Bool) → a || b ≡ false → (a ≡ false) × (b ≡ false)
 or-none true b e = absurd (let z : _≡_ {A = ℕ} 0 1 = cc in omega arith)
 or-none false b e = (refl, e)

@@ -1,4 +1,4 @@
--- Storing the named fields of an entry one after the other, field by field, is what `store` says of the cell.
+-- Storing the named fields of an entry field by field gives what `store` gives on the cell.
 use Prim.Native.Nat.{ℕ, zero, suc, _+_, _<_, _≤_, _/_, _%_}
 use mathlib.Core.Path.{_≡_, refl, sym, ap, _∙_}
 use mathlib.Core.List.{List, [], _∷_, _++_, append-assoc}
@@ -32,7 +32,7 @@ module _ (ns : List Bool) (values out : List ℕ) (to : ℕ) (inside : to < leng
       rw (add-one to, add-suc to (length ns), suc-add to (length ns), take-suc out to 0 inside, drop-cons out to 0 inside)
       (sym (append-assoc (take to out) (getD out to 0 ∷ []) _))
 
--- Fields stored by two lists of names, one behind the other.
+-- Fields stored by two lists of names, one after the other.
 pub stored-both : (ns ms : List Bool) (values out : List ℕ) (to : ℕ) → to + length ns ≤ length out
     → storedFrom (ns ++ ms) values out to ≡ storedFrom ms (drop (count ns) values) (storedFrom ns values out to) (to + length ns)
 stored-both [] ms values out to h = simp (add-zero, take-append-drop)
@@ -62,7 +62,7 @@ count-both [] ms = sym (zero-add (count ms))
 count-both (true ∷ ns) ms = omega (arith, count-both ns ms)
 count-both (false ∷ ns) ms = count-both ns ms
 
--- A cell's fields: the first four, and then the last two where the rest of the mask names any.
+-- The fields of a cell: the first four, and then the last two if the rest of the mask names any.
 abbrev pub high : ℕ → ℕ
 high mask = mask / 2 / 2 / 2 / 2
 
@@ -86,8 +86,8 @@ module _ (s : List ℕ) (from mask : ℕ) (out₀ : List ℕ) (to : ℕ) (room :
       ∙ ap (λ (m : ℕ). storedFrom (bits 2 m) (drop next s) out (to + 4)) (sym none)
       ∙ cell-stored
 
--- Where a loop over n fields stands: `field` fields are done, the rest of the mask names which of the others follow at `next`,
--- and going on from here gives what is to be given.
+-- The state of a loop over n fields: `field` fields are done, the rest of the mask names which of the others follow at `next`, and storing
+-- the rest from here gives the result.
 pub record StoringTo (s : List ℕ) (from mask n : ℕ) (out₀ : List ℕ) (to : ℕ) (out : List ℕ) (next rest field : ℕ) : Type 0 where
   pub left : ℕ
   pub counts : left + field ≡ n
@@ -141,7 +141,7 @@ module _ (s : List ℕ) (from mask n : ℕ) (out₀ : List ℕ) (to : ℕ) where
           sym (take-append-drop (to + field) out) ∙ rw (none, add-zero) at (c .same),
         )
 
-    -- One turn, whether the field is named or not.
+    -- One iteration, whether the field is named or not.
     pub stores-turn : StoringTo s from mask n out₀ to out next rest field → to + field < length out → field < n
         → (bit value next′ : ℕ) → bit ≡ rest % 2 → value ≡ cond (eqb bit 1) (getD s next 0) (getD out (to + field) 0)
         → next′ ≡ next + bit

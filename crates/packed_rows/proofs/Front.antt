@@ -1,4 +1,4 @@
--- How many bytes stand at the front of a stream, by its first two bytes.
+-- The length of the front of a stream, by its first two bytes.
 use Prim.Native.Nat.{ℕ, suc, _+_, _-_, _<_, _≤_}
 use mathlib.Core.Path.{_≡_, refl, _∙_}
 use mathlib.Core.List.{List, [], _∷_}

@@ -1,6 +1,6 @@
--- The reader and the stream rules say the same. A stream is read whole, as these entries, exactly where it is so many rows of
--- them, sound, with their row ends; it is refused at a place exactly where it is sound up to there and broken there.
--- So a stream has one list of entries or one place of its fault, and no accepted stream begins another.
+-- The reader and the stream rules agree. A stream is read whole, as these entries, exactly if it is the given number of rows of them,
+-- sound, with their row ends. It is refused at a place exactly if it is sound up to there and broken there. So a stream has one list of
+-- entries or one place of its fault, and no accepted stream is a proper beginning of another.
 use Prim.Native.Nat.{ℕ, zero, suc, _+_, _-_, _<_}
 use mathlib.Core.Path.{_≡_, refl, sym, ap, subst, _∙_}
 use mathlib.Core.Logic.{_↔_}
@@ -20,12 +20,12 @@ use Rattle.packed_rows.proofs.Reading.{reading-over, reading-row-end, r
 abbrev run : List Entry → List ℕ
 run es = joined (map entryBytes es)
 
--- What reading from a place on says of the stream.
+-- What a reading from a place says about the stream.
 abbrev Says : ℕ → ℕ → ℕ → List ℕ → Reading → Type 0
 Says tracks rows at s (brokenAt p) = (q : ℕ) × (at + q ≡ p) × StreamBroken rows tracks s q
 Says tracks rows at s (whole entries) = SoundStream rows tracks s entries
 
--- What stands before a broken stream joins the sound bytes before its fault.
+-- The sound bytes before a broken stream are part of the sound bytes before its fault.
 module _ (tracks rows rows′ q : ℕ) (head rest : List ℕ) (b : StreamBroken rows tracks rest q) where
   broken-after : (full : List (List Entry)) (unfinished : List Entry) → allSound tracks full ≡ true
       → every (soundEntry tracks) unfinished ≡ true
@@ -53,7 +53,7 @@ broken-row-end tracks rows q rest b =
     broken-after tracks rows (suc rows) q (0 ∷ []) rest b ([] ∷ b .full) (b .unfinished) (b .fullSound) (b .unfinishedSound)
     refl (λ l. omega arith) (λ l u. (ap suc l, u))
 
--- A sound entry joins the first row of sound ones.
+-- A sound entry before a first row of sound entries.
 first-sound : (tracks : ℕ) (e : Entry) (es : List Entry) (rows : List (List Entry)) → soundEntry tracks e ≡ true
     → allSound tracks (es ∷ rows) ≡ true
     → allSound tracks ((e ∷ es) ∷ rows) ≡ true
@@ -96,7 +96,7 @@ neither-here : (tracks rows : ℕ) (s : List ℕ) → Neither tracks s → Strea
 neither-here tracks rows [] n = rowEndsLack (omega arith) refl
 neither-here tracks rows (b ∷ s) n = faultyEntry (omega arith) (some-follow b s) (n .0) (n .1)
 
--- What a reading says is so.
+-- What a reading says about the stream holds.
 reported : (tracks rows at : ℕ) (s : List ℕ) → Says tracks rows at s (reading tracks rows at s)
 reported tracks =
     along tracks (Says tracks) (λ at. record { count = refl; sound = refl; bytes = refl })
@@ -116,7 +116,7 @@ reported tracks =
     entry-says rows at e rest (whole (es ∷ rows′)) h t =
         record { count = t .count; sound = first-sound tracks e es rows′ h (t .sound); bytes = rw (t .bytes) (simp append-assoc) }
 
--- Entries, and rows of them, before what is read behind them.
+-- A reading with entries, and with rows of entries, before it.
 addEntries : List Entry → Reading → Reading
 addEntries [] r = r
 addEntries (e ∷ es) r = addEntry e (addEntries es r)
@@ -145,7 +145,7 @@ unfolding addRows
 rows-whole [] = refl
 rows-whole (es ∷ rows) = rw (rows-whole rows) (entries-whole es rows)
 
--- Sound entries, and rows of them, are read over.
+-- Reading sound entries, and rows of them, gives them before the reading of the rest.
 past-entries : (tracks rows at to : ℕ) (es : List Entry) (s : List ℕ) → every (soundEntry tracks) es ≡ true
     → at + length (run es) ≡ to
     → reading tracks (suc rows) at (run es ++ s) ≡ addEntries es (reading tracks (suc rows) to s)
@@ -170,18 +170,18 @@ past-rows tracks left (suc rows) at to (es ∷ full) s h n p =
     simp append-assoc (past-entries tracks rows at mid es (0 ∷ (streamOf full ++ s)) (u .0) refl
     ∙ ap (addEntries es) (reading-row-end tracks rows mid _ (streamOf full ++ s) refl ∙ ap newRow ih))
 
--- A fault behind sound rows is the fault of the whole.
+-- A fault after sound rows is the fault of the whole stream.
 past-fault : (tracks left rows at p : ℕ) (full : List (List Entry)) (s : List ℕ) → allSound tracks full ≡ true
     → length full + left ≡ rows → reading tracks left (at + length (streamOf full)) s ≡ brokenAt p
     → reading tracks rows at (streamOf full ++ s) ≡ brokenAt p
 past-fault tracks left rows at p full s h n e = past-rows tracks left rows at _ full s h n refl ∙ ap (addRows full) e ∙ rows-broken full p
 
--- Bytes left over behind the last row.
+-- Bytes left over after the last row.
 reading-left : (tracks at : ℕ) (s : List ℕ) → (s ≡ [] → ⊥) → reading tracks 0 at s ≡ brokenAt at
 reading-left tracks at [] h = absurd (h refl)
 reading-left tracks at (b ∷ s) h = reading-over tracks at b s
 
--- Read whole, at any place: exactly the rows of sound entries with their row ends.
+-- A reading from any place is whole exactly if the stream is rows of sound entries with their row ends.
 pub reads-from : (rows tracks at : ℕ) (stream : List ℕ) (entries : List (List Entry))
     → (reading tracks rows at stream ≡ whole entries) ↔ SoundStream rows tracks stream entries
 reads-from rows tracks at stream entries = (λ e. subst (Says tracks rows at stream) e (reported tracks rows at stream), back)
@@ -200,7 +200,7 @@ pub reads-one : (rows tracks : ℕ) (stream : List ℕ) (entries entries′ : Li
     → entries ≡ entries′
 reads-one rows tracks stream entries entries′ h h′ = cc (reads-exactly rows tracks stream entries .1 h, reads-exactly rows tracks stream entries′ .1 h′)
 
--- Refused, read from any place: exactly the streams broken so many bytes further.
+-- A reading from any place is refused p bytes further on exactly if the stream is broken at p.
 pub refused-from : (rows tracks at : ℕ) (stream : List ℕ) (p : ℕ) → (reading tracks rows at stream ≡ brokenAt (at + p)) ↔ StreamBroken rows tracks stream p
 refused-from rows tracks at stream p = (forth, back)
   where

@@ -1,4 +1,4 @@
--- Field by field, what a cell of an accepted stream holds: what the last entry of its row and track that names the field stored,
+-- What each field of a cell of an accepted stream holds: the value that the last entry of its row and track that names the field stored,
 -- else 0 (R5, R6).
 use Prim.Native.Nat.{ℕ, zero, suc, _+_, _-_, _*_, _≤_, _<_}
 use native.Mathlib.Numerals.{one-add}
@@ -39,7 +39,7 @@ set-field ns values row i field h k = rw (getD-set-same row i) (store-field ns v
 abbrev fieldOf : ℕ → ℕ → Row → ℕ
 fieldOf track field row = getD (getD row (track - 1) emptyCell) field 0
 
--- What the last entry that names the field stored, else what stood there.
+-- The value that the last entry that names the field stored, else the value before.
 data Last (track field : ℕ) (before : ℕ) (entries : List Entry) (now : ℕ) : Type 0 where
   kept : noneNames track field entries → now ≡ before → Last track field before entries now
   stored : (earlier later : List Entry) (e : Entry) → entries ≡ earlier ++ (e ∷ later) → names track field e ≡ true
@@ -96,7 +96,7 @@ module _ (tracks track field : ℕ) (low : 1 ≤ track) (high : track ≤ tracks
       go (kept n q) false p c = kept (none-names-cons track field n p) (q ∙ c)
       go (stored earlier later f split p n q) t u c = stored (e ∷ earlier) later f (rw split) p n q
 
--- A row of rows that are all so is so.
+-- A test that holds for every element and for the default holds for the element at a place.
 every-getD : {A : Type 0} (test : A → Bool) (xs : List A) (i : ℕ) (d : A) → test d ≡ true → every test xs ≡ true → test (getD xs i d) ≡ true
 every-getD test [] i d p h = p
 every-getD test (x ∷ xs) zero d p h = and-true (test x) (every test xs) h .0

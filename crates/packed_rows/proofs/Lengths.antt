@@ -1,4 +1,4 @@
--- The table of the entries' lengths has at each sound mask the length of an entry with that mask.
+-- The table of entry lengths has at each sound mask the length of an entry with that mask.
 use Prim.Native.Nat.{ℕ, zero, suc, _+_, _/_, _%_, _<_, _≤_}
 use mathlib.Core.Path.{_≡_, ap, _∙_}
 use mathlib.Core.List.{List, _∷_}
@@ -31,7 +31,7 @@ entry-length-most mask = go (soundMask mask)
     go true = omega (arith, count-most 6 mask)
     go false = omega arith
 
--- Read at a sound mask; and where the mask is not sound.
+-- The table read at a sound mask; and the length of a mask that is not sound.
 pub length-read : (lengths : List ℕ) (mask : ℕ) → lengths ≡ entryLengths → mask < 64 → getD lengths mask 0 ≡ entryLength mask
 length-read lengths mask e h =
     let same : 0 + mask ≡ mask = omega arith in

@@ -1,4 +1,4 @@
--- The packer's entries for a row (W2), cell by cell: an entry for a cell that is not empty, none for one that is.
+-- The packer's entries for a row (W2), cell by cell: an entry for each non-empty cell, none for an empty one.
 use Prim.Native.Nat.{ℕ, suc}
 use mathlib.Core.Path.{_≡_, refl}
 use mathlib.Core.List.{List, [], _∷_}

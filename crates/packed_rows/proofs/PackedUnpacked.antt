@@ -1,4 +1,5 @@
--- Cells packed into enough room, and what was written unpacked into enough room: the cells, and the rest of both outputs stays.
+-- Cells packed into enough room, and what was written unpacked into enough room: the result is the cells, and the rest of both outputs is
+-- unchanged.
 use Prim.Native.Nat.{ℕ, _≤_}
 use mathlib.Core.Path.{_≡_}
 use mathlib.Core.List.{List, _++_}
@@ -23,7 +24,7 @@ module _ (rows tracks : ℕ) (cells out back : List ℕ) where
   abbrev stream : List ℕ
   stream = packedStream (rowsOf rows tracks cells)
 
-  -- What packing wrote.
+  -- The bytes that packing wrote.
   abbrev front : List ℕ
   front = writtenTo cells rows tracks out
 

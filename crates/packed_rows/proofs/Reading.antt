@@ -1,5 +1,5 @@
--- What stands at the front of a stream, both ways round: a front that was found is there, and one that is there is found.
--- The laws of `reading`, which no longer speak of steps, and induction along a reading.
+-- The front of a stream, in both directions: a front that was found is there, and one that is there is found. The laws of `reading`,
+-- without its bound on the steps, and induction over a reading.
 use Prim.Native.Nat.{ℕ, zero, suc, _+_, _≤_, _<_}
 use mathlib.Core.Path.{_≡_, refl, sym, ap, subst, _∙_}
 use mathlib.Core.List.{List, [], _∷_, _++_}
@@ -20,7 +20,7 @@ and-true false b h = let z : _≡_ {A = ℕ} 0 1 = cc in absurd (omega arith)
 pub true-and : {a b : Bool} → a ≡ true → b ≡ true → a && b ≡ true
 true-and p q = rw (p, q)
 
--- What a front says of the stream.
+-- What a front says about the stream.
 abbrev pub FrontSays : ℕ → List ℕ → Front → Type 0
 FrontSays tracks s nothing = s ≡ []
 FrontSays tracks s (rowEnd rest) = s ≡ 0 ∷ rest
@@ -51,7 +51,7 @@ front-says tracks (b ∷ s) = go (eqb b 0) refl
     go true e = rw (eqb-true b 0 e)
     go false e = let ne : b ≡ 0 → ⊥ = eqb-false b 0 e in frontEntry-says tracks b s (omega arith)
 
--- Found, so there.
+-- A front that was found is there.
 pub front-of : (tracks : ℕ) (s : List ℕ) {f : Front} → front tracks s ≡ f → FrontSays tracks s f
 front-of tracks s e = subst (FrontSays tracks s) e (front-says tracks s)
 
@@ -61,7 +61,7 @@ row-end-length tracks s rest e = ap length (front-of tracks s e)
 pub entry-length : (tracks : ℕ) (s rest : List ℕ) (e : Entry) → front tracks s ≡ entry e rest → length s ≡ length (entryBytes e) + length rest
 entry-length tracks s rest e p = rw (front-of tracks s p .1) (length-append (entryBytes e) rest)
 
--- There, so found.
+-- A front that is there is found.
 pub front-row-end : (tracks : ℕ) (rest : List ℕ) → front tracks (0 ∷ rest) ≡ rowEnd rest
 front-row-end tracks rest = refl
 
@@ -82,7 +82,7 @@ front-entry tracks e rest h =
     n : ℕ
     n = fieldsNamed (e .mask)
 
--- Going on looks only at what is shorter than the stream.
+-- The rest of a reading depends only on streams shorter than this one.
 goOn-same : (tracks at : ℕ) (s : List ℕ) (f f′ : List ℕ → Reading) (g g′ : Entry → List ℕ → Reading)
     → ((rest : List ℕ) → length rest < length s → f rest ≡ f′ rest)
     → ((e : Entry) (rest : List ℕ) → length rest < length s → g e rest ≡ g′ e rest)
@@ -95,7 +95,7 @@ goOn-same tracks at s f f′ g g′ p q = go (front tracks s) refl
     go (entry en rest) e = q en rest (omega (arith, entry-length tracks s rest en e))
     go fault e = refl
 
--- As many steps as there are bytes are enough, and more of them change nothing.
+-- As many steps as there are bytes are enough; more steps change nothing.
 pub steps-enough : (k k′ tracks rows at : ℕ) (s : List ℕ) → length s < k → length s < k′ → readFrom k tracks rows at s ≡ readFrom k′ tracks rows at s
 unfolding readFrom
 steps-enough zero k′ tracks rows at s h h′ = absurd (omega arith)
@@ -125,7 +125,7 @@ reading-next tracks rows at s =
     (λ rest l. ap newRow (steps-enough (length s) (suc (length rest)) tracks rows (at + 1) rest l (omega arith)))
     (λ e rest l. ap (addEntry e) (steps-enough (length s) (suc (length rest)) tracks (suc rows) (at + length (entryBytes e)) rest l (omega arith)))
 
--- The same, by what stands at the front.
+-- The same, by the front.
 module _ (tracks rows at : ℕ) (s : List ℕ) where
   pub reading-nothing : front tracks s ≡ nothing → reading tracks (suc rows) at s ≡ brokenAt at
   reading-nothing e = rw (reading-next, e)
@@ -140,7 +140,7 @@ module _ (tracks rows at : ℕ) (s : List ℕ) where
       → reading tracks (suc rows) at s ≡ addEntry e (reading tracks (suc rows) (at + length (entryBytes e)) rest)
   reading-entry e rest p = rw (reading-next tracks rows at s, p)
 
--- Neither a row end nor a sound entry stands at the front.
+-- The front is neither a row end nor a sound entry.
 abbrev pub Neither : ℕ → List ℕ → Type 0
 Neither tracks s = ((rest : List ℕ) → s ≡ 0 ∷ rest → ⊥) × ((e : Entry) (rest : List ℕ) → soundEntry tracks e ≡ true → s ≡ entryBytes e ++ rest → ⊥)
 
@@ -167,8 +167,8 @@ reading-broken tracks rows at s n = go (front tracks s) refl
     go (entry en rest) e = absurd (n .1 en rest (front-of tracks s e .0) (front-of tracks s e .1))
     go fault e = reading-fault tracks rows at s e
 
--- Induction along a reading: what holds where it stops, and passes from what is read behind a row end or an entry to what is
--- read with it, holds of every reading.
+-- Induction over a reading: a property that holds where it ends, and for a row end or an entry before a reading that has it, holds for
+-- every reading.
 module _ (tracks : ℕ) (P : ℕ → ℕ → List ℕ → Reading → Type 0) (ends : (at : ℕ) → P 0 at [] (whole []))
     (leaves : (at b : ℕ) (s : List ℕ) → P 0 at (b ∷ s) (brokenAt at))
     (breaks : (rows at : ℕ) (s : List ℕ) → Neither tracks s → P (suc rows) at s (brokenAt at))

@@ -1,4 +1,4 @@
--- Repacking an accepted stream a row at a time: the packed length, and the packer's stream, of what it holds.
+-- Repacking an accepted stream one row at a time: the packed length and the packer's stream of the pattern that it holds.
 use Prim.Native.Nat.{ℕ, suc, _+_, _*_, _<_, _≤_}
 use mathlib.Core.Path.{_≡_, refl, sym, ap, _∙_}
 use mathlib.Core.List.{List, [], _∷_, _++_}
@@ -23,7 +23,7 @@ use Rattle.packed_rows.proofs.ByVerdict.{accepted-reading, refused-read
 use Rattle.packed_rows.proofs.CarryingRows.{one-row}
 use Rattle.packed_rows.proofs.Writing.{Writing, writing-first, writing-more, writing-room, writing-last}
 
--- The next row of those left at a place of an accepted stream, on its bytes.
+-- The next of the rows left at a place of an accepted stream, and its bytes.
 pub record NextRow (s : List ℕ) (tracks after l : ℕ) (later : List (List Entry)) (line : List ℕ) : Type 0 where
   pub es : List Entry
   pub rest : List (List Entry)
@@ -60,7 +60,7 @@ module _ (s : List ℕ) (tracks at left : ℕ) (later : List (List Entry))
   pub row-next : (after : ℕ) (line : List ℕ) → Loaded s at size after line → NextRow s tracks after l later line
   row-next = next (found .0) (found .1) (found .2)
 
--- Nothing is left where no row is.
+-- If no row is left, no entries are left.
 pub none-left : (s : List ℕ) (tracks at left : ℕ) (later : List (List Entry)) → reading tracks left at (drop at s) ≡ whole later → left ≡ 0 → later ≡ []
 none-left s tracks at left [] reads z = refl
 none-left s tracks at left (es ∷ rest) reads z = absurd (omega (arith, reads-from left tracks at (drop at s) (es ∷ rest) .0 reads .count, z))
@@ -71,7 +71,7 @@ all-read s rows tracks ok =
     let read = accepted-reading (readStream rows tracks s) .0 ok in
     (read .0, read .1, ap (λ (r : Reading). rowsFrom tracks (entriesRead r)) (read .1))
 
--- The packed length of one row, and of the row before others.
+-- The packed length of one row, and of a row before others.
 pub one-length : (tracks : ℕ) (line : List ℕ) (row : Row) → length line ≡ tracks * 6 → rowOf tracks line ≡ row
     → packedLength (rowsOf 1 tracks line) ≡ packedLength (row ∷ [])
 one-length tracks line row long e =
@@ -81,7 +81,7 @@ one-length tracks line row long e =
 pub length-more : (row : Row) (rows : List Row) → packedLength (row ∷ rows) ≡ packedLength (row ∷ []) + packedLength rows
 length-more row rows = omega (arith, packed-length-cons row rows, packed-length-cons row [])
 
--- Counting the packed length.
+-- The state of the loop that counts the packed length.
 pub record CountingRows (s : List ℕ) (rows tracks at length left : ℕ) : Type 0 where
   pub later : List (List Entry)
   pub reads : reading tracks left at (drop at s) ≡ whole later
@@ -128,7 +128,7 @@ module _ (s : List ℕ) (rows tracks : ℕ) where
       pub counting-turn : CountingRows s rows tracks after (length′ + n) l
       counting-turn = record { later = next .rest; reads = next .left; same = omega (arith, sum, state .same) }
 
--- Writing the packer's stream.
+-- The state of the loop that writes the packer's stream.
 pub record RepackingRows (s : List ℕ) (rows tracks : ℕ) (out₀ out : List ℕ) (at to left : ℕ) : Type 0 where
   pub later : List (List Entry)
   pub reads : reading tracks left at (drop at s) ≡ whole later

@@ -1,5 +1,5 @@
--- The shapes of cells, rows and patterns: how long the bytes of blocks of one size are, that cutting bytes into rows of cells and
--- joining them again undo each other, and that the rows which entries give are of the right shape.
+-- The shapes of cells, rows and patterns: the length of blocks of one size, that cutting bytes into rows of cells and joining them again
+-- are inverse to each other, and that the rows which entries give have the right shape.
 use Prim.Native.Nat.{ℕ, zero, suc, _+_, _-_, _*_, _≤_, _<_}
 use native.Mathlib.Nat.{suc-mul, zero-mul, suc-add, zero-add, add-comm}
 use native.Mathlib.Omega.{arith}
@@ -13,22 +13,22 @@ use Rattle.vocabulary.proofs.JoinedLists.{joined-append}
 use Rattle.cells.specs.Cells.{Cell, Row, emptyCell, emptyRow, cellBytes, groupsOf, rowOf, rowsOf, bytesOf}
 use Rattle.packed_rows.specs.Entries.{Entry, named, store, carryOut, carryAll, rowFrom, rowsFrom}
 
--- A list of so many, of each of which it holds.
+-- A list of the given length whose elements all have the property.
 pub data Each {A : Type 0} (P : A → Type 0) : ℕ → List A → Type 0 where
   none : Each P zero []
   one : {n : ℕ} {x : A} {xs : List A} → P x → Each P n xs → Each P (suc n) (x ∷ xs)
 
--- One of those that a function gives, where there is one: what stands for one that is not there does not matter.
+-- An element of a mapped list, if it is there: the defaults do not matter.
 pub getD-mapped : {A B : Type 0} (f : A → B) (xs : List A) (i : ℕ) (first : B) (other : A) → i < length xs → getD (map f xs) i first ≡ f (getD xs i other)
 getD-mapped f [] i first other h = absurd (omega arith)
 getD-mapped f (x ∷ xs) zero first other h = refl
 getD-mapped f (x ∷ xs) (suc i) first other h = getD-mapped f xs i first other (omega arith)
 
--- So many lists of one length: so many blocks of bytes, or cells of six fields.
+-- A list of n lists of one length: n blocks of bytes, or n cells of six fields.
 abbrev pub Blocks : {A : Type 0} → ℕ → ℕ → List (List A) → Type 0
 Blocks n size xs = Each (λ x. length x ≡ size) n xs
 
--- So many rows, each of so many cells of six fields.
+-- The given number of rows, each of the given number of cells of six fields.
 abbrev pub Shaped : ℕ → ℕ → List Row → Type 0
 Shaped rows tracks pattern = Each (Blocks tracks 6) rows pattern
 
@@ -110,7 +110,7 @@ bytes-rows rows tracks bytes e =
 pub rows-bytes : {rows tracks : ℕ} {pattern : List Row} → Shaped rows tracks pattern → rowsOf rows tracks (bytesOf pattern) ≡ pattern
 rows-bytes {rows} {tracks} s = rw (blocks-joined (tracks * 6) (joined-shaped s)) (map-back joined (rowOf tracks) row-joined s)
 
--- The cells of a pattern in one list: its bytes, and its shape.
+-- The cells of a pattern as one list: its bytes, and its shape.
 pub bytes-joined : (rows : List Row) → bytesOf rows ≡ joined (joined rows)
 bytes-joined [] = refl
 bytes-joined (row ∷ rows) = rw (bytes-joined rows) (sym (joined-append row (joined rows)))
@@ -130,7 +130,7 @@ joined-rows rows tracks bytes e =
     sym (blocks-joined 6 (each-joined (rows-shaped rows tracks bytes e)))
     ∙ ap (groupsOf (rows * tracks) 6) (sym (bytes-joined (rowsOf rows tracks bytes)) ∙ bytes-rows rows tracks bytes e)
 
--- One of the joined.
+-- An element of joined lists.
 pub getD-joined : {A : Type 0} {n : ℕ} (size : ℕ) {xs : List (List A)} → Blocks n size xs → (i j : ℕ) (other : List A) (d : A) → i < n → j < size
     → getD (joined xs) (i * size + j) d ≡ getD (getD xs i other) j d
 getD-joined size none i j other d h l = absurd (omega arith)
@@ -146,7 +146,7 @@ getD-bytes {tracks = tracks} {pattern} s row track field h k l =
     ∙ ap (λ (cells : List ℕ). getD cells (track * 6 + field) 0) (List·getD-map joined pattern row (emptyRow tracks))
     ∙ getD-joined 6 (each-getD row (emptyRow tracks) (each-replicate tracks emptyCell refl) s) track field emptyCell 0 k l
 
--- Entries keep the shape of a row.
+-- Carrying out entries keeps the shape of a row.
 pub length-store : (ns : List Bool) (values : List ℕ) (cell : Cell) → length (store ns values cell) ≡ length cell
 length-store [] values cell = refl
 length-store (n ∷ ns) values [] = refl

@@ -1,6 +1,6 @@
--- No accepted stream is shorter than the packer's (W5), and those as short are the packer's entries in another order within the rows
--- (W6). Carrying out an entry makes a row's packed length grow by at most the entry's bytes; where it grows by so much, the cell was
--- empty and the entry is the packer's for the cell that it leaves.
+-- No accepted stream is shorter than the packer's (W5), and those of the same length are the packer's entries in another order within the
+-- rows (W6). Carrying out an entry makes a row's packed length grow by at most the entry's bytes. If it grows by that much, the cell was
+-- empty and the entry is the packer's for the new cell.
 use Prim.Native.Nat.{ℕ, zero, suc, _+_, _-_, _≤_, _<_}
 use native.Mathlib.Nat.{add-zero, add-suc, suc-add}
 use native.Mathlib.Omega.{arith}
@@ -33,7 +33,7 @@ use Rattle.packed_rows.proofs.Accepted.{accepted-stream, accepted-rows}
 store-length : (ns : List Bool) (values : List ℕ) (cell : Cell) → cellLength (store ns values cell) ≤ cellLength cell + (2 + count ns)
 store-length ns values cell = omega (arith, cell-length-most (store ns values cell), store-most ns values cell)
 
--- An entry that the packer writes for the cell that it leaves, which was empty.
+-- The entry is the packer's for the new cell, and the old cell was empty.
 record Packers (e : Entry) (old new : Cell) : Type 0 where
   empty : nonEmpty old ≡ false
   filled : nonEmpty new ≡ true
@@ -67,7 +67,7 @@ store-packers tracks e old s l h = go (nonEmpty old) (nonEmpty new) refl refl h
     go true true p q h = absurd (omega (arith, most))
     go true false p q h = absurd (omega (arith, most))
 
--- One row, of which one cell is set.
+-- A row with one cell replaced.
 set-length : (row : Row) (i : ℕ) (new : Cell) → i < length row → rowLength (set row i new) + cellLength (getD row i emptyCell) ≡ rowLength row + cellLength new
 set-length [] i new h = absurd (omega arith)
 set-length (cell ∷ row) zero new h = omega (arith, row-length-cons cell row, row-length-cons new row)
@@ -208,7 +208,7 @@ equal-length rows tracks stream cells l e = (there, reordered-accepted rows trac
         rw (accepted-rows accepted, read .bytes)
         (stream-packers tracks (accepted .entries) (read .sound) (omega (arith, ap length (read .bytes), ap packedLength (accepted-rows accepted))))
 
--- The packer's own order is one of them.
+-- The packer's own order is one of the orders.
 pub packed-reordered : (pattern : List Row) → Reordered pattern (packedStream pattern)
 packed-reordered [] = end
 packed-reordered (row ∷ pattern) = next (packedEntries row) (Permᴰ·refl (packedEntries row)) (packed-reordered pattern)

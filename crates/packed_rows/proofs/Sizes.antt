@@ -1,4 +1,4 @@
--- The sizes of a pattern, once they fit: bounds, so that no product wraps.
+-- The sizes of a pattern, if they fit: bounds, so that no product wraps.
 use Prim.Native.Nat.{ℕ, _*_, _≤_}
 use mathlib.Core.Path.{_≡_}
 use mathlib.Core.Bool.{true}

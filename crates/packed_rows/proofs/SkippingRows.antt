@@ -1,4 +1,4 @@
--- Passing over the first rows of an accepted stream.
+-- Skipping the first rows of an accepted stream.
 use Prim.Native.Nat.{ℕ, suc, _+_, _-_, _*_, _<_, _≤_}
 use mathlib.Core.Path.{_≡_, refl, sym, ap, _∙_}
 use mathlib.Core.List.{List, [], _∷_}
@@ -28,13 +28,13 @@ use Rattle.packed_rows.proofs.ByVerdict.{accepted-reading, refused-read
 pub all-rows : (s : List ℕ) (n : ℕ) (all : MoreRows s n) → length (all .entries) ≡ all .rows
 all-rows s n all = reads-exactly (all .rows) (all .tracks) s (all .entries) .0 (all .reads) .count
 
--- Where some rows are passed and n - left rows are done.
+-- The state of the loop that skips rows: n - left rows are skipped, and the others follow at the place.
 pub record SkippingRows (s : List ℕ) (n : ℕ) (all : MoreRows s n) (at left : ℕ) : Type 0 where
   pub done : ℕ
   pub counts : done + left ≡ n
   pub reads : reading (all .tracks) (all .rows - done) at (drop at s) ≡ whole (drop done (all .entries))
 
--- The row at a place that stands behind so many rows.
+-- The row at a place after the given number of rows.
 pub row-after : (s : List ℕ) (n : ℕ) (all : MoreRows s n) (at done : ℕ) → done < all .rows
     → reading (all .tracks) (all .rows - done) at (drop at s) ≡ whole (drop done (all .entries)) → (rest : ℕ)
     → all .rows - done ≡ suc rest
@@ -68,7 +68,7 @@ module _ (s : List ℕ) (n : ℕ) (all : MoreRows s n) where
       skips-turn after skipped =
           record { done = suc (state .done); counts = omega (arith, state .counts, some); reads = skipped (all .tracks * 6) skips-ahead }
 
--- One cell: the row behind the rows passed over, and six of its bytes.
+-- One cell: the row after the skipped rows, and six of its bytes.
 module _ (s : List ℕ) (rows tracks row track : ℕ) (ok : verdictOfReading (readStream rows tracks s) ≡ Accepted)
     (there : cellThere rows tracks row track ≡ true) where
   abbrev read : (entries : List (List Entry)) × (readStream rows tracks s ≡ whole entries)
@@ -111,7 +111,7 @@ module _ (s : List ℕ) (rows tracks row track : ℕ) (ok : verdictOfReading (re
         (whole-row ∙ sym (getD-mapped (rowFrom tracks) (read .0) row [] [] (omega (arith, row-there, all-rows s row all-read))))
         ∙ ap (λ (rs : List Row). getD (getD rs row []) (track - 1) emptyCell) (sym rows-are)
 
--- The answer for a cell, by the verdict of the stream.
+-- The answer to a query for a cell, by the verdict of the stream.
 pub cell-refused : (r : Reading) (tracks row track : ℕ) (why : Refusal) → verdictOfReading r ≡ Refused why → CellRefused why ≡ cellOfReading r tracks row track
 cell-refused r tracks row track why e =
     let broken = refused-reading r why e in

@@ -1,4 +1,4 @@
--- Sound entries (R2 to R4): the tests as facts, and that the packer's entries are sound.
+-- Sound entries (R2 to R4): the tests as propositions, and that the packer's entries are sound.
 use Prim.Native.Nat.{ℕ, suc, _+_, _≤_, _<_}
 use native.Mathlib.Omega.{arith}
 use mathlib.Core.Path.{_≡_, refl, sym, _∙_}
@@ -38,7 +38,7 @@ facts-sound tracks e s =
       eq-eqb (length (e .fields)) (fieldsNamed (e .mask)) (s .filled),
     )
 
--- The packer's.
+-- The packer's entries.
 pub named-packed : (cell : Cell) → length cell ≡ 6 → named (ofBits (map nonZero cell)) ≡ map nonZero cell
 named-packed cell l = bits-of 6 (map nonZero cell) (length-map cell nonZero ∙ l)
 
@@ -60,7 +60,7 @@ entries-sound tracks (written {track = track} {cell = cell} q p) (one l b) low f
     (entries-sound tracks p b (omega arith) (omega arith))
 entries-sound tracks (passed q p) (one l b) low fits = entries-sound tracks p b (omega arith) (omega arith)
 
--- What holds of every one holds of them in any order.
+-- A test that holds for every element holds for them in any order.
 pub every-perm : {A : Type 0} (test : A → Bool) {xs ys : List A} → List·Permᴰ xs ys → every test xs ≡ every test ys
 every-perm test List·Permᴰ·nil = refl
 every-perm test (List·Permᴰ·cons q d) = rw (q, every-perm test d)

@@ -1,5 +1,5 @@
--- One cell: how many of its fields are not 0 before and after named fields are stored in it; that the packer's mask and fields of a
--- cell, stored in an empty cell, give the cell; and that nothing else does with so few fields.
+-- One cell: the number of its fields that are not 0 before and after named fields are stored in it; that the packer's mask and fields of a
+-- cell, stored in an empty cell, give the cell; and that nothing else does with as few fields.
 use Prim.Native.Nat.{ℕ, zero, suc, _+_, _≤_}
 use native.Mathlib.Omega.{arith}
 use mathlib.Core.Path.{_≡_, refl, ap}
@@ -12,7 +12,7 @@ use Rattle.cells.specs.Cells.{Cell, nonZeros}
 use Rattle.packed_rows.specs.Entries.{count, store}
 use Rattle.packed_rows.specs.Packer.{nonZero}
 
--- 1 for a field that is not 0.
+-- 1 for a field that is not 0, else 0.
 abbrev pub weight : ℕ → ℕ
 weight f = cond (eqb f 0) 0 1
 
@@ -46,7 +46,7 @@ pub non-zeros-none : (n : ℕ) → length (nonZeros (replicate n 0)) ≡ 0
 non-zeros-none zero = refl
 non-zeros-none (suc n) = non-zeros-none n
 
--- A cell in which no field is not 0.
+-- A cell whose fields are all 0.
 pub all-zeros : (n : ℕ) (cell : Cell) → length cell ≡ n → length (nonZeros cell) ≡ 0 → cell ≡ replicate n 0
 all-zeros n [] l h = rw (← l)
 all-zeros n (f ∷ cell) l h = rw (← l) (go (eqb f 0) refl (omega (arith, length-non-zeros f cell)) (all-zeros (length cell) cell refl))
@@ -75,7 +75,7 @@ store-packed n (f ∷ cell) l = rw (← l) (go (eqb f 0) refl (store-packed (len
     go true q ih = rw (ih, eqb-true f 0 q)
     go false q ih = rw ih
 
--- Storing makes no more fields differ from 0 than are named.
+-- Storing adds at most as many fields that are not 0 as are named.
 pub store-most : (ns : List Bool) (values : List ℕ) (cell : Cell) → length (nonZeros (store ns values cell)) ≤ length (nonZeros cell) + count ns
 store-most [] values cell = omega arith
 store-most (n ∷ ns) values [] = omega arith
@@ -89,7 +89,7 @@ store-most (true ∷ ns) values (f ∷ cell) =
     )
 store-most (false ∷ ns) values (f ∷ cell) = omega (arith, length-non-zeros f (store ns values cell), length-non-zeros f cell, store-most ns values cell)
 
--- Where it makes that many, in an empty cell, the mask and the fields are the packer's.
+-- If it adds that many to an empty cell, the mask and the fields are the packer's.
 pub store-full : (ns : List Bool) (values : List ℕ) → length values ≡ count ns → count ns ≤ length (nonZeros (store ns values (replicate (length ns) 0)))
     → (map nonZero (store ns values (replicate (length ns) 0)) ≡ ns) × (nonZeros (store ns values (replicate (length ns) 0)) ≡ values)
 store-full [] [] e h = (refl, refl)

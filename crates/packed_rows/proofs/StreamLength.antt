@@ -1,4 +1,4 @@
--- How long the packer's stream is (W4, W5).
+-- The length of the packer's stream (W4, W5).
 use Prim.Native.Nat.{ℕ, suc, _+_, _*_, _≤_}
 use native.Mathlib.Nat.{suc-mul}
 use native.Mathlib.Omega.{arith}
@@ -15,7 +15,7 @@ use Rattle.packed_rows.proofs.Shapes.{none, one, Blocks, Shaped, each-c
 use Rattle.packed_rows.proofs.PackedRow.{Packs, done, written, passed, packs}
 use Rattle.packed_rows.proofs.Storing.{non-zeros-append, non-zeros-most}
 
--- The bytes of the packer's entry for a cell; of its entries for a row.
+-- The length of the packer's entry for a cell, and of its entries for a row.
 abbrev pub cellLength : Cell → ℕ
 cellLength cell = cond (nonEmpty cell) 2 0 + length (nonZeros cell)
 
@@ -47,7 +47,7 @@ pub row-length-append : (xs ys : Row) → rowLength (xs ++ ys) ≡ rowLength xs 
 row-length-append [] ys = omega arith
 row-length-append (x ∷ xs) ys = omega (arith, row-length-cons x (xs ++ ys), row-length-cons x xs, row-length-append xs ys)
 
--- The entries' bytes are as long as that.
+-- The length of the entries' bytes is that length.
 pub entries-length : {track : ℕ} {row : Row} {es : List Entry} → Packs track row es → length (joined (map entryBytes es)) ≡ rowLength row
 entries-length done = refl
 entries-length (written {cell = cell} {row = row} {es = es} q p) =
@@ -76,7 +76,7 @@ pub packed-length-cells : (rows tracks : ℕ) (cells : List ℕ) → length cell
 packed-length-cells rows tracks cells e =
     rw (each-count (rows-shaped rows tracks cells e), bytes-rows rows tracks cells e, joined-rows rows tracks cells e)
 
--- At most one byte a row and eight a cell.
+-- At most one byte for each row and eight for each cell.
 row-length-most : {tracks : ℕ} {row : Row} → Blocks tracks 6 row → rowLength row ≤ 8 * tracks
 row-length-most none = omega arith
 row-length-most (one {x = cell} {xs = row} p e) = omega (arith, row-length-cons cell row, cell-length-most cell, non-zeros-most cell, row-length-most e)

@@ -1,27 +1,27 @@
--- The theorems about packed rows. In plain words, for all numbers of rows and tracks, every stream, whoever wrote it, and every
--- list of rows × tracks × 6 numbers as cells:
+-- The theorems about packed rows. In plain words, for all numbers of rows and tracks, every stream, and every list of
+-- rows × tracks × 6 numbers as cells:
 --
---  1. Packing any cells and reading the stream gives the cells back.
---  2. The packed length is the rows, and two for each non-empty cell, and one for each field that is not 0. It is at most
---     rows × (1 + 8 × tracks). The length that packing answers and the place of its refusal 17 are this one.
+--  1. Packing any cells and reading the stream gives the cells.
+--  2. The packed length is 1 for each row, 2 for each non-empty cell and 1 for each field that is not 0. It is at most
+--     rows × (1 + 8 × tracks). The length that packing answers and the place of its refusal 17 are the packed length.
 --  3. A stream that is accepted as certain cells is never shorter than the packer's stream of these cells.
---  4. A stream of just that length is accepted as the cells exactly when it is, row by row, the packer's entries for that row,
+--  4. A stream of exactly that length is accepted as the cells exactly when it is, row by row, the packer's entries for that row,
 --     each once and unchanged, in some order, and then the row end. And unpacking a stream into enough room succeeds with
 --     certain cells exactly when the stream is accepted as these cells.
---  5. In an accepted stream, what a field of a cell holds is what the last entry of its row and track that names the field
---     stored there, and 0 where none names it.
+--  5. In an accepted stream, a field of a cell holds what the last entry of its row and track that names the field stored there,
+--     and 0 if none names it.
 --  6. A stream is read as rows of entries exactly when there are as many of these rows as the pattern has, all of their entries
---     are sound, and the stream is their bytes, each row with its row end. A stream is so in one way at most. The check accepts
---     exactly these streams.
---  7. A stream is refused with 15 at a place exactly when up to the place it is whole rows and entries of an unfinished row, all
---     sound, and there it is broken in one of three ways: rows are left and bytes follow that begin with neither a row end nor a
---     sound entry; or the rows are full, no row is unfinished, and bytes follow; or rows are left and nothing follows. There is one
+--     are sound, and the stream is their bytes, each row with its row end. A stream has at most one such list of rows. The check
+--     accepts exactly these streams.
+--  7. A stream is refused with 15 at a place exactly when up to the place it is full rows and entries of an unfinished row, all
+--     sound, and there it is broken in one of three ways: rows are left, and the bytes that follow begin with neither a row end nor
+--     a sound entry; or the rows are full, no row is unfinished, and bytes follow; or rows are left and nothing follows. There is one
 --     such place. No proper beginning of an accepted stream is accepted with the same rows and tracks.
--- 25. Any pattern packed into enough room, and what was written unpacked into enough room, gives the pattern's bytes and leaves the
---     rest of both outputs. This is for rows and tracks that fit, for cells of that many rows and tracks, and for every output that
---     has at least the packed length, and every other one that has at least the length of the cells.
+-- 25. Packing any pattern into enough room and unpacking what was written into enough room gives the pattern's bytes; the rest of
+--     both outputs is unchanged. This is for rows and tracks that fit, for cells of these rows and tracks, and for every output of at
+--     least the packed length and every other output of at least the length of the cells.
 --
--- The reader is `readStream`, the packer `packedStream`, the length `packedLength`: those that the contracts cite.
+-- The reader is `readStream`, the packer `packedStream`, the length `packedLength`: the definitions that the contracts cite.
 use Prim.Native.Nat.{ℕ, _+_, _-_, _*_, _<_, _≤_}
 use mathlib.Core.Logic.{_↔_}
 use mathlib.Core.Path.{_≡_}

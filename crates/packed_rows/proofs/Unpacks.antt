@@ -1,4 +1,4 @@
--- What unpacking into enough room answers and writes says exactly which streams hold which cells.
+-- The answer and the output of unpacking into enough room determine which streams hold which cells.
 use Prim.Native.Nat.{ℕ, _≤_}
 use native.Mathlib.Omega.{arith}
 use mathlib.Core.Path.{_≡_, refl, sym, _∙_}
@@ -18,7 +18,7 @@ use Rattle.packed_rows.specs.declared.Unpacking.the-variants.{Unpacked, 
 use Rattle.packed_rows.proofs.Accepted.{accepted-length}
 
 module _ (rows tracks : ℕ) (stream out : List ℕ) (fit : sizesFit rows tracks ≡ true) (room : cellBytes rows tracks ≤ length out) where
-  -- By its reading.
+  -- The answer, by the reading.
   unpack-answer : (r : Reading) → readStream rows tracks stream ≡ r
       → unpackAnswer stream rows tracks (length out) ≡ unpackedIf (verdictOfReading r) (cellBytes rows tracks)
   unpack-answer r q = simp (fit, le-ltb (length out) (cellBytes rows tracks) room, q)
@@ -27,7 +27,7 @@ module _ (rows tracks : ℕ) (stream out : List ℕ) (fit : sizesFit rows tracks
     pub unpacks-whole : unpackAnswer stream rows tracks (length out) ≡ Unpacked (cellBytes rows tracks)
     unpacks-whole = unpack-answer (whole (accepted .entries)) (accepted .read)
 
-    -- The output begins with the cells, and the rest of it stays.
+    -- The output begins with the cells, and the rest of it is unchanged.
     pub unpacked-output : unpackOutput stream rows tracks out ≡ cells ++ drop (cellBytes rows tracks) out
     unpacked-output = rw (unpacks-whole, accepted .read, accepted .gives)
 

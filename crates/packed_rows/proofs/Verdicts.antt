@@ -1,4 +1,4 @@
--- What the answers of the check and of packing say, by the reading and the packed length.
+-- The answers of the check and of packing, by the reading and the packed length.
 use Prim.Native.Nat.{ℕ}
 use mathlib.Core.Logic.{_↔_}
 use mathlib.Core.Path.{_≡_, sym, ap, _∙_}
@@ -57,7 +57,7 @@ module _ (rows tracks : ℕ) where
       λ h. checked fits ∙ refused-at (readStream rows tracks stream) place .1 (refused-exactly rows tracks stream place .1 h),
     )
 
-  -- By the two tests of packing.
+  -- The answer of packing, by its two tests.
   module _ (cells : List ℕ) (room n : ℕ) where
     pub pack-answers : packAnswer cells rows tracks room ≡ Packed n → n ≡ packedLength (rowsOf rows tracks cells)
     pack-answers = sized (not (sizesFit rows tracks && eqb (length cells) (cellBytes rows tracks))) (ltb room (packedLength (rowsOf rows tracks cells)))

@@ -1,5 +1,5 @@
--- Writing values one behind the other into a list: where a writer stands, and what a store, a call and the end of a loop do to
--- that; and the tracks of a row that are listed for it, with their entries.
+-- Writing values one after the other into a list: the state of a writer, and what a store, a call and the end of a loop do to it; and the
+-- tracks of a row that are listed for it, with their entries.
 use Prim.Native.Nat.{ℕ, zero, suc, _+_, _-_, _*_, _<_, _≤_}
 use mathlib.Core.Path.{_≡_, refl, sym, ap, _∙_}
 use mathlib.Core.List.{List, [], _∷_, _++_, map, append-assoc, append-nil}
@@ -17,7 +17,7 @@ use Rattle.packed_rows.specs.Steps.{oneIf, cellAt, filledTracks, TracksI
 use Rattle.packed_rows.proofs.Carrying.{block-at}
 use Rattle.packed_rows.proofs.Counting.{kept, length-kept, kept-first, nonZeros-first, length-cell}
 
--- A writer of `all` from `to` on stands at `at`, with `rest` still to be written.
+-- A writer of `all`, which begins at `to`, is at the place `at`, with `rest` still to be written.
 pub record Writing (out₀ : List ℕ) (to : ℕ) (all out : List ℕ) (at : ℕ) (rest : List ℕ) : Type 0 where
   pub room : length out ≡ length out₀
   pub place : at + length rest ≡ to + length all
@@ -39,11 +39,11 @@ module _ (out₀ : List ℕ) (to : ℕ) (all : List ℕ) where
           written = rw e (append-assoc (take at out) xs rest ∙ w .written);
         }
 
-    -- What comes next has room.
+    -- There is room for the next values.
     pub writing-room : (xs more rest : List ℕ) → Writing out₀ to all out at rest → rest ≡ xs ++ more → at + length xs ≤ to + length all
     writing-room xs more rest w e = omega (arith, w .place, ap length e ∙ length-append xs more)
 
-    -- A value is stored, and the place moves behind it where it is kept.
+    -- A value is stored, and the place moves past it if it is kept.
     pub writing-kept : (b : Bool) (v : ℕ) (rest : List ℕ) {at′ : ℕ} → Writing out₀ to all out at (kept b v ++ rest)
         → at < length out → at′ ≡ at + cond b 1 0
         → Writing out₀ to all (set out at v) at′ rest
@@ -61,7 +61,7 @@ length-blocks : (n size : ℕ) (bytes : List ℕ) → length (groupsOf n size by
 length-blocks zero size bytes = refl
 length-blocks (suc n) size bytes = ap suc (length-blocks n size (drop size bytes))
 
--- The next field of a cell that is written, and the next track of a row that is listed.
+-- The next field of a cell is written, and the next track of a row is listed.
 module _ {out₀ : List ℕ} {to : ℕ} {all out : List ℕ} {at at′ : ℕ} where
   pub fields-turn : (cells : List ℕ) (from field : ℕ) → from + 6 ≤ length cells → field < 6
       → Writing out₀ to all out at (nonZeros (drop field (cellAt cells from))) → at < length out
@@ -111,7 +111,7 @@ listed-at row (t ∷ ts) zero l h = l .0
 listed-at row (t ∷ ts) (suc i) l h = listed-at row ts i (l .1) (omega arith)
 
 module _ (row : List ℕ) where
-  -- What is left of a row, from a track on.
+  -- The rest of a row, from a track on.
   abbrev pub tracksLeft : ℕ → ℕ → Row
   tracksLeft left track = groupsOf left 6 (drop (track * 6) row)
 
@@ -148,8 +148,8 @@ module _ (row : List ℕ) where
       go true e = rw (add-one track, e)
       go false e = e
 
--- The entry of the next listed track is written: its track and its mask by stores, its fields by a call. There is room for it, and
--- for the byte behind it.
+-- The entry of the next listed track is written: its track and its mask by stores, its fields by a call. There is room for it, and for the
+-- byte after it.
 abbrev pub EntryFits : List ℕ → ℕ → List ℕ → ℕ → Type 0
 EntryFits row from out at = (from + 6 ≤ length row) × (at + 2 + length (nonZeros (cellAt row from)) < length out)
 
@@ -189,7 +189,7 @@ module _ (row list : List ℕ) (n i from : ℕ) where
 pub entries-past : (row list : List ℕ) (n i : ℕ) → n ≤ i → n ≤ length list → entriesAt row (drop i (take n list)) ≡ []
 entries-past row list n i h k = rw (drop-of-length-le (take n list) {i = i} (omega (arith, length-take-le n list k)))
 
--- The row end is written behind the entries of a row.
+-- The row end is written after the entries of a row.
 module _ (row : List ℕ) (tracks : ℕ) (out₀ : List ℕ) (to : ℕ) {listed : List ℕ} (e : listed ≡ filledTracks 0 (rowOf tracks row)) where
   pub row-room : to + length (rowStream (packedEntries (rowOf tracks row))) ≤ length out₀ → to + length (entriesAt row listed) < length out₀
   row-room h =
@@ -207,7 +207,7 @@ module _ (row : List ℕ) (tracks : ℕ) (out₀ : List ℕ) (to : ℕ) {listed 
       let w : Writing out₀ to all out end (0 ∷ []) = writing-more out₀ to all entries (0 ∷ []) (writing-first out₀ to all) l (rw same at p) (rw same at q) in
       writing-last out₀ to all [] (writing-kept out₀ to all true 0 [] w h refl) refl
 
--- One of so many parts of a size.
+-- n parts of one size are n - 1 parts and one more.
 pub mul-less : (left size : ℕ) → 0 < left → left * size ≡ (left - 1) * size + size
 mul-less zero size h = absurd (omega arith)
 mul-less (suc left) size h =

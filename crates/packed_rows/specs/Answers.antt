@@ -1,5 +1,5 @@
--- What each call answers, and what its lent output then holds: FORMAT.md, F1 to F9 (document 01, "Refusal numbers and their
--- order"). In each answer the refusals stand in the order in which they are given.
+-- The answer of each call, and what its lent output then holds: FORMAT.md, F1 to F9 (document 01, "Refusal numbers and their order"). Each
+-- definition checks the refusals in the order in which they are given.
 use Prim.Native.Nat.{ℕ, _-_}
 use mathlib.Core.List.{List, [], _∷_, _++_}
 use mathlib.Core.Bool.{Bool, cond, not, _&&_}
@@ -21,7 +21,7 @@ use Rattle.packed_rows.specs.declared.Packing.the-variants.{Packed, Refu
 use Rattle.packed_rows.specs.declared.CellAnswer.{CellAnswer}
 use Rattle.packed_rows.specs.declared.CellAnswer.the-variants.{Found, Refused as CellRefused}
 
--- Refusal 15 of a stream, by its reading; F2 for the place.
+-- The verdict of a reading: refusal 15 if the stream is broken; F2 for its place.
 abbrev pub verdictOfReading : Reading → Verdict
 verdictOfReading (brokenAt p) = Refused (refusal Stream p)
 verdictOfReading (whole rows) = Accepted
@@ -32,19 +32,19 @@ checkAnswer stream rows tracks =
     cond (not (sizesFit rows tracks)) (Refused (refusal Sizes 0))
     (verdictOfReading (readStream rows tracks stream))
 
--- A verdict, and then the length that is written.
+-- The refusal of a verdict, or the length written if it has none.
 abbrev pub unpackedIf : Verdict → ℕ → Unpacking
 unpackedIf Accepted n = Unpacked n
 unpackedIf (Refused r) n = UnpackingRefused r
 
--- F4: unpacking into so much room: 16, 17, 15.
+-- F4: unpacking into the given room: 16, 17, 15.
 abbrev pub unpackAnswer : List ℕ → ℕ → ℕ → ℕ → Unpacking
 unpackAnswer stream rows tracks room =
     cond (not (sizesFit rows tracks)) (UnpackingRefused (refusal Sizes 0))
     (cond (ltb room (cellBytes rows tracks)) (UnpackingRefused (refusal Room (cellBytes rows tracks)))
     (unpackedIf (verdictOfReading (readStream rows tracks stream)) (cellBytes rows tracks)))
 
--- F8: what an output then holds: on success what is written, and behind it what stood there; on a refusal all stays.
+-- F8: the output after a call: on success what is written and then what was there before; on a refusal it is unchanged.
 abbrev pub outputUnpacked : Unpacking → List ℕ → List ℕ → List ℕ
 outputUnpacked (Unpacked n) written out = written ++ drop n out
 outputUnpacked (UnpackingRefused r) written out = out
@@ -57,11 +57,11 @@ abbrev pub unpackOutput : List ℕ → ℕ → ℕ → List ℕ → List ℕ
 unpackOutput stream rows tracks out =
     outputUnpacked (unpackAnswer stream rows tracks (length out)) (cellsRead rows tracks stream) out
 
--- 17, with the packed length for its place; else the packed length (W4).
+-- 17 if the room is less than the packed length, with the packed length as its place; else the packed length (W4).
 abbrev pub packedIf : ℕ → ℕ → Packing
 packedIf needed room = cond (ltb room needed) (PackingRefused (refusal Room needed)) (Packed needed)
 
--- F5: packing into so much room: 16, 17.
+-- F5: packing into the given room: 16, 17.
 abbrev pub packAnswer : List ℕ → ℕ → ℕ → ℕ → Packing
 packAnswer cells rows tracks room =
     cond (not (sizesFit rows tracks && eqb (length cells) (cellBytes rows tracks))) (PackingRefused (refusal Sizes 0))
@@ -71,7 +71,7 @@ abbrev pub packOutput : List ℕ → ℕ → ℕ → List ℕ → List ℕ
 packOutput cells rows tracks out =
     outputPacked (packAnswer cells rows tracks (length out)) (packedStream (rowsOf rows tracks cells)) out
 
--- The packer's stream of the pattern that was read, into so much room: 15, 17.
+-- The answer of repacking a reading into the given room: 15, 17.
 abbrev pub repackOfReading : Reading → ℕ → ℕ → Packing
 repackOfReading (brokenAt p) tracks room = PackingRefused (refusal Stream p)
 repackOfReading (whole rows) tracks room = packedIf (packedLength (rowsFrom tracks rows)) room
@@ -87,11 +87,11 @@ repackStreamOutput stream rows tracks out =
     outputPacked (repackStreamAnswer stream rows tracks (length out))
     (packedStream (rowsFrom tracks (entriesRead (readStream rows tracks stream)))) out
 
--- Rows are counted from 0, tracks from 1.
+-- Whether a pattern has this row, counted from 0, and this track, counted from 1.
 abbrev pub cellThere : ℕ → ℕ → ℕ → ℕ → Bool
 cellThere rows tracks row track = ltb row rows && (leb 1 track && leb track tracks)
 
--- One cell of what was read.
+-- The cell of a reading at a row and a track, or refusal 15.
 abbrev pub cellOfReading : Reading → ℕ → ℕ → ℕ → CellAnswer
 cellOfReading (brokenAt p) tracks row track = CellRefused (refusal Stream p)
 cellOfReading (whole rows) tracks row track = Found (shownCell (getD (getD (rowsFrom tracks rows) row []) (track - 1) emptyCell))
@@ -103,7 +103,7 @@ cellOf stream rows tracks row track =
     (cond (not (cellThere rows tracks row track)) (CellRefused (refusal NotThere 0))
     (cellOfReading (readStream rows tracks stream) tracks row track))
 
--- F1: what unpacking and packing answer, in numbers: the value is the length written.
+-- F1: the answers of unpacking and packing in numbers: the value is the length written.
 abbrev pub unpackingNumbers : Unpacking → List ℕ
 unpackingNumbers (Unpacked n) = acceptedNumbers (n ∷ [])
 unpackingNumbers (UnpackingRefused r) = refusedNumbers r 1
@@ -112,8 +112,8 @@ abbrev pub packingNumbers : Packing → List ℕ
 packingNumbers (Packed n) = acceptedNumbers (n ∷ [])
 packingNumbers (PackingRefused r) = refusedNumbers r 1
 
--- F1, N1 to N4: what the question for a cell answers, in numbers: the values are the note's four numbers, the instrument and the two
--- commands with their parameters.
+-- F1, N1 to N4: the answer to a query for a cell in numbers: the values are the note's four numbers, the instrument and the two commands
+-- with their parameters.
 abbrev pub cellNumbers : CellAnswer → List ℕ
 cellNumbers (Found c) = acceptedNumbers (cellValues c)
 cellNumbers (CellRefused r) = refusedNumbers r 9

@@ -1,4 +1,4 @@
--- The terms that the theorems of proofs/Theorems.antt use beside those of the reader and the packer. None of them reads a stream, but for
+-- The terms that the theorems of proofs/Theorems.antt use besides those of the reader and the packer. None of them reads a stream, except
 -- the last record, which is about the answers of two calls.
 use Prim.Native.Nat.{ℕ, _<_}
 use mathlib.Core.Path.{_≡_}
@@ -14,7 +14,7 @@ use Rattle.packed_rows.specs.Answers.{packAnswer, packOutput, unpackAnsw
 use Rattle.packed_rows.specs.declared.Packing.the-variants.{Packed}
 use Rattle.packed_rows.specs.declared.Unpacking.the-variants.{Unpacked}
 
--- The test holds of every one.
+-- The test holds for every element.
 abbrev pub every : {A : Type 0} → (A → Bool) → List A → Bool
 every test [] = true
 every test (x ∷ xs) = test x && every test xs
@@ -23,42 +23,42 @@ every test (x ∷ xs) = test x && every test xs
 abbrev pub allSound : ℕ → List (List Entry) → Bool
 allSound tracks rows = every (every (soundEntry tracks)) rows
 
--- R1 to R7 with no reader: so many rows, each of sound entries and a row end, one after the other.
+-- R1 to R7 without a reader: the stream is exactly the given number of rows, each of sound entries and a row end.
 pub record SoundStream (rows tracks : ℕ) (stream : List ℕ) (entries : List (List Entry)) : Type 0 where
   pub count : length entries ≡ rows
   pub sound : allSound tracks entries ≡ true
   pub bytes : stream ≡ streamOf entries
 
--- W6: row by row the packer's entries for that row, each once and unchanged, in some order, and then the row end.
+-- W6: the stream is, row by row, the packer's entries for that row, each once and unchanged, in some order, and then the row end.
 pub data Reordered : List Row → List ℕ → Type 0 where
   end : Reordered [] []
   next : {row : Row} {rows : List Row} {stream : List ℕ} (entries : List Entry)
       → List·Permᴰ entries (packedEntries row) → Reordered rows stream
       → Reordered (row ∷ rows) (rowStream entries ++ stream)
 
--- R3: an entry is of this track and names this field (0 to 5).
+-- R3: the entry has this track and names this field (0 to 5).
 abbrev pub names : ℕ → ℕ → Entry → Bool
 names track field e = eqb (e .track) track && getD (named (e .mask)) field false
 
--- No entry of these does.
+-- No entry of the list has this track and names this field.
 abbrev pub noneNames : ℕ → ℕ → List Entry → Type 0
 noneNames track field entries = (before after : List Entry) (e : Entry) → entries ≡ before ++ (e ∷ after) → names track field e ≡ false
 
--- R4: the value that an entry stores in a field that it names: as many named fields stand before it as the mask's lower bits name.
+-- R4: the value that an entry stores in a field that it names. The fields named by lower bits of the mask come before it.
 abbrev pub storedIn : Entry → ℕ → ℕ
 storedIn e field = getD (e .fields) (count (take field (named (e .mask)))) 0
 
--- R5, R6: what the last entry of the track that names the field stored, else 0.
+-- R5, R6: the value that the last entry of the track that names the field stores, else 0.
 pub data LastStored (track field : ℕ) (entries : List Entry) : ℕ → Type 0 where
   never : noneNames track field entries → LastStored track field entries 0
   by : (before after : List Entry) (e : Entry) → entries ≡ before ++ (e ∷ after)
       → names track field e ≡ true → noneNames track field after → LastStored track field entries (storedIn e field)
 
--- F2 with no reader: what is wrong after some full rows and the entries of an unfinished one, where these bytes follow. One case for each
--- of document 01's three places of 15: the first byte of the faulty entry, the first byte left over after the last row end, and the
--- stream's length if row ends lack.
+-- F2 without a reader: the fault of a stream after some full rows and the entries of an unfinished row, with the bytes that follow. There
+-- is one case for each of document 01's three places of 15: the "first byte of the faulty entry", the "first byte left over after the last
+-- row end", and the stream's length if row ends are missing.
 pub data StreamFault (rows tracks : ℕ) (full : List (List Entry)) (unfinished : List Entry) (after : List ℕ) : Type 0 where
-  -- Rows are left and bytes follow, which begin with neither a row end nor a sound entry.
+  -- Rows are left, and the bytes that follow begin with neither a row end nor a sound entry.
   faultyEntry : length full < rows → (after ≡ [] → ⊥) → ((s : List ℕ) → after ≡ 0 ∷ s → ⊥)
       → ((e : Entry) (s : List ℕ) → soundEntry tracks e ≡ true → after ≡ entryBytes e ++ s → ⊥) → StreamFault rows tracks full unfinished after
   -- The rows are full, no row is unfinished, and bytes follow.
@@ -66,8 +66,7 @@ pub data StreamFault (rows tracks : ℕ) (full : List (List Entry)) (unfinished 
   -- Rows are left and nothing follows: the place is the stream's length.
   rowEndsLack : length full < rows → after ≡ [] → StreamFault rows tracks full unfinished after
 
--- F2 with no reader: up to the place the stream is some whole rows and the entries of an unfinished one, all sound; and there it is
--- broken.
+-- F2 without a reader: up to the place the stream is some full rows and the entries of an unfinished row, all sound; there it is broken.
 pub record StreamBroken (rows tracks : ℕ) (stream : List ℕ) (place : ℕ) : Type 0 where
   pub full : List (List Entry)
   pub unfinished : List Entry
@@ -78,13 +77,13 @@ pub record StreamBroken (rows tracks : ℕ) (stream : List ℕ) (place : ℕ) : 
   pub there : length (streamOf full ++ joined (map entryBytes unfinished)) ≡ place
   pub why : StreamFault rows tracks full unfinished after
 
--- What packing cells into an output wrote: as many of the output's first bytes as the packed length.
+-- What packing writes to an output: its first bytes, as many as the packed length.
 abbrev pub writtenTo : List ℕ → ℕ → ℕ → List ℕ → List ℕ
 writtenTo cells rows tracks out = take (packedLength (rowsOf rows tracks cells)) (packOutput cells rows tracks out)
 
--- Cells are packed into one output, and what was written there is unpacked into another. Packing answers the packed length; the packer's
--- stream is written, and the rest of the output stays. Unpacking answers the length of the cells; the other output then begins with the
--- cells, and the rest of it stays.
+-- Cells are packed into one output, and what was written is unpacked into another. Packing answers the packed length, and writes the
+-- packer's stream; the rest of the output is unchanged. Unpacking answers the length of the cells, and writes the cells; the rest of the
+-- other output is unchanged.
 pub record PackedAndUnpacked (rows tracks : ℕ) (cells out back : List ℕ) : Type 0 where
   pub packs : packAnswer cells rows tracks (length out) ≡ Packed (packedLength (rowsOf rows tracks cells))
   pub packed : packOutput cells rows tracks out ≡ packedStream (rowsOf rows tracks cells) ++ drop (packedLength (rowsOf rows tracks cells)) out

@@ -1,4 +1,4 @@
-// Packed rows: check, unpack, pack and repack a stream, and one cell of it.
+// Packed rows: check, unpack, pack and repack a stream, and read one cell of it.
 mod packer;
 mod reader;
 mod repacker;
@@ -32,32 +32,32 @@ ghost use Rattle.packed_rows.specs.Answers.{packedIf, outputPacked, chec
 ghost use Rattle.packed_rows.specs.Answers.{packAnswer, packOutput, repackStreamAnswer, repackStreamOutput, cellThere, cellOf};
 ghost use Rattle.packed_rows.specs.Answers.{verdictOfReading, unpackingNumbers, packingNumbers, cellNumbers};
 
-// What unpacking answers: the length written, or a refusal.
+// The answer of unpacking: the length written, or a refusal.
 pub enum Unpacking {
     Unpacked(usize),
     Refused(Refusal),
 }
 
-// What packing and repacking answer: the packed length, or a refusal.
+// The answer of packing and repacking: the packed length, or a refusal.
 pub enum Packing {
     Packed(usize),
     Refused(Refusal),
 }
 
-// What the question for one cell answers.
+// The answer to a query for one cell.
 pub enum CellAnswer {
     Found(Cell),
     Refused(Refusal),
 }
 
-// Whether a pattern may have so many rows and tracks.
+// Whether a pattern may have these rows and tracks.
 fn sizes_fit(rows: usize, tracks: usize) -> bool
     ensures { λ r. ⌜ r ≡ sizesFit rows tracks ⌝ }
 {
     (rows <= 65535) & ((4 <= tracks) & ((tracks <= 254) & (tracks % 2 == 0)))
 }
 
-// Whether a pattern of so many rows and tracks has this row, from 0, and this track, from 1.
+// Whether a pattern with these rows and tracks has this row, counted from 0, and this track, counted from 1.
 fn cell_there(rows: usize, tracks: usize, row: usize, track: usize) -> bool
     ensures { λ r. ⌜ r ≡ cellThere rows tracks row track ⌝ }
 {
@@ -112,7 +112,7 @@ pub fn pack(cells: &[u8], rows: usize, tracks: usize, out: &mut [u8]) -> Packing
     Packing::Packed(needed)
 }
 
-// Repacks an accepted stream into the room that is left: 17. `line` is room for a row.
+// Repacks an accepted stream: 17. `line` is room for a row.
 fn repack_accepted(
     stream: &[u8],
     rows: usize,
@@ -148,7 +148,7 @@ pub fn repack(stream: &[u8], rows: usize, tracks: usize, out: &mut [u8]) -> Pack
     repack_accepted(stream, rows, tracks, &mut line[..width], out)
 }
 
-// The cell at a place of a row's bytes, as it is shown.
+// The shown cell at a place of a row's bytes.
 fn shown_at(row: &[u8], at: usize) -> Cell
     requires { ⌜ at + 6 ≤ length (now row) ⌝ }
     ensures { λ r. ⌜ r ≡ shownCell (cellAt (now (row .entry)) at) ⌝ }
@@ -163,7 +163,7 @@ fn shown_at(row: &[u8], at: usize) -> Cell
     ])
 }
 
-// The cell of an accepted stream at a row, from 0, and a track, from 1. `line` is room for a row.
+// The cell of an accepted stream at a row, counted from 0, and a track, counted from 1. `line` is room for a row.
 fn read_cell(
     stream: &[u8],
     rows: usize,

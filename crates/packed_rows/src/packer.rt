@@ -9,14 +9,14 @@ ghost use Rattle.packed_rows.specs.Entries.{rowStream};
 ghost use Rattle.packed_rows.specs.Packer.{packedEntry, packedEntries, packedStream, packedLength};
 ghost use Rattle.packed_rows.specs.Steps.{filledTracks, oneIf, cellAt, TracksInside, entriesAt};
 
-// 1 where a byte is not 0, else 0.
+// 1 if a byte is not 0, else 0.
 fn one_if(b: u8) -> u8
     ensures { λ r. ⌜ (r ≡ oneIf b) × (r < 2) ⌝ }
 {
     if b == 0 { 0 } else { 1 }
 }
 
-// How many of at most 255 bytes are not 0.
+// The number of bytes that are not 0, of at most 255.
 fn count_few(bytes: &[u8]) -> u8
     requires { ⌜ length (now bytes) < 256 ⌝ }
     ensures { λ r. ⌜ r ≡ length (nonZeros (now (bytes .entry))) ⌝ }
@@ -30,7 +30,7 @@ fn count_few(bytes: &[u8]) -> u8
     count
 }
 
-// How many bytes are not 0, counted by blocks that a byte can count.
+// The number of bytes that are not 0. Each block of bytes is counted in a u8.
 fn non_zero_bytes(bytes: &[u8]) -> usize
     ensures { λ r. ⌜ r ≡ length (nonZeros (now (bytes .entry))) ⌝ }
 {
@@ -56,7 +56,7 @@ fn quad(bytes: &[u8], at: usize) -> usize
         + 16777216 * wide(bytes[at + 3])
 }
 
-// Whether the cell at `at` is not empty: its first four fields and its last four, two of which are the same.
+// Whether the cell at `at` is non-empty: its first four fields and its last four, two of which are in both.
 fn filled(cells: &[u8], at: usize) -> bool
     requires { ⌜ at + 6 ≤ length (now cells) ⌝ }
     ensures { λ r. ⌜ r ≡ nonEmpty (cellAt (now (cells .entry)) at) ⌝ }
@@ -64,7 +64,7 @@ fn filled(cells: &[u8], at: usize) -> bool
     quad(cells, at) + quad(cells, at + 2) != 0
 }
 
-// How many of the cells are not empty.
+// The number of non-empty cells.
 fn filled_cells(cells: &[u8], n: usize) -> usize
     requires { ⌜ length (now cells) ≡ n * 6 ⌝ }
     ensures { λ r. ⌜ (r ≡ nonEmptyCells (groupsOf n 6 (now (cells .entry)))) × (r ≤ n) ⌝ }
@@ -86,7 +86,7 @@ pub fn packed_length(cells: &[u8], rows: usize, tracks: usize) -> usize
     rows + 2 * filled_cells(cells, rows * tracks) + non_zero_bytes(cells)
 }
 
-// Lists the tracks of a row whose cells are not empty, counted from 0, and answers how many they are.
+// Lists the tracks of a row whose cells are non-empty, counted from 0, and returns their number.
 fn list_filled(row: &[u8], tracks: usize, list: &mut [u8]) -> usize
     requires { ⌜ (length (now row) ≡ tracks * 6) × (tracks < 255) × (tracks ≤ length (now list)) ⌝ }
     ensures { λ r. ⌜ (take r (now (list .exit)) ≡ filledTracks 0 (rowOf tracks (now (row .entry)))) × (r ≤ tracks) ⌝ }
@@ -116,7 +116,8 @@ fn mask_of(cells: &[u8], at: usize) -> u8
                                 + 2 * (one_if(cells[at + 4]) + 2 * one_if(cells[at + 5])))))
 }
 
-// Writes the fields of the cell at `from` that are not 0 to `to`, and answers the place behind them, which it may write too.
+// Writes the fields of the cell at `from` that are not 0 to `to`, and returns the place after them. The byte at that place may be changed
+// too.
 fn write_fields(cells: &[u8], from: usize, out: &mut [u8], to: usize) -> usize
     requires { ⌜ (from + 6 ≤ length (now cells)) × (to + length (nonZeros (cellAt (now cells) from)) < length (now out)) ⌝ }
     ensures { λ r. ⌜ (r ≡ to + length (nonZeros (cellAt (now (cells .entry)) from)))
@@ -133,7 +134,7 @@ fn write_fields(cells: &[u8], from: usize, out: &mut [u8], to: usize) -> usize
     at
 }
 
-// Writes the entries of the listed tracks of a row to `to`, and answers the place behind them, which it may write too.
+// Writes the entries of the listed tracks of a row to `to`, and returns the place after them. The byte at that place may be changed too.
 fn write_entries(row: &[u8], list: &[u8], n: usize, out: &mut [u8], to: usize) -> usize
     requires { ⌜ (length (now row) < 1530) × (n ≤ length (now list)) × TracksInside (now row) (take n (now list))
         × (to + length (entriesAt (now row) (take n (now list))) < length (now out)) ⌝ }
@@ -153,7 +154,7 @@ fn write_entries(row: &[u8], list: &[u8], n: usize, out: &mut [u8], to: usize) -
     at
 }
 
-// Writes the packer's entries for a row and the row end to `to`, and answers the place behind them.
+// Writes the packer's entries for a row and the row end to `to`, and returns the place after them.
 pub fn write_row(row: &[u8], tracks: usize, list: &mut [u8], out: &mut [u8], to: usize) -> usize
     requires { ⌜ (length (now row) ≡ tracks * 6) × (tracks < 255) × (tracks ≤ length (now list))
         × (to + length (rowStream (packedEntries (rowOf tracks (now row)))) ≤ length (now out)) ⌝ }
@@ -166,7 +167,7 @@ pub fn write_row(row: &[u8], tracks: usize, list: &mut [u8], out: &mut [u8], to:
     end + 1
 }
 
-// Writes the packer's stream of a pattern into an output of just its length.
+// Writes the packer's stream of a pattern into an output of exactly its length.
 pub fn write_rows(cells: &[u8], rows: usize, tracks: usize, out: &mut [u8])
     requires { ⌜ (length (now cells) ≡ rows * (tracks * 6)) × (tracks < 255) × (length (now out) ≡ length (packedStream (rowsOf rows tracks (now cells)))) ⌝ }
     ensures { λ r. ⌜ now (out .exit) ≡ packedStream (rowsOf rows tracks (now (cells .entry))) ⌝ }

@@ -1,4 +1,4 @@
-// Reading packed rows: what stands at a place of a stream, the check, and carrying entries out.
+// Reading packed rows: the row end or entry at a place of a stream, the check, and carrying entries out.
 use refusal::Reason;
 use refusal::Verdict;
 use refusal::refuse;
@@ -14,7 +14,7 @@ ghost use Rattle.packed_rows.specs.Answers.{verdictOfReading};
 ghost use Rattle.packed_rows.specs.Steps.{entryLengths, entryLength, pieceLength, frontLength, storedFrom, storedAt};
 ghost use Rattle.packed_rows.specs.Steps.{RowAhead, Carried, Loaded, Skipped, MoreRows, AfterRows};
 
-// How long an entry with each sound mask is, in bytes: the track, the mask and the named fields.
+// The length in bytes of an entry with each sound mask: the track, the mask and the named fields.
 const LENGTHS: [u8; 64] = [
     2,
     3,
@@ -89,7 +89,7 @@ pub fn wide(x: u8) -> usize
     x as usize
 }
 
-// How long an entry with this mask is; 0 where the mask is not sound.
+// The length of an entry with this mask; 0 if the mask is not sound.
 fn entry_length(mask: u8, lengths: &[u8]) -> usize
     requires { ⌜ now lengths ≡ entryLengths ⌝ }
     ensures { λ r. ⌜ (r ≡ entryLength mask) × (r < 9) ⌝ }
@@ -101,7 +101,7 @@ fn entry_length(mask: u8, lengths: &[u8]) -> usize
     }
 }
 
-// How long a row end or an entry is that begins with these two bytes.
+// The length of a row end or an entry that begins with these two bytes.
 fn piece_length(track: u8, mask: u8, lengths: &[u8]) -> usize
     requires { ⌜ now lengths ≡ entryLengths ⌝ }
     ensures { λ r. ⌜ r ≡ pieceLength track mask ⌝ }
@@ -113,7 +113,7 @@ fn piece_length(track: u8, mask: u8, lengths: &[u8]) -> usize
     }
 }
 
-// How many bytes the row end or the sound entry at `at` takes; 0 at a fault and at the stream's end.
+// The length of the row end or sound entry at `at`; 0 at a fault and at the stream's end.
 fn front_length(s: &[u8], at: usize, tracks: usize, lengths: &[u8]) -> usize
     requires { ⌜ now lengths ≡ entryLengths ⌝ }
     ensures { λ r. ⌜ r ≡ frontLength (front tracks (drop at (now (s .entry)))) ⌝ }
@@ -138,7 +138,7 @@ fn front_length(s: &[u8], at: usize, tracks: usize, lengths: &[u8]) -> usize
     length
 }
 
-// Whether the stream rules hold, and if not, where the stream is broken.
+// Whether the stream rules hold; if not, where the stream is broken.
 pub fn check_stream(s: &[u8], rows: usize, tracks: usize) -> Verdict
     ensures { λ r. ⌜ r ≡ verdictOfReading (readStream rows tracks (now (s .entry))) ⌝ }
 {
@@ -174,15 +174,15 @@ fn clear(out: &mut [u8])
     }
 }
 
-// The first byte where the bit is 1, else the second.
+// The first byte if the bit is 1, else the second.
 fn pick(bit: u8, value: u8, old: u8) -> u8
     ensures { λ r. ⌜ r ≡ cond (eqb bit 1) value old ⌝ }
 {
     if bit == 1 { value } else { old }
 }
 
-// Stores those of the next `n` fields that a mask names, which stand at `from`, from `to` on; the others stay. Answers the place
-// behind the named ones.
+// Stores the fields that a mask names, out of `n` fields at `to`. Their values are at `from`; the other fields are unchanged. Returns the
+// place after the values.
 fn store_some(s: &[u8], from: usize, mask: u8, n: usize, out: &mut [u8], to: usize) -> usize
     requires { ⌜ (from + count (bits n mask) < length (now s)) × (to + n ≤ length (now out)) ⌝ }
     ensures { λ r. ⌜ (r ≡ from + count (bits n mask)) × (now (out .exit) ≡ storedFrom (bits n mask) (drop from (now (s .entry))) (now (out .entry)) to) ⌝ }
@@ -202,8 +202,8 @@ fn store_some(s: &[u8], from: usize, mask: u8, n: usize, out: &mut [u8], to: usi
     next
 }
 
-// Stores the fields that a mask names, which stand at `from`, in the cell at `to`; the others stay. Most masks name none of
-// command 2 and parameter 2.
+// Stores the fields that a mask names, which are at `from`, in the cell at `to`; the others are unchanged. Most masks name neither command
+// 2 nor parameter 2.
 fn store_fields(s: &[u8], from: usize, mask: u8, out: &mut [u8], to: usize)
     requires { ⌜ (from + fieldsNamed mask < length (now s)) × (to + 6 ≤ length (now out)) ⌝ }
     ensures { λ r. ⌜ now (out .exit) ≡ storedAt (now (s .entry)) from mask (now (out .entry)) to ⌝ }
@@ -215,7 +215,7 @@ fn store_fields(s: &[u8], from: usize, mask: u8, out: &mut [u8], to: usize)
     }
 }
 
-// Carries out the entries from `start` to the next row end on a row, and answers the place behind the row end.
+// Carries out the entries from `start` to the next row end on a row, and returns the place after the row end.
 fn carry_row(s: &[u8], start: usize, row: &mut [u8]) -> usize
     requires { ⌜ RowAhead (now s) start (length (now row)) ⌝ }
     ensures { λ r. ⌜ Carried (now (s .entry)) start (now (row .entry)) r (now (row .exit)) ⌝ }
@@ -247,7 +247,7 @@ fn carry_rows(s: &[u8], rows: usize, tracks: usize, out: &mut [u8])
     }
 }
 
-// Carries out all entries of an accepted stream on an output of just the cells' size.
+// Carries out all entries of an accepted stream on an output of exactly the cells' size.
 pub fn unpack_rows(s: &[u8], rows: usize, tracks: usize, out: &mut [u8])
     requires { ⌜ (verdictOfReading (readStream rows tracks (now s)) ≡ Accepted) × (length (now out) ≡ rows * (tracks * 6)) × (tracks < 256) ⌝ }
     ensures { λ r. ⌜ now (out .exit) ≡ cellsRead rows tracks (now (s .entry)) ⌝ }
@@ -256,7 +256,7 @@ pub fn unpack_rows(s: &[u8], rows: usize, tracks: usize, out: &mut [u8])
     carry_rows(s, rows, tracks, out);
 }
 
-// Carries out the row at `at` on zeros, and answers the place behind its row end.
+// Carries out the row at `at` on zeros, and returns the place after its row end.
 pub fn load_row(s: &[u8], at: usize, row: &mut [u8]) -> usize
     requires { ⌜ RowAhead (now s) at (length (now row)) ⌝ }
     ensures { λ r. ⌜ Loaded (now (s .entry)) at (length (now (row .entry))) r (now (row .exit)) ⌝ }
@@ -265,7 +265,7 @@ pub fn load_row(s: &[u8], at: usize, row: &mut [u8]) -> usize
     carry_row(s, at, row)
 }
 
-// The place behind the row end of the row at `start`.
+// The place after the row end of the row at `start`.
 fn skip_row(s: &[u8], start: usize) -> usize
     requires { ⌜ ((size : ℕ) × RowAhead (now s) start size) ⌝ }
     ensures { λ r. ⌜ Skipped (now (s .entry)) start r ⌝ }
@@ -278,7 +278,7 @@ fn skip_row(s: &[u8], start: usize) -> usize
     at + 1
 }
 
-// The place behind the first `n` rows of an accepted stream of more rows than that.
+// The place after the first `n` rows of an accepted stream that has more rows than that.
 pub fn skip_rows(s: &[u8], n: usize) -> usize
     requires { ⌜ MoreRows (now s) n ⌝ }
     ensures { λ r. ⌜ AfterRows (now (s .entry)) n r ⌝ }

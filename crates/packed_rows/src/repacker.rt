@@ -27,7 +27,7 @@ pub fn repacked_length(s: &[u8], rows: usize, tracks: usize, line: &mut [u8]) ->
     length
 }
 
-// Writes the packer's stream of the pattern that an accepted stream holds into an output of just its length.
+// Writes the packer's stream of the pattern that an accepted stream holds into an output of exactly its length.
 pub fn repack_rows(s: &[u8], rows: usize, tracks: usize, line: &mut [u8], out: &mut [u8])
     requires { ⌜ (verdictOfReading (readStream rows tracks (now s)) ≡ Accepted) × (length (now line) ≡ tracks * 6)
         × (tracks < 255) × (length (now out) ≡ packedLength (rowsRead (now s) rows tracks)) ⌝ }
