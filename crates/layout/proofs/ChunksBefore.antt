@@ -1,5 +1,5 @@
--- The chunks before a place, and where the covered ones among them stand: the rules of the next chunk are the same by either, and
--- one more chunk is one more place.
+-- The chunks before a place, and the spans of the covered ones: the rules of the next chunk are the same by either, and one more chunk is
+-- one more span.
 use Prim.Native.Nat.{ℕ}
 use mathlib.Core.Path.{_≡_, refl, sym, ap, _∙_}
 use mathlib.Core.List.{List, [], _∷_, _++_}
@@ -14,7 +14,7 @@ use Rattle.layout.specs.Outlines.{standing, spanOf, spansOf, mandatoryTh
 use Rattle.layout.specs.declared.ChunkSpan.{ChunkSpan}
 use Rattle.layout.specs.Steps.{presentIn, putIn, placedRules, allPresent}
 
--- A chunk has a place where it occurs.
+-- A chunk has a span exactly if it occurs.
 pub present-of : (k : ℕ) (cs : List ChunkHeader) → (spanOf k cs) .present ≡ occurs k cs
 present-of k [] = refl
 present-of k (c ∷ cs) = go (eqb (c .identifier) k) refl (present-of k cs)
@@ -34,7 +34,7 @@ present-all cs =
     )
 
 module _ (cs : List ChunkHeader) (identifier : ℕ) where
-  -- Of a test for one identifier, and what occurs under it.
+  -- The test for one identifier, and whether it occurs.
   present-one : (k : ℕ) → (eqb identifier k && (spanOf k cs) .present) ≡ (eqb identifier k && occurs identifier cs)
   present-one k = go (eqb identifier k) refl
     where
@@ -60,7 +60,7 @@ module _ (cs : List ChunkHeader) (identifier : ℕ) where
 pub rules-placed : (m : List ℕ) (cs : List ChunkHeader) (at : ℕ) → firstBroken (placedRules m at (spansOf cs)) ≡ firstBroken (chunkRules m cs at)
 rules-placed m cs at = rw (present-in cs (number32 m at), present-of infoIdentifier cs)
 
--- One chunk more, behind those that do not have its identifier.
+-- One more chunk, after chunks that do not have its identifier.
 behind : (a b o : Bool) (x y z z′ : ChunkSpan) → (b && (a || o)) ≡ false → ((b && o) ≡ false → z′ ≡ cond b y z) → cond a x z′ ≡ cond b y (cond a x z)
 behind true true o x y z z′ h more = absurd (true≢false h)
 behind true false o x y z z′ h more = refl

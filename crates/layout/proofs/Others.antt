@@ -1,4 +1,4 @@
--- Chunks that are stepped over: their rules hold, wherever the covered ones are, and no place changes.
+-- Chunks that are not covered: their rules hold, whatever the spans of the covered ones, and no span changes.
 use Prim.Native.Nat.{ℕ, zero, suc, _+_, _≤_}
 use mathlib.Core.Path.{_≡_, refl, sym}
 use mathlib.Core.List.{List}
@@ -57,7 +57,7 @@ module _ (m : List ℕ) (at : ℕ) (is : isOther m at ≡ true) where
   pub other-end : at + 8 + number32 m (at + 4) ≤ length m
   other-end = leb-true _ _ room
 
-  -- It has none of the eight identifiers.
+  -- The chunk has none of the eight identifiers.
   n1 : eqb (number32 m at) nameIdentifier ≡ false
   n1 = or-left (eqb (number32 m at) nameIdentifier) _ uncovered
 
@@ -107,7 +107,7 @@ module _ (m : List ℕ) (at : ℕ) (is : isOther m at ≡ true) where
   pub other-stays : (p : ChunkSpans) (span : ChunkSpan) → p ≡ putIn p (number32 m at) span
   other-stays p span = simp (n1, n2, n3, n4, n5, n6, n7, n8)
 
--- One more of them.
+-- One more such chunk.
 pub others-more : (m : List ℕ) (n at end : ℕ) → OthersTo m n at end → isOther m end ≡ true → OthersTo m (suc n) at (end + 8 + number32 m (end + 4))
 others-more m zero at end e is = rw (e) (is, refl)
 others-more m (suc n) at end (first, more) is = (first, others-more m n (at + 8 + number32 m (at + 4)) end more is)

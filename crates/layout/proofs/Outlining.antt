@@ -1,4 +1,4 @@
--- The outline of a module, by its header's verdict and by what the walk over the chunks gives.
+-- The outline of a module, by the verdict of its header and the result of the walk over its chunks.
 use Prim.Native.Nat.{ℕ, _≤_}
 use mathlib.Core.Path.{_≡_, sym, ap, _∙_}
 use mathlib.Core.List.{List}

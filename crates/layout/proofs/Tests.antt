@@ -1,8 +1,8 @@
--- Tests of the code against tests of the rules.
+-- The tests of the code compared with the tests of the rules.
 use mathlib.Core.Path.{_≡_, refl, sym}
 use mathlib.Core.Bool.{Bool, true, false, not, _&&_, _||_}
 
--- A chunk that needs INFO where INFO is not there, and the rule that one is not needed or the other is there.
+-- A chunk that needs INFO without INFO before it, and the rule that it does not need INFO or INFO is there.
 pub without-fails : (a b : Bool) → (a && not b) ≡ true → (not a || b) ≡ false
 without-fails true true e = sym e
 without-fails true false e = refl

@@ -1,4 +1,4 @@
--- The loop over the chunks: the chunks from a place on, behind those whose places are known, are the module's chunks.
+-- The loop over the chunks: the chunks from a place on, after those whose spans are known, are the module's chunks.
 use Prim.Native.Nat.{ℕ, zero, suc, _+_, _<_, _≤_}
 use mathlib.Core.Path.{_≡_, refl, sym, ap, _∙_}
 use mathlib.Core.List.{List, [], _∷_, _++_}
@@ -20,12 +20,12 @@ use Rattle.layout.specs.declared.walk.Walked.the-variants.{Whole, Refuse
 use Rattle.layout.proofs.ChunksBefore.{rules-placed, put-more}
 use Rattle.layout.proofs.Others.{other-end, other-holds, other-stays}
 
--- An accepted chunk is no second one of a covered kind.
+-- An accepted chunk is not a second one with a covered identifier.
 not-repeated : (m : List ℕ) (before : List ChunkHeader) (at : ℕ) → firstBroken (chunkRules m before at) ≡ Accepted
     → (covered (number32 m at) && occurs (number32 m at) before) ≡ false
 not-repeated m before at e = not-true (covered (number32 m at) && occurs (number32 m at) before) (rules-held (chunkRules m before at) e .1 .1 .1 .0)
 
--- Where the loop stands: behind these chunks, with steps enough to come to the end.
+-- The state of the loop: the chunks before the place, and enough steps to reach the end.
 pub record Walking (m : List ℕ) (p : ChunkSpans) (at : ℕ) : Type 0 where
   pub steps : ℕ
   pub before : List ChunkHeader
@@ -84,7 +84,7 @@ module _ (m : List ℕ) (p : ChunkSpans) (at : ℕ) (w : Walking m p at) where
         same = next .2;
       }
 
--- Chunks that are stepped over move the loop on, and no place.
+-- Chunks that are not covered advance the loop and change no span.
 pub walking-others : (m : List ℕ) (p : ChunkSpans) (n at end : ℕ) → OthersTo m n at end → Walking m p at → Walking m p end
 walking-others m p zero at end e w = rw (← e) w
 walking-others m p (suc n) at end (is, more) w =

@@ -1,5 +1,5 @@
--- FORMAT.md, F11 to F13: the outline of a module: its version, INFO's numbers, and where the covered chunks stand; or the refusal
--- that comes first among 1 to 10.
+-- FORMAT.md, F11 to F13: the outline of a module: its version, INFO's numbers and the spans of the covered chunks, or the first refusal of
+-- 1 to 10.
 use Prim.Native.Nat.{ℕ, _+_}
 use mathlib.Core.List.{List, [], _∷_, _++_}
 use mathlib.Core.Bool.{Bool, true, false, cond, _&&_}
@@ -20,14 +20,14 @@ use Rattle.layout.specs.declared.Layout.{Layout}
 use Rattle.layout.specs.declared.Outline.{Outline}
 use Rattle.layout.specs.declared.Outline.the-variants.{Found, Refused}
 
--- Where a chunk stands: not at all, or with its header here and so much data.
+-- The span of a chunk: an absent chunk, and a chunk with the given header.
 abbrev pub absent : ChunkSpan
 absent = record { present = false; at = 0; length = 0 }
 
 abbrev pub standing : ChunkHeader → ChunkSpan
 standing c = record { present = true; at = c .at; length = c .length }
 
--- M6: the chunk with an identifier; for a covered one there is at most one.
+-- M6: the span of the chunk with an identifier; a covered chunk occurs at most once. And the spans of all covered chunks.
 abbrev pub spanOf : ℕ → List ChunkHeader → ChunkSpan
 spanOf identifier [] = absent
 spanOf identifier (c ∷ cs) = cond (eqb (c .identifier) identifier) (standing c) (spanOf identifier cs)
@@ -44,7 +44,7 @@ spansOf cs = record {
   penv = spanOf penvIdentifier cs;
 }
 
--- M3, M9: version and revision stand in the header, the five numbers in INFO's data.
+-- M3, M9: version and revision are in the header, the five numbers in INFO's data.
 abbrev pub layoutWith : List ℕ → ChunkSpans → Layout
 layoutWith m p = record {
   version = byteAt m 4;
@@ -57,18 +57,18 @@ layoutWith m p = record {
   spans = p;
 }
 
--- M7: infoIdentifier and the four are mandatory.
+-- M7, document 01's "mandatory" chunks: INFO, SONG, INST, PATT and SMPL occur.
 abbrev pub mandatoryThere : List ChunkHeader → Bool
 mandatoryThere cs =
     occurs infoIdentifier cs
     && (occurs songIdentifier cs && (occurs instIdentifier cs && (occurs pattIdentifier cs && occurs smplIdentifier cs)))
 
--- F13: once the chunks are read, 8.
+-- F13: 8, after the chunks are read.
 abbrev pub outlineOf : List ℕ → Walk → Outline
 outlineOf m (stopped r) = Refused r
 outlineOf m (complete cs) = cond (mandatoryThere cs) (Found (layoutWith m (spansOf cs))) (Refused (refusal Missing (length m)))
 
--- A verdict, and then the outline.
+-- The refusal of a verdict, or the outline if it has none.
 abbrev pub outlineIf : Verdict → Outline → Outline
 outlineIf Accepted o = o
 outlineIf (VerdictRefused r) o = Refused r
@@ -77,11 +77,11 @@ outlineIf (VerdictRefused r) o = Refused r
 abbrev pub outline : List ℕ → Outline
 outline m = outlineIf (firstBroken (headerRules m)) (outlineOf m (chunks m))
 
--- A chunk's place in numbers: 1 where it is there, else 0; its header's place; the length of its data.
+-- A span in numbers: 1 if the chunk is present, else 0; the place of its header; the length of its data.
 abbrev pub placeNumbers : ChunkSpan → List ℕ
 placeNumbers p = cond (p .present) 1 0 ∷ p .at ∷ p .length ∷ []
 
--- A layout in numbers: version, revision, INFO's numbers, and the places of the covered chunks in document 01's order.
+-- A layout in numbers: version, revision, INFO's numbers, and the spans of the covered chunks in document 01's order.
 abbrev pub layoutNumbers : Layout → List ℕ
 layoutNumbers l =
     (l .version ∷ l .revision ∷ l .instruments ∷ l .samples ∷ l .songs ∷ l .patterns ∷ l .tracks ∷ [])
@@ -94,7 +94,7 @@ layoutNumbers l =
     ++ (placeNumbers (l .spans .venv)
     ++ placeNumbers (l .spans .penv))))))))
 
--- An outline in numbers: a layout has 31.
+-- An outline in numbers: a layout has 31 values.
 abbrev pub outlineNumbers : Outline → List ℕ
 outlineNumbers (Found l) = acceptedNumbers (layoutNumbers l)
 outlineNumbers (Refused r) = refusedNumbers r 31

@@ -1,4 +1,4 @@
--- Definitions that private functions cite: what the walk knows of the chunks before a place is only where the covered ones stand.
+-- Definitions for the contracts of private functions. Of the chunks before a place, the walk knows only the spans of the covered ones.
 use Prim.Native.Nat.{ℕ, zero, suc, _+_}
 use mathlib.Core.Path.{_≡_}
 use mathlib.Core.List.{List, [], _∷_}
@@ -45,7 +45,7 @@ putIn p identifier span = record {
 abbrev pub fixedLengthFits : ℕ → ℕ → Bool
 fixedLengthFits identifier length = (not (eqb identifier nameIdentifier) || eqb length 44) && (not (eqb identifier infoIdentifier) || eqb length 10)
 
--- The rules of chunkRules from the fourth on, and all of them, by where the covered chunks before the place stand.
+-- The rules of chunkRules from the fourth on, and all of them, by the spans of the covered chunks before the place.
 abbrev pub metRules : List ℕ → ℕ → ℕ → ℕ → ChunkSpans → List Rule
 metRules m at identifier length p =
     rule (not (presentIn p identifier)) Repeated at
@@ -60,7 +60,7 @@ placedRules m at p =
     ∷ rule (leb (at + 8 + number32 m (at + 4)) (length m)) ChunkCut at
     ∷ metRules m at (number32 m at) (number32 m (at + 4)) p
 
--- Whether a complete chunk that is stepped over begins at a place; and so many of them, from one place to another.
+-- Whether a complete chunk that is not covered begins at a place; and n such chunks, from one place to another.
 abbrev pub isOther : List ℕ → ℕ → Bool
 isOther m at = leb (at + 8) (length m) && (leb (at + 8 + number32 m (at + 4)) (length m) && (fourLetters m at && not (covered (number32 m at))))
 
@@ -68,12 +68,12 @@ abbrev pub OthersTo : List ℕ → ℕ → ℕ → ℕ → Type 0
 OthersTo m zero at end = at ≡ end
 OthersTo m (suc n) at end = (isOther m at ≡ true) × OthersTo m n (at + 8 + number32 m (at + 4)) end
 
--- What the walk over the chunks gives.
+-- The result of the walk over the chunks, with spans instead of headers.
 abbrev pub walked : Walk → Walked
 walked (complete cs) = Whole (spansOf cs)
 walked (stopped r) = Refused r
 
--- What follows once the chunks are read, by where the covered ones stand.
+-- Whether the mandatory chunks are present, and the outline after the chunks are read, by the spans of the covered chunks.
 abbrev pub allPresent : ChunkSpans → Bool
 allPresent p = p .info .present && (p .song .present && (p .inst .present && (p .patt .present && p .smpl .present)))
 

@@ -8,21 +8,21 @@ ghost use mathlib.Core.Path.{_≡_};
 ghost use Rattle.refusal.specs.Rules.{firstBroken};
 ghost use Rattle.layout.specs.Header.{headerFits, versionFits, headerRules};
 
-// Whether there are 8 bytes, which begin with DBM0.
+// Whether there are 8 bytes, beginning with DBM0.
 fn header_fits(m: &[u8]) -> bool
     ensures { λ r. ⌜ r ≡ headerFits (now (m .entry)) ⌝ }
 {
     (8 <= m.len()) & (number32(m, 0) == 0x44424D30)
 }
 
-// Whether version and revision are such as are read.
+// Whether version and revision are in range.
 fn version_fits(version: u8, revision: u8) -> bool
     ensures { λ r. ⌜ r ≡ versionFits version revision ⌝ }
 {
     ((version == 2) | (version == 3)) & ((revision / 16 <= 9) & (revision % 16 <= 9))
 }
 
-// Checks size and header.
+// Checks size and header: 1, 2, 3.
 pub fn check_header(m: &[u8]) -> Verdict
     ensures { λ r. ⌜ r ≡ firstBroken (headerRules (now (m .entry))) ⌝ }
 {

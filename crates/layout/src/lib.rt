@@ -16,14 +16,14 @@ ghost use Rattle.refusal.specs.Numbers.{IsAnswer};
 ghost use Rattle.layout.specs.Outlines.{layoutWith, outline, outlineNumbers};
 ghost use Rattle.layout.specs.Steps.{allPresent, outlineWith};
 
-// Where a chunk stands: its header's place and the length of its data. All 0 where there is none.
+// The span of a chunk: the place of its header and the length of its data. All fields are 0 if the chunk is absent.
 pub struct ChunkSpan {
     pub present: bool,
     pub at: u32,
     pub length: u32,
 }
 
-// Where the covered chunks stand.
+// The spans of the covered chunks.
 pub struct ChunkSpans {
     pub name: ChunkSpan,
     pub info: ChunkSpan,
@@ -35,7 +35,7 @@ pub struct ChunkSpans {
     pub penv: ChunkSpan,
 }
 
-// What is known of a module once its chunks are read: header, INFO's numbers, and the chunks' places.
+// The layout of a module, known after its chunks are read: header, INFO's numbers, and the spans of the chunks.
 pub struct Layout {
     pub version: u8,
     pub revision: u8,
@@ -53,14 +53,14 @@ pub enum Outline {
     Refused(Refusal),
 }
 
-// Whether the mandatory chunks are there.
+// Whether the mandatory chunks are present.
 fn all_present(p: ChunkSpans) -> bool
     ensures { λ r. ⌜ r ≡ allPresent p ⌝ }
 {
     p.info.present & (p.song.present & (p.inst.present & (p.patt.present & p.smpl.present)))
 }
 
-// The layout, from the places of the chunks.
+// The layout, by the spans of the chunks.
 fn layout_with(m: &[u8], p: ChunkSpans) -> Layout
     ensures { λ r. ⌜ r ≡ layoutWith (now (m .entry)) p ⌝ }
 {
@@ -77,7 +77,7 @@ fn layout_with(m: &[u8], p: ChunkSpans) -> Layout
     }
 }
 
-// Once the chunks are read: 8.
+// The outline after the chunks are read: 8.
 fn with_mandatory(m: &[u8], p: ChunkSpans) -> Outline
     ensures { λ r. ⌜ r ≡ outlineWith (now (m .entry)) p ⌝ }
 {

@@ -1,4 +1,4 @@
-// The walk over the chunks, from the front: refusals 4, 5, 4, 6, 7, 9, 10 for each.
+// The walk over the chunks, from the front: refusals 4, 5, 4, 6, 7, 9, 10 for each chunk.
 use crate::ChunkSpan;
 use crate::ChunkSpans;
 use numbers::byte;
@@ -35,7 +35,7 @@ const VENV: u32 = 0x56454E56;
 
 const PENV: u32 = 0x50454E56;
 
-// What the walk gives: where the covered chunks stand, or a refusal.
+// The result of the walk: the spans of the covered chunks, or a refusal.
 pub enum Walked {
     Whole(ChunkSpans),
     Refused(Refusal),
@@ -56,14 +56,14 @@ fn four_letters(m: &[u8], at: usize) -> bool
         & (is_letter(byte(m, at + 1)) & (is_letter(byte(m, at + 2)) & is_letter(byte(m, at + 3))))
 }
 
-// Whether a chunk has to stand behind INFO.
+// Whether a chunk must come after INFO.
 fn needs_info(identifier: u32) -> bool
     ensures { λ r. ⌜ r ≡ needsInfo identifier ⌝ }
 {
     (identifier == SONG) | ((identifier == INST) | ((identifier == PATT) | (identifier == SMPL)))
 }
 
-// Whether a covered chunk with this identifier has been met.
+// Whether a covered chunk with this identifier has occurred.
 fn is_present(p: ChunkSpans, identifier: u32) -> bool
     ensures { λ r. ⌜ r ≡ presentIn p identifier ⌝ }
 {
@@ -77,7 +77,7 @@ fn is_present(p: ChunkSpans, identifier: u32) -> bool
                                 | ((identifier == PENV) & p.penv.present)))))))
 }
 
-// Whether the chunk's length is the one that NAME or INFO has; others have any.
+// Whether the chunk's length is right for NAME or INFO; other chunks may have any length.
 fn length_fits(identifier: u32, length: u32) -> bool
     ensures { λ r. ⌜ r ≡ fixedLengthFits identifier length ⌝ }
 {
@@ -93,7 +93,7 @@ fn choose(test: bool, new: ChunkSpan, old: ChunkSpan) -> ChunkSpan
     old
 }
 
-// The places with that of one more chunk.
+// The spans with that of one more chunk.
 fn put(p: ChunkSpans, identifier: u32, span: ChunkSpan) -> ChunkSpans
     ensures { λ r. ⌜ r ≡ putIn p identifier span ⌝ }
 {
@@ -115,7 +115,7 @@ fn tracks_fit(tracks: u16) -> bool
     (4 <= tracks) & ((tracks <= 254) & (tracks % 2 == 0))
 }
 
-// Checks the five numbers of INFO, whose data begin at a place.
+// Checks the five numbers of INFO, whose data begin at a place: 10.
 fn check_info(m: &[u8], start: usize) -> Verdict
     requires { ⌜ start < 0x100000000 ⌝ }
     ensures { λ r. ⌜ r ≡ firstBroken (infoRules (now (m .entry)) start) ⌝ }
@@ -138,7 +138,7 @@ fn check_info(m: &[u8], start: usize) -> Verdict
     Verdict::Accepted
 }
 
-// Checks a chunk whose header and data are whole: 6, 7, 9, 10.
+// Checks a chunk whose header and data are complete: 6, 7, 9, 10.
 fn check_met(m: &[u8], at: usize, identifier: u32, length: u32, p: ChunkSpans) -> Verdict
     requires { ⌜ at < 0x80000000 ⌝ }
     ensures { λ r. ⌜ r ≡ firstBroken (metRules (now (m .entry)) at identifier length p) ⌝ }
@@ -158,7 +158,7 @@ fn check_met(m: &[u8], at: usize, identifier: u32, length: u32, p: ChunkSpans) -
     Verdict::Accepted
 }
 
-// Checks the chunk at a place, by where the covered chunks before it stand: 4, 5, 4, and then the rest.
+// Checks the chunk at a place, by the spans of the covered chunks before it: 4, 5, 4, and then the rest.
 fn check_chunk(m: &[u8], at: usize, p: ChunkSpans) -> Verdict
     requires { ⌜ (at < length (now m)) × (length (now m) ≤ 16777216) ⌝ }
     ensures { λ r. ⌜ r ≡ firstBroken (placedRules (now (m .entry)) at p) ⌝ }
@@ -176,7 +176,7 @@ fn check_chunk(m: &[u8], at: usize, p: ChunkSpans) -> Verdict
     check_met(m, at, number32(m, at), length, p)
 }
 
-// Whether a chunk is one of the eight that are covered.
+// Whether a chunk is one of the eight covered chunks.
 fn is_covered(identifier: u32) -> bool
     ensures { λ r. ⌜ r ≡ covered identifier ⌝ }
 {
@@ -185,7 +185,7 @@ fn is_covered(identifier: u32) -> bool
             | (needs_info(identifier) | ((identifier == VENV) | (identifier == PENV))))
 }
 
-// Whether a whole chunk that is stepped over begins at a place.
+// Whether a complete chunk that is not covered begins at a place.
 fn is_other(m: &[u8], at: usize) -> bool
     requires { ⌜ SmallPlace at ⌝ }
     ensures { λ r. ⌜ r ≡ isOther (now (m .entry)) at ⌝ }
@@ -197,7 +197,7 @@ fn is_other(m: &[u8], at: usize) -> bool
     (at + 8 + length <= m.len()) & (four_letters(m, at) & !is_covered(number32(m, at)))
 }
 
-// The place after the chunks that are stepped over, from a place on.
+// The place after the chunks from a place on that are not covered.
 fn skip_others(m: &[u8], start: usize) -> usize
     requires { ⌜ SmallPlace start × (length (now m) ≤ 16777216) ⌝ }
     ensures { λ r. ⌜ ((n : ℕ) × OthersTo (now (m .entry)) n start r) × (start ≤ r) ⌝ }
@@ -209,7 +209,7 @@ fn skip_others(m: &[u8], start: usize) -> usize
     at
 }
 
-// The place of the chunk whose header stands at a place.
+// The span of the chunk whose header is at a place.
 fn standing(at: usize, length: u32) -> ChunkSpan
     requires { ⌜ at < 0x100000000 ⌝ }
     ensures { λ r. ⌜ r ≡ record { present = true; at = at; length = length } ⌝ }
@@ -246,7 +246,7 @@ fn no_places() -> ChunkSpans
     }
 }
 
-// Walks over the chunks behind the header.
+// Walks over the chunks after the header.
 pub fn walk_chunks(m: &[u8]) -> Walked
     requires { ⌜ length (now m) ≤ 16777216 ⌝ }
     ensures { λ r. ⌜ r ≡ walked (chunks (now (m .entry))) ⌝ }
