@@ -1,4 +1,4 @@
--- How long a block is at least, and at most.
+-- The least and the greatest size of a block.
 use Prim.Native.Nat.{ℕ, _*_, _<_, _≤_}
 use mathlib.Core.List.{List}
 use native.Mathlib.Omega.{arith}

@@ -1,4 +1,4 @@
--- A loop that passes over places and checks the rules of each.
+-- A loop that goes from place to place and checks the rules of each.
 use Prim.Native.Nat.{ℕ, suc, _+_, _-_, _*_, _<_, _≤_}
 use mathlib.Core.Path.{_≡_, refl, sym, ap, _∙_}
 use mathlib.Core.List.{List, [], _∷_, _++_}
@@ -12,8 +12,8 @@ use Rattle.refusal.specs.declared.Verdict.the-variants.{Accepted, Refused}
 use Rattle.refusal.proofs.RuleLists.{broken-passed, broken-stopped}
 use Rattle.blocks.specs.Sizes.{placesFrom}
 
--- A loop checks the rules of n places from a start on, where each place gives the way to the next. It stands at a place, with so
--- many places left: the verdict is that of what is left, and there is room for the steps that are left.
+-- The state of a loop that checks the rules of n places from a start on; the size at each place gives the next place. It is at a place,
+-- with some places left: their verdict is the verdict of all, and no sum wraps in the steps that are left.
 pub record Passing (rules : ℕ → List Rule) (size : ℕ → ℕ) (n start left at : ℕ) : Type 0 where
   pub same : firstBroken (rulesOfEach rules (placesFrom size left at)) ≡ firstBroken (rulesOfEach rules (placesFrom size n start))
   pub room : at + left * 0x800000000 ≤ start + n * 0x800000000
@@ -35,7 +35,7 @@ module _ {rules : ℕ → List Rule} {size : ℕ → ℕ} {n start left at : ℕ
         room = omega (arith, p .room, sized .1);
       }
 
-  -- What the loop answers, where its count and its start are what the answer asks for.
+  -- The answer of the loop, if its count and its start are those that the answer needs.
   module _ {count begin : ℕ} (counted : n ≡ count) (begun : start ≡ begin) where
     all : firstBroken (rulesOfEach rules (placesFrom size n start)) ≡ firstBroken (rulesOfEach rules (placesFrom size count begin))
     all = rw (counted, begun) refl
@@ -51,7 +51,7 @@ module _ {rules : ℕ → List Rule} {size : ℕ → ℕ} {n start left at : ℕ
     pub passing-last : left ≤ 0 → Accepted ≡ firstBroken (rulesOfEach rules (placesFrom size count begin))
     passing-last none = let e : left ≡ 0 = omega arith in (rw e at (p .same)) ∙ all
 
--- The same where one rule stands at each place.
+-- The same with one rule for each place.
 module _ {holds : ℕ → Bool} {reason : Reason} {place size : ℕ → ℕ} {n start left at : ℕ}
     (p : Passing (λ at. rule (holds at) reason (place at) ∷ []) size n start left at) where
   pub rule-turn : {s : ℕ} → 0 < left → holds at ≡ true → (s ≡ size at) × (s < 0x800000000)

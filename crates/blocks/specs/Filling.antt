@@ -1,4 +1,5 @@
--- FORMAT.md, B1, B5 and F14: refusal 11.
+-- The rules of a module, first of three statements: what the contracts cite, in the order of the refusals. Here: 11, the blocks. FORMAT.md,
+-- B1, B5 and F14.
 use Prim.Native.Nat.{ℕ, _+_}
 use mathlib.Core.List.{List, [], _∷_, _++_}
 use mathlib.Core.Bool.{Bool, not, _||_}
@@ -12,18 +13,18 @@ use Rattle.blocks.specs.Sizes.{widthOf, blockAt, envelopeCount, sampleBl
 use Rattle.blocks.specs.declared.BlockKind.{BlockKind}
 use Rattle.blocks.specs.declared.BlockKind.the-variants.{Song, Instrument, Pattern, Sample, Envelope}
 
--- The place behind a chunk's data.
+-- The place after a chunk's data.
 abbrev pub dataEnd : ChunkSpan → ℕ
 dataEnd chunk = chunk .at + 8 + chunk .length
 
--- B1: the data end exactly with the last of so many blocks.
+-- B1: the data end exactly with the last of n blocks.
 abbrev pub fills : List ℕ → BlockKind → ChunkSpan → ℕ → Bool
 fills m kind chunk n = eqb (blockAt m kind chunk n) (dataEnd chunk)
 
 abbrev pub fillingRule : List ℕ → BlockKind → ChunkSpan → ℕ → Rule
 fillingRule m kind chunk n = rule (fills m kind chunk n) Blocks (chunk .at)
 
--- B6: the same of envelopes, where the chunk is there.
+-- B6: the same for envelopes, if the chunk is present.
 abbrev pub envelopesRule : List ℕ → ChunkSpan → Rule
 envelopesRule m chunk = rule (not (chunk .present) || fills m Envelope chunk (envelopeCount m chunk)) Blocks (chunk .at)
 
@@ -31,7 +32,7 @@ envelopesRule m chunk = rule (not (chunk .present) || fills m Envelope chunk (en
 abbrev pub flagsRules : List ℕ → ChunkSpan → ℕ → List Rule
 flagsRules m chunk at = rule (not (eqb (widthOf (sampleFlags m at)) 0)) Blocks (chunk .at) ∷ []
 
--- F14: 11 for SONG, INST, PATT, SMPL, VENV, PENV, wherever they stand.
+-- F14: 11 for SONG, INST, PATT, SMPL, VENV, PENV, in whatever order these chunks are.
 abbrev pub blockRules : List ℕ → Layout → List Rule
 blockRules m l =
     fillingRule m Song (l .spans .song) (l .songs)

@@ -1,4 +1,4 @@
--- FORMAT.md, B1 to B6: what the blocks of a chunk are: the kind of such a block, the chunk that holds it, and how many there are.
+-- FORMAT.md, B1 to B6: the record kinds: the block kind of each, the chunk that holds its blocks, and their number.
 use Prim.Native.Nat.{ℕ}
 use mathlib.Core.List.{List}
 use Rattle.layout.specs.declared.Layout.{Layout}
@@ -11,7 +11,7 @@ use Rattle.blocks.specs.declared.BlockKind.the-variants.{Envelope as Env
 use Rattle.blocks.specs.declared.RecordKind.{RecordKind}
 use Rattle.blocks.specs.declared.RecordKind.the-variants.{Song, Instrument, Pattern, Sample, VolumeEnvelope, PanningEnvelope}
 
--- The kind of its block.
+-- The block kind of a record kind.
 abbrev pub blockKindOf : RecordKind → BlockKind
 blockKindOf Song = SongBlock
 blockKindOf Instrument = InstrumentBlock
@@ -20,7 +20,7 @@ blockKindOf Sample = SampleBlock
 blockKindOf VolumeEnvelope = EnvelopeBlock
 blockKindOf PanningEnvelope = EnvelopeBlock
 
--- The chunk that holds it.
+-- The span of the chunk that holds the blocks of a record kind.
 abbrev pub chunkOf : Layout → RecordKind → ChunkSpan
 chunkOf l Song = l .spans .song
 chunkOf l Instrument = l .spans .inst
@@ -29,7 +29,7 @@ chunkOf l Sample = l .spans .smpl
 chunkOf l VolumeEnvelope = l .spans .venv
 chunkOf l PanningEnvelope = l .spans .penv
 
--- How many there are: INFO's number, or the count of the envelopes' chunk; none where that chunk is missing.
+-- The number of records of a kind: INFO's number, or the count of the envelopes' chunk; 0 if that chunk is missing.
 abbrev pub countOf : List ℕ → Layout → RecordKind → ℕ
 countOf m l Song = l .songs
 countOf m l Instrument = l .instruments

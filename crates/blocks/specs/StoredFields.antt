@@ -1,10 +1,10 @@
--- FORMAT.md, B2 to B6 (document 01, "Layout"): the fields of the block at a place, as they are stored, in their order. Each follows
--- those before it; a number past the module's end is 0.
+-- FORMAT.md, B2 to B6 (document 01, "Layout"): the fields of the block at a place, as they are stored, in order. Each follows those before
+-- it. A number past the module's end is 0.
 use Prim.Native.Nat.{ℕ, _+_, _*_}
 use mathlib.Core.List.{List}
 use Rattle.numbers.specs.Numbers.{byteAt, number16, number32, partOf, bytesFrom}
 
--- B2: a song: name 44, length 2, and so many entries of 2 bytes, counted from 0.
+-- B2: a song: name 44, length 2, and as many "playlist entries" of 2 bytes, counted from 0.
 abbrev pub songName : List ℕ → ℕ → List ℕ
 songName m at = bytesFrom m at 44
 
@@ -39,18 +39,18 @@ instrumentPanning m at = number16 m (at + 46)
 abbrev pub instrumentFlags : List ℕ → ℕ → ℕ
 instrumentFlags m at = number16 m (at + 48)
 
--- B4: a pattern: rows 2, packed length 4, and so many packed bytes.
+-- B4: a pattern: rows 2, packed length 4, and as many packed bytes.
 abbrev pub patternRows : List ℕ → ℕ → ℕ
 patternRows m at = number16 m at
 
 abbrev pub patternPackedLength : List ℕ → ℕ → ℕ
 patternPackedLength m at = number32 m (at + 2)
 
--- A filler after them is no part of them.
+-- The packed bytes of a pattern, without the filler.
 abbrev pub packedBytes : List ℕ → ℕ → List ℕ
 packedBytes m at = partOf m (at + 6) (patternPackedLength m at)
 
--- B5: a sample: flags 4, frames 4, and so many frames.
+-- B5: a sample: flags 4, frames 4, and as many frames.
 abbrev pub sampleFlags : List ℕ → ℕ → ℕ
 sampleFlags m at = number32 m at
 

@@ -1,4 +1,4 @@
-// The blocks of a chunk: how long each is, where it stands, and whether they fill their chunk: refusal 11.
+// The blocks of a chunk: the size and the place of each, and whether they fill their chunk: refusal 11.
 pub mod stored;
 
 use crate::stored::pattern_packed_length;
@@ -22,7 +22,7 @@ ghost use Rattle.blocks.specs.Filling.{dataEnd, fills as fillsChunk, fla
 ghost use Rattle.blocks.specs.RecordKinds.{blockKindOf, chunkOf, countOf};
 ghost use Rattle.blocks.specs.declared.BlockKind.the-variants.{Envelope, Sample as SampleBlock};
 
-// What a block is.
+// The kind of a block.
 pub enum BlockKind {
     Song,
     Instrument,
@@ -31,7 +31,7 @@ pub enum BlockKind {
     Envelope,
 }
 
-// What the blocks of a chunk are: what a query asks for.
+// The kind of a record: what a query is about. Both kinds of envelope have one kind of block.
 pub enum RecordKind {
     Song,
     Instrument,
@@ -41,7 +41,7 @@ pub enum RecordKind {
     PanningEnvelope,
 }
 
-// How many bytes a frame has, by a sample's flags; 0 for flags that no sample has.
+// The bytes of a frame, by a sample's flags; 0 for flags that no sample has.
 pub fn width(flags: u32) -> usize
     ensures { λ r. ⌜ (r ≡ widthOf flags) × (r < 5) ⌝ }
 {
@@ -57,14 +57,14 @@ pub fn width(flags: u32) -> usize
     0
 }
 
-// How many bytes a song has, with so many entries in its playlist.
+// The size of a song with the given number of entries in its playlist.
 fn song_size(entries: u16) -> usize
     ensures { λ r. ⌜ (r ≡ 46 + 2 * entries) × (r < 0x800000000) ⌝ }
 {
     46 + 2 * (entries as usize)
 }
 
-// How many bytes a pattern has, with so many packed bytes.
+// The size of a pattern with the given number of packed bytes.
 fn pattern_size(packed: u32) -> usize
     ensures { λ r. ⌜ (r ≡ 6 + packed + packed % 2) × (r < 0x800000000) ⌝ }
 {
@@ -72,14 +72,14 @@ fn pattern_size(packed: u32) -> usize
     6 + packed + packed % 2
 }
 
-// How many bytes a sample has, with these flags and so many frames.
+// The size of a sample with these flags and frames.
 fn sample_size(flags: u32, frames: u32) -> usize
     ensures { λ r. ⌜ (r ≡ 8 + frames * widthOf flags) × (r < 0x800000000) ⌝ }
 {
     8 + (frames as usize) * width(flags)
 }
 
-// How many bytes the block at a place has. Past the module's end every number counts as 0.
+// The size of the block at a place. Past the module's end every number counts as 0.
 pub fn size(m: &[u8], kind: BlockKind, at: usize) -> usize
     ensures { λ r. ⌜ (r ≡ sizeOf kind (now (m .entry)) at) × (r < 0x800000000) ⌝ }
 {
@@ -106,7 +106,7 @@ fn first_block(kind: BlockKind, chunk: ChunkSpan) -> usize
     }
 }
 
-// The place behind a chunk's data.
+// The place after a chunk's data.
 fn data_end(chunk: ChunkSpan) -> usize
     ensures { λ r. ⌜ r ≡ dataEnd chunk ⌝ }
 {
@@ -126,7 +126,7 @@ pub fn block_at(m: &[u8], kind: BlockKind, chunk: ChunkSpan, i: u16) -> usize
     at
 }
 
-// Whether so many blocks fill a chunk exactly.
+// Whether the given number of blocks fill a chunk exactly.
 fn fills(m: &[u8], kind: BlockKind, chunk: ChunkSpan, count: u16) -> bool
     ensures { λ r. ⌜ r ≡ fillsChunk (now (m .entry)) kind chunk count ⌝ }
 {
@@ -143,7 +143,7 @@ fn fills(m: &[u8], kind: BlockKind, chunk: ChunkSpan, count: u16) -> bool
     at == end
 }
 
-// How many envelopes a chunk has; none where there is no chunk.
+// The number of envelopes of a chunk; 0 if there is no chunk.
 pub fn envelope_count(m: &[u8], chunk: ChunkSpan) -> u16
     ensures { λ r. ⌜ r ≡ envelopeCount (now (m .entry)) chunk ⌝ }
 {
@@ -153,7 +153,7 @@ pub fn envelope_count(m: &[u8], chunk: ChunkSpan) -> u16
     number16(m, (chunk.at as usize) + 8)
 }
 
-// Whether the envelopes fill their chunk, where there is one.
+// Whether the envelopes fill their chunk, if there is one.
 fn envelopes_fill(m: &[u8], chunk: ChunkSpan) -> bool
     ensures { λ r. ⌜ r ≡ (not (chunk .present) || fillsChunk (now (m .entry)) Envelope chunk (envelopeCount (now (m .entry)) chunk)) ⌝ }
 {
@@ -215,7 +215,7 @@ pub fn check(m: &[u8], l: Layout) -> Verdict
     check_envelopes(m, p.venv, p.penv)
 }
 
-// The kind of the block of a thing.
+// The block kind of a record kind.
 pub fn block_kind(kind: RecordKind) -> BlockKind
     ensures { λ r. ⌜ r ≡ blockKindOf kind ⌝ }
 {
@@ -229,7 +229,7 @@ pub fn block_kind(kind: RecordKind) -> BlockKind
     }
 }
 
-// The chunk that holds such blocks.
+// The span of the chunk that holds the blocks of a record kind.
 pub fn chunk_of(l: Layout, kind: RecordKind) -> ChunkSpan
     ensures { λ r. ⌜ r ≡ chunkOf l kind ⌝ }
 {
@@ -244,7 +244,7 @@ pub fn chunk_of(l: Layout, kind: RecordKind) -> ChunkSpan
     }
 }
 
-// How many of these things the module has.
+// The number of records of a kind.
 pub fn count_of(m: &[u8], l: Layout, kind: RecordKind) -> u16
     ensures { λ r. ⌜ r ≡ countOf (now (m .entry)) l kind ⌝ }
 {

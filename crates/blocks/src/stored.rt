@@ -1,5 +1,5 @@
-// The fields of the block at a place, as they are stored. A number past the module's end counts as 0, so no place is asked to be inside the
-// module, or small.
+// The fields of the block at a place, as they are stored. A number past the module's end counts as 0, so no contract requires a place to be
+// inside the module, or small.
 use numbers::byte;
 use numbers::number16;
 use numbers::number32;
@@ -14,12 +14,12 @@ ghost use Rattle.blocks.specs.StoredFields.{instrumentPanning, instrumen
 ghost use Rattle.blocks.specs.StoredFields.{envelopeInstrument, envelopeFlags, envelopeSections, envelopeFirstSustain, envelopeLoopFirst};
 ghost use Rattle.blocks.specs.StoredFields.{envelopeLoopLast, envelopeSecondSustain, envelopePosition, envelopeValue};
 
-// Where the fields of a song are, in bytes after its place: B2.
+// The offsets of the fields of a song from its place: B2.
 pub const SONG_LENGTH: usize = 44;
 
 pub const SONG_ENTRIES: usize = 46;
 
-// Those of an instrument: B3.
+// The offsets of the fields of an instrument: B3.
 pub const INSTRUMENT_SAMPLE: usize = 30;
 
 pub const INSTRUMENT_VOLUME: usize = 32;
@@ -34,21 +34,21 @@ pub const INSTRUMENT_PANNING: usize = 46;
 
 pub const INSTRUMENT_FLAGS: usize = 48;
 
-// Those of a pattern: B4.
+// The offsets of the fields of a pattern: B4.
 pub const PATTERN_ROWS: usize = 0;
 
 pub const PATTERN_PACKED_LENGTH: usize = 2;
 
 pub const PACKED_BYTES: usize = 6;
 
-// Those of a sample: B5.
+// The offsets of the fields of a sample: B5.
 pub const SAMPLE_FLAGS: usize = 0;
 
 pub const SAMPLE_FRAMES: usize = 4;
 
 pub const SAMPLE_BYTES: usize = 8;
 
-// Those of an envelope: B6.
+// The offsets of the fields of an envelope: B6.
 pub const ENVELOPE_INSTRUMENT: usize = 0;
 
 pub const ENVELOPE_FLAGS: usize = 2;
@@ -65,10 +65,10 @@ pub const ENVELOPE_SECOND_SUSTAIN: usize = 7;
 
 pub const ENVELOPE_POINTS: usize = 8;
 
-// Where the value of a point is: its position is before it.
+// The offset of the value of a point. The position of the point is before it.
 pub const POINT_VALUE: usize = 2;
 
-// The byte so many bytes after a place.
+// The byte at an offset from a place.
 fn byte_after(m: &[u8], at: usize, offset: usize) -> u8
     requires { ⌜ offset < 0x100000000 ⌝ }
     ensures { λ r. ⌜ r ≡ byteAt (now (m .entry)) (at + offset) ⌝ }
@@ -79,7 +79,7 @@ fn byte_after(m: &[u8], at: usize, offset: usize) -> u8
     byte(m, at + offset)
 }
 
-// The 2-byte number so many bytes after a place.
+// The 2-byte number at an offset from a place.
 fn number16_after(m: &[u8], at: usize, offset: usize) -> u16
     requires { ⌜ offset < 0x100000000 ⌝ }
     ensures { λ r. ⌜ r ≡ number16At (now (m .entry)) (at + offset) ⌝ }
@@ -90,7 +90,7 @@ fn number16_after(m: &[u8], at: usize, offset: usize) -> u16
     number16(m, at + offset)
 }
 
-// The 4-byte number so many bytes after a place.
+// The 4-byte number at an offset from a place.
 fn number32_after(m: &[u8], at: usize, offset: usize) -> u32
     requires { ⌜ offset < 0x100000000 ⌝ }
     ensures { λ r. ⌜ r ≡ number32At (now (m .entry)) (at + offset) ⌝ }
@@ -136,14 +136,14 @@ pub fn instrument_rate(m: &[u8], at: usize) -> u32
     number32_after(m, at, INSTRUMENT_RATE)
 }
 
-// Where its loop starts.
+// The start of its loop.
 pub fn instrument_loop_start(m: &[u8], at: usize) -> u32
     ensures { λ r. ⌜ r ≡ instrumentLoopStart (now (m .entry)) at ⌝ }
 {
     number32_after(m, at, INSTRUMENT_LOOP_START)
 }
 
-// How long its loop is.
+// The length of its loop.
 pub fn instrument_loop_length(m: &[u8], at: usize) -> u32
     ensures { λ r. ⌜ r ≡ instrumentLoopLength (now (m .entry)) at ⌝ }
 {
@@ -171,7 +171,7 @@ pub fn pattern_rows(m: &[u8], at: usize) -> u16
     number16_after(m, at, PATTERN_ROWS)
 }
 
-// How many packed bytes it has.
+// The number of its packed bytes.
 pub fn pattern_packed_length(m: &[u8], at: usize) -> u32
     ensures { λ r. ⌜ r ≡ patternPackedLength (now (m .entry)) at ⌝ }
 {
@@ -196,7 +196,7 @@ pub fn sample_flags(m: &[u8], at: usize) -> u32
     number32_after(m, at, SAMPLE_FLAGS)
 }
 
-// How many frames it has.
+// The number of its frames.
 pub fn sample_frames(m: &[u8], at: usize) -> u32
     ensures { λ r. ⌜ r ≡ sampleFrames (now (m .entry)) at ⌝ }
 {
