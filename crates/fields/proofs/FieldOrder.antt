@@ -1,4 +1,4 @@
--- The rules of the fields in their order, part by part.
+-- The rules of the fields in order, part by part.
 use Prim.Native.Nat.{ℕ}
 use mathlib.Core.Path.{_≡_}
 use mathlib.Core.List.{List, _++_}
@@ -28,7 +28,7 @@ module _ (m : List ℕ) (l : Layout) where
   abbrev pub panningPart : List Rule
   panningPart = rulesOfEach (envelopeRules m (l .instruments) (eqb (l .version) 3)) (envelopeBlocks m (l .spans .penv))
 
--- An envelope: its head, its points, its values.
+-- An envelope: its first fields, its points, its values.
 abbrev rulesAfterHead : List ℕ → Bool → ℕ → List Rule
 rulesAfterHead m signed at =
     envelopePointRules m (envelopeFlags m at) (envelopeSections m at) at ++ valuesRules m signed (envelopeSections m at) at

@@ -1,4 +1,4 @@
--- The tests of the code are those of the rules.
+-- The tests of the code equal those of the rules.
 use Prim.Native.Nat.{ℕ, _-_, _<_}
 use mathlib.Core.Path.{_≡_, refl, sym, _∙_}
 use mathlib.Core.Bool.{Bool, true, false, not, _&&_, _||_}
@@ -7,7 +7,7 @@ use lib.Dec.{leb, ltb}
 use borrow.Author.Tests.{ltb-true, ltb-false, leb-true, leb-false, lt-ltb, le-ltb, le-leb, lt-leb}
 use Rattle.fields.specs.Fields.{panningFits}
 
--- One number is at most another unless that one is less.
+-- One number is at most another exactly if the other is not less.
 at-most : (a b : ℕ) → leb a b ≡ not (ltb b a)
 at-most a b = go (leb a b) refl
   where
@@ -27,7 +27,7 @@ and-true : (t : Bool) → (t && true) ≡ t
 and-true true = refl
 and-true false = refl
 
--- −128 to 128, of a stored 2-byte number.
+-- −128 to 128, for a stored 2-byte number.
 pub panning-test : (v : ℕ) → v < 65536 → (leb v 128 || leb 65408 v) ≡ panningFits v
 panning-test v short = go (ltb v 32768) refl
   where
@@ -39,16 +39,16 @@ panning-test v short = go (ltb v 32768) refl
     go true t = let h = ltb-true v 32768 t in simp (t, lt-leb 65408 v (omega arith)) (or-false (leb v 128))
     go false t = let h = ltb-false v 32768 t in simp (t, lt-leb v 128 (omega arith)) (negative (leb 65408 v) refl ∙ sym (and-true (leb (65535 - v) 127)))
 
--- The instrument of an envelope, from 1 to so many.
+-- The instrument of an envelope, from 1 to the number of instruments.
 pub instrument-test : (a instruments : ℕ) → (leb 1 a && leb a instruments) ≡ not (ltb a 1 || ltb instruments a)
 instrument-test a instruments = simp (at-most 1 a, at-most a instruments) (neither (ltb a 1) (ltb instruments a))
 
--- A point of an envelope, where its flag is set.
+-- A point of an envelope, if its flag is set.
 pub point-test : (flag : Bool) (a sections : ℕ) → (not flag || leb a sections) ≡ not (flag && ltb sections a)
 point-test true a sections = at-most a sections
 point-test false a sections = refl
 
--- The end of an envelope's loop, where its flag is set.
+-- The end of an envelope's loop, if its flag is set.
 pub end-test : (flag : Bool) (start end sections : ℕ) → (not flag || (leb end sections && leb start end)) ≡ not (flag && (ltb sections end || ltb end start))
 end-test true start end sections = simp (at-most end sections, at-most start end) (neither (ltb sections end) (ltb end start))
 end-test false start end sections = refl

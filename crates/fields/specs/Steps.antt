@@ -1,5 +1,5 @@
--- A definition that private functions cite: the rules of a block, by what it is. What its fields refer to is one of so many; panning values may
--- be signed. A pattern and a sample have no such field.
+-- A definition for the contracts of private functions: the rules of a block, by its record kind. `many` is the number of records that its
+-- fields can refer to; panning values may be signed. A pattern and a sample have no such field.
 use Prim.Native.Nat.{ℕ}
 use mathlib.Core.List.{List, []}
 use mathlib.Core.Bool.{Bool, false}

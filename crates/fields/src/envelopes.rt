@@ -41,7 +41,7 @@ fn check_head(m: &[u8], at: usize, instruments: u16) -> Verdict
     Verdict::Accepted
 }
 
-// Checks S1, L1, L2 and S2, each where its flag is set.
+// Checks S1, L1, L2 and S2, each if its flag is set.
 fn check_points(m: &[u8], flags: u8, sections: u8, at: usize) -> Verdict
     requires { ⌜ SmallPlace at ⌝ }
     ensures { λ r. ⌜ r ≡ firstBroken (envelopePointRules (now (m .entry)) flags sections at) ⌝ }
@@ -71,7 +71,7 @@ pub fn panning_fits(v: u16) -> bool
     (v <= 128) | (65408 <= v)
 }
 
-// Whether a value is 0 to 64; where it is signed, −128 to 128.
+// Whether a value is 0 to 64, or −128 to 128 if values are signed.
 fn value_fits(signed: bool, v: u16) -> bool
     ensures { λ r. ⌜ r ≡ valueFits signed v ⌝ }
 {

@@ -1,5 +1,5 @@
-// The checked fields of the blocks, of songs and instruments here and of envelopes in their own file, in the order of the chunks:
-// refusals 12 and 13.
+// The checked fields of the blocks, in the order of the chunks: refusals 12 and 13. Songs and instruments are checked here, envelopes in
+// their own file.
 mod envelopes;
 
 use crate::envelopes::check_envelope;
@@ -73,8 +73,8 @@ fn check_instrument(m: &[u8], at: usize, samples: u16) -> Verdict
     Verdict::Accepted
 }
 
-// Checks the fields of the block at a place, by what it is; what they refer to is one of so many. A pattern and a sample have no such
-// field.
+// Checks the fields of the block at a place, by its record kind. `many` is the number of records that the fields can refer to. A pattern
+// and a sample have no such field.
 fn check_block(m: &[u8], kind: RecordKind, many: u16, signed: bool, at: usize) -> Verdict
     requires { ⌜ SmallPlace at ⌝ }
     ensures { λ r. ⌜ r ≡ firstBroken (rulesOfBlock (now (m .entry)) many signed kind at) ⌝ }
