@@ -1,4 +1,4 @@
--- A call that writes something of an accepted module into a lent output: what it answers, and what the output then holds.
+-- A call that writes bytes of an accepted module to a lent output: its answer, and what the output then holds.
 use Prim.Native.Nat.{ℕ}
 use mathlib.Core.Path.{_≡_}
 use mathlib.Core.List.{List}

@@ -1,4 +1,4 @@
--- The tests of the code are those of the rules.
+-- The tests of the code equal those of the rules.
 use Prim.Native.Nat.{ℕ}
 use mathlib.Core.Path.{_≡_, refl}
 use mathlib.Core.Bool.{Bool, true, false, cond, not, _&&_, _||_}

@@ -1,4 +1,5 @@
--- FORMAT.md, V6 and F16 (document 01, "Layout"): loops: refusal 14.
+-- The rules of a module, first of three statements: what the contracts cite, in the order of the refusals. Here: 14, the loops. FORMAT.md,
+-- V6 and F16 (document 01, "Layout").
 use Prim.Native.Nat.{ℕ, _+_, _-_}
 use mathlib.Core.List.{List, [], _∷_}
 use mathlib.Core.Bool.{Bool, true, false, cond, not, _&&_, _||_}
@@ -12,14 +13,14 @@ use Rattle.blocks.specs.Sizes.{blockAt, instrumentBlocks}
 use Rattle.blocks.specs.declared.BlockKind.the-variants.{Sample}
 use Rattle.fields.specs.Fields.{bit0, bit1}
 
--- B3: the kind of a loop: bit 0 is forward, bit 1 ping-pong, and bit 0 wins.
+-- B3: the kind of a loop: bit 0 is "forward", bit 1 "ping-pong", and bit 0 wins.
 pub data LoopKind : Type 0 where
   noLoop forward pingPong : LoopKind
 
 abbrev pub loopKind : ℕ → ℕ → LoopKind
 loopKind flags length = cond (eqb length 0) noLoop (cond (bit0 flags) forward (cond (bit1 flags) pingPong noLoop))
 
--- V6: isLooped: the loop length is not 0, and bit 0 or 1 is set.
+-- V6, document 01's "looped" instrument: the loop length is not 0, and bit 0 or 1 is set.
 abbrev pub isLoop : LoopKind → Bool
 isLoop noLoop = false
 isLoop forward = true
@@ -28,11 +29,11 @@ isLoop pingPong = true
 abbrev pub isLooped : List ℕ → ℕ → Bool
 isLooped m at = isLoop (loopKind (instrumentFlags m at) (instrumentLoopLength m at))
 
--- The frames of a sample, counted from 1.
+-- The number of frames of a sample, counted from 1.
 abbrev pub framesOfSample : List ℕ → ChunkSpan → ℕ → ℕ
 framesOfSample m chunk sample = sampleFrames m (blockAt m Sample chunk (sample - 1))
 
--- V6: then the sample is not 0, and start + length, as whole numbers, is at most its frames.
+-- V6: if the instrument is looped, its sample is not 0, and start + length, as whole numbers, is at most the frames of the sample.
 abbrev pub loopFits : List ℕ → ChunkSpan → ℕ → Bool
 loopFits m chunk at =
     not (isLooped m at)

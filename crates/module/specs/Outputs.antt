@@ -1,5 +1,5 @@
--- FORMAT.md, F8, Q16 and X4: what a call answers that writes something of an accepted module into a lent output, and what the output then
--- holds, by how the module opens: the module's own refusal, then 17.
+-- FORMAT.md, F8, Q16 and X4: the answer of a call that writes bytes of an accepted module to a lent output, and what the output then holds,
+-- by the opened module: the module's own refusal, then 17.
 use Prim.Native.Nat.{ℕ}
 use mathlib.Core.List.{List}
 use lib.ListN.{length}

@@ -1,4 +1,4 @@
--- Definitions that private functions cite: the blocks and the rules of a pass for refusals 14 and 15.
+-- Definitions for the contracts of private functions: the blocks and the rules of a pass for refusals 14 and 15.
 use Prim.Native.Nat.{ℕ}
 use mathlib.Core.List.{List}
 use Rattle.refusal.specs.Rules.{Rule}

@@ -1,4 +1,5 @@
--- FORMAT.md, V7 and F16: the packed streams of a module's patterns: refusal 15.
+-- The rules of a module, first of three statements: what the contracts cite, in the order of the refusals. Here: 15, the packed streams.
+-- FORMAT.md, V7 and F16.
 use Prim.Native.Nat.{ℕ}
 use mathlib.Core.List.{List, [], _∷_}
 use Rattle.refusal.specs.Rules.{Rule, rule, rulesOfEach, accepted}
@@ -9,7 +10,7 @@ use Rattle.layout.specs.declared.Layout.{Layout}
 use Rattle.blocks.specs.StoredFields.{patternRows, packedBytes}
 use Rattle.blocks.specs.Sizes.{patternBlocks}
 
--- V7: what the check of a pattern's stream says, with its rows and the module's tracks.
+-- V7: the verdict on a pattern's stream, with its rows and the module's tracks.
 abbrev pub streamVerdict : List ℕ → ℕ → ℕ → Verdict
 streamVerdict m tracks at = checkAnswer (packedBytes m at) (patternRows m at) tracks
 

@@ -1,4 +1,6 @@
--- FORMAT.md, F11 to F16 (document 01, "Refusal numbers and their order"): the verdict of a module.
+-- The rules of a module, first of three statements: what the contracts cite, in the order of the refusals. Here: all of them in order, the
+-- verdict of a module. The other two statements are `acceptance/specs/Rules.antt`, over bytes, and `format/specs/WellFormed.antt`, over
+-- data. FORMAT.md, F11 to F16 (document 01, "Refusal numbers and their order").
 use Prim.Native.Nat.{ℕ}
 use mathlib.Core.List.{List, _++_}
 use Rattle.refusal.specs.Rules.{Rule, firstBroken}
@@ -21,7 +23,7 @@ abbrev pub contentIf : List ℕ → Outline → Outline
 contentIf m (Found l) = outlineIf (firstBroken (contentRules m l)) (Found l)
 contentIf m (Refused r) = Refused r
 
--- The layout of a module that is accepted, or its refusal: 1 to 10 as its outline gives them, then 11 to 15.
+-- The layout of an accepted module, or the "module's own refusal": 1 to 10 from its outline, then 11 to 15.
 abbrev pub opened : List ℕ → Outline
 opened m = contentIf m (outline m)
 
@@ -29,6 +31,6 @@ abbrev pub verdictOfOutline : Outline → Verdict
 verdictOfOutline (Found l) = Accepted
 verdictOfOutline (Refused r) = VerdictRefused r
 
--- The check of a module.
+-- The verdict of the check of a module, document 01's "accepted" or a refusal.
 abbrev pub moduleVerdict : List ℕ → Verdict
 moduleVerdict m = verdictOfOutline (opened m)

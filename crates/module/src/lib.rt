@@ -1,5 +1,5 @@
-// The check of a whole module. What a module's numbers, chunks and blocks are and which fields are checked, the crates below say; here
-// its loops and packed streams are checked, refusals 14 and 15, and all is put in order.
+// The check of a whole module. The crates below define a module's numbers, chunks, blocks and checked fields. This one checks its loops and
+// packed streams, refusals 14 and 15, and puts all refusals in order.
 mod loops;
 mod passes;
 mod streams;
@@ -15,7 +15,7 @@ ghost use Rattle.refusal.specs.Rules.{firstBroken};
 ghost use Rattle.layout.specs.Outlines.{outlineNumbers};
 ghost use Rattle.module.specs.Verdicts.{contentRules, opened, moduleVerdict};
 
-// Checks what stands in the chunks: 11, then 12 and 13, then 14, then 15.
+// Checks the content of the chunks: 11, then 12 and 13, then 14, then 15.
 fn check_content(m: &[u8], l: Layout) -> Verdict
     ensures { λ r. ⌜ r ≡ firstBroken (contentRules (now (m .entry)) l) ⌝ }
 {
@@ -31,7 +31,7 @@ fn check_content(m: &[u8], l: Layout) -> Verdict
     check_streams(m, l)
 }
 
-// The layout of a module that is accepted, or the module's own refusal.
+// The layout of an accepted module, or the module's own refusal.
 pub fn open(m: &[u8]) -> Outline
     ensures { λ r. ⌜ IsAnswer outlineNumbers r (opened (now (m .entry))) ⌝ }
 {

@@ -20,7 +20,7 @@ pub enum Pass {
     Streams,
 }
 
-// The kind of its blocks.
+// The block kind that a pass checks.
 fn kind_in(pass: Pass) -> BlockKind
     ensures { λ r. ⌜ r ≡ kindIn pass ⌝ }
 {
@@ -30,7 +30,7 @@ fn kind_in(pass: Pass) -> BlockKind
     }
 }
 
-// Checks the block at a place, in a module with these samples and tracks.
+// Checks the block at a place, in a module with this SMPL chunk and these tracks.
 fn check_at(m: &[u8], pass: Pass, smpl: ChunkSpan, tracks: u16, at: usize) -> Verdict
     ensures { λ r. ⌜ r ≡ firstBroken (passRules (now (m .entry)) smpl tracks pass at) ⌝ }
 {

@@ -8,7 +8,7 @@ ghost use mathlib.Core.Path.{_≡_};
 ghost use Rattle.refusal.specs.Rules.{firstBroken, accepted};
 ghost use Rattle.module.specs.Streams.{streamVerdict, patternStreamRules};
 
-// Whether the stream of the pattern at a place is sound.
+// Whether the stream of the pattern at a place is accepted.
 fn stream_fits(m: &[u8], tracks: u16, at: usize) -> bool
     ensures { λ r. ⌜ r ≡ accepted (streamVerdict (now (m .entry)) tracks at) ⌝ }
 {
