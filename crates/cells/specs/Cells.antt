@@ -7,7 +7,7 @@ use lib.ListN.{length, take, drop, replicate}
 use lib.Dec.{eqb, leb, ltb}
 use Rattle.vocabulary.specs.Lists.{joined}
 
--- C2: a cell, a row, and both empty, with zeros in all fields.
+-- C2: a "cell", a row, and both empty, with zeros in all fields.
 abbrev pub Cell : Type 0
 Cell = List ℕ
 

@@ -60,7 +60,8 @@ placedRules m at p =
     ∷ rule (leb (at + 8 + number32 m (at + 4)) (length m)) ChunkCut at
     ∷ metRules m at (number32 m at) (number32 m (at + 4)) p
 
--- Whether a complete chunk that is not covered begins at a place; and n such chunks, from one place to another.
+-- Whether a complete chunk that is not covered, document 01's "stepped over", begins at a place; and n such chunks, from one place to
+-- another.
 abbrev pub isOther : List ℕ → ℕ → Bool
 isOther m at = leb (at + 8) (length m) && (leb (at + 8 + number32 m (at + 4)) (length m) && (fourLetters m at && not (covered (number32 m at))))
 

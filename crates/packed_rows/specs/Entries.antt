@@ -39,7 +39,8 @@ pub record Entry : Type 0 where
 abbrev pub entryBytes : Entry → List ℕ
 entryBytes e = e .track ∷ e .mask ∷ e .fields
 
--- R2 to R4, a sound entry: a track from 1 to the pattern's tracks, a sound mask, and as many fields as the mask names.
+-- R2 to R4, a sound entry (any other is document 01's "faulty entry"): a track from 1 to the pattern's tracks, a sound mask, and as many
+-- fields as the mask names.
 abbrev pub soundEntry : ℕ → Entry → Bool
 soundEntry tracks e =
     leb 1 (e .track) && (leb (e .track) tracks && (soundMask (e .mask) && eqb (length (e .fields)) (fieldsNamed (e .mask))))

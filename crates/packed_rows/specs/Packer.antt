@@ -29,7 +29,7 @@ entriesFrom track (cell ∷ cells) =
 abbrev pub packedEntries : Row → List Entry
 packedEntries row = entriesFrom 1 row
 
--- W1: the packer's stream of a pattern.
+-- W1: the stream that document 01's "packer" writes for a pattern.
 abbrev pub packedStream : List Row → List ℕ
 packedStream rows = streamOf (map packedEntries rows)
 

@@ -23,7 +23,8 @@ every test (x ∷ xs) = test x && every test xs
 abbrev pub allSound : ℕ → List (List Entry) → Bool
 allSound tracks rows = every (every (soundEntry tracks)) rows
 
--- R1 to R7 without a reader: the stream is exactly the given number of rows, each of sound entries and a row end.
+-- R1 to R7, document 01's "stream rules", without a reader: the stream is exactly the given number of rows, each of sound entries and a
+-- row end.
 pub record SoundStream (rows tracks : ℕ) (stream : List ℕ) (entries : List (List Entry)) : Type 0 where
   pub count : length entries ≡ rows
   pub sound : allSound tracks entries ≡ true

@@ -19,7 +19,7 @@ writtenLength n = record { outcome = noRefusal; length = n }
 abbrev pub lengthNumbers : LengthAnswer → List ℕ
 lengthNumbers answer = outcomeNumbers (answer .outcome) ++ (answer .length ∷ [])
 
--- 17 if the room is less than the needed length, with the needed length as its place; else the needed length, as the length written.
+-- 17 if the room is less than document 01's "needed length", which is its place; else the needed length, as the length written.
 abbrev pub lengthIf : ℕ → ℕ → LengthAnswer
 lengthIf needed room = cond (ltb room needed) (refusedLength (refusal Room needed)) (writtenLength needed)
 
