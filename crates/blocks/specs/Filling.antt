@@ -1,5 +1,5 @@
--- The rules of a module, first of three statements: what the contracts cite, in the order of the refusals. Here: 11, the blocks. FORMAT.md,
--- B1, B5 and F14.
+-- The rules of a module, first of three statements: what the contracts cite, in the order of the refusals. Here: 11, the blocks.
+-- FORMAT.md, B1, B5, B6 and F14.
 use Prim.Native.Nat.{ℕ, _+_}
 use mathlib.Core.List.{List, [], _∷_, _++_}
 use mathlib.Core.Bool.{Bool, not, _||_}

@@ -57,7 +57,8 @@ sampleFlags m at = number32 m at
 abbrev pub sampleFrames : List ℕ → ℕ → ℕ
 sampleFrames m at = number32 m (at + 4)
 
--- B6: an envelope: instrument 2, flags 1, sections 1, S1, L1, L2, S2, one byte each, and 32 points of position 2 and value 2, counted from 0.
+-- B6: an envelope: instrument 2, flags 1, "sections" 1, S1, L1, L2, S2, one byte each, and 32 "points" of position 2 and value 2, counted
+-- from 0.
 abbrev pub envelopeInstrument : List ℕ → ℕ → ℕ
 envelopeInstrument m at = number16 m at
 

@@ -15,7 +15,7 @@ use Rattle.blocks.specs.StoredFields.{envelopeInstrument, envelopeFlags, envelo
 use Rattle.blocks.specs.StoredFields.{envelopeFirstSustain, envelopeLoopFirst, envelopeLoopLast, envelopeSecondSustain}
 use Rattle.blocks.specs.Sizes.{placesFrom, songBlocks, instrumentBlocks, envelopeBlocks}
 
--- A panning from −128 to 128.
+-- Whether a stored panning, taken as signed, is −128 to 128.
 abbrev pub panningFits : ℕ → Bool
 panningFits v = leZ (negsuc 127) (signed16 v) && leZ (signed16 v) (pos 128)
 

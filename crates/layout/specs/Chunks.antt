@@ -1,5 +1,6 @@
 -- The rules of a module, first of three statements: what the contracts cite, in the order of the refusals. Here: 4 to 7, 9 and 10, the
--- chunks; 8 is in Outlines.antt. FORMAT.md, M5 to M9 and F12 (document 01, "Layout"): the chunks of a module, read from the front.
+-- chunks; 8 is in Outlines.antt.
+-- FORMAT.md, M5 to M9 and F12 (document 01, "Layout"): the chunks of a module, read from the front.
 use Prim.Native.Nat.{ℕ, zero, suc, _+_, _%_}
 use mathlib.Core.List.{List, [], _∷_, _++_}
 use mathlib.Core.Bool.{Bool, false, cond, not, _&&_, _||_}

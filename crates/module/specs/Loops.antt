@@ -1,5 +1,5 @@
--- The rules of a module, first of three statements: what the contracts cite, in the order of the refusals. Here: 14, the loops. FORMAT.md,
--- V6 and F16 (document 01, "Layout").
+-- The rules of a module, first of three statements: what the contracts cite, in the order of the refusals. Here: 14, the loops.
+-- FORMAT.md, V6 and F16 (document 01, "Layout").
 use Prim.Native.Nat.{ℕ, _+_, _-_}
 use mathlib.Core.List.{List, [], _∷_}
 use mathlib.Core.Bool.{Bool, true, false, cond, not, _&&_, _||_}

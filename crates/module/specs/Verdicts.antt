@@ -1,6 +1,7 @@
 -- The rules of a module, first of three statements: what the contracts cite, in the order of the refusals. Here: all of them in order, the
 -- verdict of a module. The other two statements are `acceptance/specs/Rules.antt`, over bytes, and `format/specs/WellFormed.antt`, over
--- data. FORMAT.md, F11 to F16 (document 01, "Refusal numbers and their order").
+-- data.
+-- FORMAT.md, F11 to F16 (document 01, "Refusal numbers and their order").
 use Prim.Native.Nat.{ℕ}
 use mathlib.Core.List.{List, _++_}
 use Rattle.refusal.specs.Rules.{Rule, firstBroken}
