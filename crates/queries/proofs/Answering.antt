@@ -1,4 +1,4 @@
--- What queries share: the place of a block that was found.
+-- Laws that several queries use: the place of a block that was found.
 use mathlib.Core.Path.{_≡_, subst}
 use Rattle.numbers.specs.Numbers.{SmallPlace}
 use Rattle.queries.specs.Finding.{placeIn}

@@ -1,4 +1,4 @@
--- FORMAT.md, Q1 and Q2 (document 01, "Refusal numbers and their order"): where what a query asks for stands.
+-- FORMAT.md, Q1 and Q2 (document 01, "Refusal numbers and their order"): the block of the record that a query is about.
 use Prim.Native.Nat.{ℕ, _-_}
 use mathlib.Core.List.{List, [], _∷_}
 use mathlib.Core.Bool.{Bool, cond, _&&_}
@@ -28,11 +28,11 @@ firstOf Sample = 1
 firstOf VolumeEnvelope = 0
 firstOf PanningEnvelope = 0
 
--- Whether there is one of this number.
+-- Whether the module has a record with this number.
 abbrev pub there : List ℕ → Layout → RecordKind → ℕ → Bool
 there m l kind number = leb (firstOf kind) number && ltb (number - firstOf kind) (countOf m l kind)
 
--- Its block, with the version and the tracks by which it is shown.
+-- The block of the record, with the version and the tracks by which it is shown.
 abbrev pub blockOf : List ℕ → Layout → RecordKind → ℕ → Block
 blockOf m l kind number = record {
   at = blockAt m (blockKindOf kind) (chunkOf l kind) (number - firstOf kind);
@@ -40,7 +40,7 @@ blockOf m l kind number = record {
   tracks = l .tracks;
 }
 
--- Q1: 18.
+-- Q1: the block, or 18 if there is no such record.
 abbrev pub foundIn : List ℕ → Layout → RecordKind → ℕ → Found
 foundIn m l kind number = cond (there m l kind number) (At (blockOf m l kind number)) (Refused (refusal NotThere 0))
 
@@ -52,17 +52,17 @@ foundIf m kind number (OpeningRefused r) = Refused r
 abbrev pub found : List ℕ → RecordKind → ℕ → Found
 found m kind number = foundIf m kind number (opened m)
 
--- The place of what was found, 0 where nothing was.
+-- The place of the block that was found, 0 on a refusal.
 abbrev pub placeIn : Found → ℕ
 placeIn (At b) = b .at
 placeIn (Refused r) = 0
 
--- What was found, in numbers: the values are the block's place, the version and the tracks.
+-- The result of finding a block, in numbers: the values are the block's place, the version and the tracks.
 abbrev pub foundNumbers : Found → List ℕ
 foundNumbers (At b) = acceptedNumbers (b .at ∷ b .version ∷ b .tracks ∷ [])
 foundNumbers (Refused r) = refusedNumbers r 3
 
--- Q1 and F8: what a query answers that fills a lent output, and what the output then holds: the refusal of what is not found, then 17.
+-- Q1 and F8: the answer of a query that fills a lent output, and what the output then holds: the refusal of finding the block, then 17.
 abbrev pub answerFound : (ℕ → ℕ) → ℕ → Found → LengthAnswer
 answerFound needed room (At b) = lengthIf (needed (b .at)) room
 answerFound needed room (Refused r) = refusedLength r

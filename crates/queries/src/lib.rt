@@ -1,4 +1,4 @@
-// What all queries about a module have in common: where what is asked for is, and a name.
+// What all queries about a module have in common: finding a block, and reading a name.
 use blocks::RecordKind;
 use blocks::block_at;
 use blocks::block_kind;
@@ -15,20 +15,20 @@ ghost use Rattle.refusal.specs.Numbers.{IsAnswer};
 ghost use Rattle.numbers.specs.Numbers.{SmallPlace, bytesFrom};
 ghost use Rattle.queries.specs.Finding.{firstOf, foundIn, found, placeIn, foundNumbers};
 
-// Where a block of an accepted module stands, and the version and tracks by which it is shown.
+// The place of a block of an accepted module, and the version and tracks by which it is shown.
 pub struct Block {
     pub at: usize,
     pub version: u8,
     pub tracks: u16,
 }
 
-// The block that was asked for, or a refusal.
+// The requested block, or a refusal.
 pub enum Found {
     At(Block),
     Refused(Refusal),
 }
 
-// The number of the first: 1 for instruments and samples, 0 for all else.
+// The number of the first record: 1 for instruments and samples, 0 for all else.
 fn first_of(kind: RecordKind) -> usize
     ensures { λ r. ⌜ r ≡ firstOf kind ⌝ }
 {
@@ -42,7 +42,7 @@ fn first_of(kind: RecordKind) -> usize
     }
 }
 
-// Where the block of a number is, in a module with this layout: 18.
+// The block with a number, in a module with this layout: 18.
 pub fn find_in(m: &[u8], l: Layout, kind: RecordKind, number: usize) -> Found
     ensures { λ r. ⌜ IsAnswer foundNumbers r (foundIn (now (m .entry)) l kind number) × SmallPlace (placeIn r) ⌝ }
 {
@@ -61,7 +61,7 @@ pub fn find_in(m: &[u8], l: Layout, kind: RecordKind, number: usize) -> Found
     })
 }
 
-// Where the block of a number stands in a module: the module's own refusal, then 18.
+// The block with a number in a module: the module's own refusal, then 18.
 pub fn find(m: &[u8], kind: RecordKind, number: usize) -> Found
     ensures { λ r. ⌜ IsAnswer foundNumbers r (found (now (m .entry)) kind number) × SmallPlace (placeIn r) ⌝ }
 {
