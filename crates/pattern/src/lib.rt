@@ -1,4 +1,4 @@
-// The C entry points of the packed rows. The fields of an answer are the numbers of the call's own answer; the check writes nothing, so its
+// The C entry points of packed rows. The fields of an answer are the numbers of the call's own answer. The check writes nothing, so its
 // length is 0.
 use packed_rows::Packing;
 use packed_rows::Unpacking;
