@@ -1,4 +1,4 @@
--- A stored frame at 16 bits, taken as signed, is what document 01 asks for; and its two bytes.
+-- A stored frame at 16 bits, taken as signed, is the frame that document 01 defines; and its two bytes.
 use Prim.Native.Nat.{ℕ, suc, _+_, _-_, _*_, _/_, _<_}
 use mathlib.Core.Path.{_≡_, refl, sym, ap, _∙_}
 use mathlib.Core.List.{List}
@@ -40,7 +40,7 @@ rounds-down v h = go (ltb v 2147483648) refl
         let same : 65535 - v / 65536 ≡ (4294967295 - v) / 65536 = omega arith in
         simp (t, le-ltb (v / 65536) 32768 (omega arith)) (ap negsuc same)
 
--- A stored number taken as signed is stored as itself.
+-- A stored number taken as signed and stored again is the same number.
 pub stored-again : (v : ℕ) → v < 65536 → unsigned16 (signed16 v) ≡ v
 stored-again v h = go (ltb v 32768) refl
   where
@@ -48,7 +48,7 @@ stored-again v h = go (ltb v 32768) refl
     go true t = simp t
     go false t = simp t (omega (arith, h))
 
--- A frame that is there is shown.
+-- A frame that exists is shown.
 pub frame-shown : (m : List ℕ) (at frame count bytes : ℕ) (outcome : Outcome) (z : ℤ) → outcome ≡ noRefusal
     → count ≡ sampleFrames m at → frame < count → bytes ≡ bytesPerFrame m at → z ≡ frame16 m bytes (at + 8 + frame * bytes)
     → _≡_ {A = FrameAnswer} (record { outcome = outcome; frame = z }) (frameIn m at frame)

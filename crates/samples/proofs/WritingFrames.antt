@@ -1,8 +1,8 @@
 -- A loop that writes numbers as 2 bytes each, from the front on.
 --     writing-first   nothing is written yet
---     writing-length  the length stays
---     writing-turn    one more number written
---     writing-last    all are written
+--     writing-length  the length is unchanged
+--     writing-turn    one more number is written
+--     writing-last    all numbers are written
 use Prim.Native.Nat.{ℕ, zero, suc, _+_, _*_, _/_, _%_, _<_, _≤_}
 use mathlib.Core.Path.{_≡_, refl, sym, ap, _∙_}
 use mathlib.Core.List.{List, [], _∷_, _++_, append-nil}
@@ -16,7 +16,7 @@ use Rattle.numbers.proofs.PutBytes.{put-after, put-sets}
 use Rattle.samples.proofs.SixteenBits.{stored-again}
 
 module _ (f : ℕ → ℤ) where
-  -- The numbers from a number on, so many of them, 2 bytes each.
+  -- The n numbers from a number on, 2 bytes each.
   abbrev pub pairs : ℕ → ℕ → List ℕ
   pairs k n = joined (eachFrom (λ (i : ℕ). bytes16 (unsigned16 (f i))) k n)
 
@@ -24,14 +24,14 @@ module _ (f : ℕ → ℤ) where
   pairs-length zero k = refl
   pairs-length (suc n) k = omega (arith, pairs-length n (k + 1))
 
-  -- One more, with what stands behind it.
+  -- One more number, and the bytes after it.
   pairs-more : (n k : ℕ) (rest : List ℕ) → pairs k (suc n) ++ rest ≡ pairs k n ++ (bytes16 (unsigned16 (f (k + n))) ++ rest)
   pairs-more zero k rest = ap (λ (i : ℕ). bytes16 (unsigned16 (f i)) ++ rest) (omega arith)
   pairs-more (suc n) k rest =
       let again = pairs-more n (k + 1) rest in
       ap (λ (t : List ℕ). bytes16 (unsigned16 (f k)) ++ t) (again ∙ ap (λ (i : ℕ). pairs (k + 1) n ++ (bytes16 (unsigned16 (f i)) ++ rest)) (omega arith))
 
--- So many of the numbers are written, and room is left for the others.
+-- The first i numbers are written, and room is left for the others.
 pub record Writing (f : ℕ → ℤ) (n : ℕ) (out : List ℕ) (i : ℕ) : Type 0 where
   pub rest : List ℕ
   pub same : out ≡ pairs f 0 i ++ rest

@@ -1,5 +1,5 @@
--- FORMAT.md, B5 and Q11 to Q13 (document 01, "Layout"): a sample and its frames as they are shown. Each answer begins with the
--- refusal's number and place, 0 and 0 where there is none; on a refusal all else is 0.
+-- FORMAT.md, B5 and Q11 to Q13 (document 01, "Layout"): a sample and its frames as they are shown. Each answer begins with the refusal's
+-- number and place, 0 and 0 if there is none; on a refusal all other fields are 0.
 use Prim.Native.Nat.{ℕ, _+_, _*_, _/_}
 use mathlib.Core.List.{List}
 use mathlib.Core.Bool.{cond}
@@ -28,7 +28,7 @@ bytesPerFrame m at = widthOf (sampleFlags m at)
 abbrev pub noSample : Refusal → SampleAnswer
 noSample r = record { outcome = refusedOutcome r; width = 0; frames = 0 }
 
--- Q11: the bits of a frame, and how many frames there are.
+-- Q11: the bits of a frame, and the number of frames.
 abbrev pub shownSample : List ℕ → ℕ → SampleAnswer
 shownSample m at = record { outcome = noRefusal; width = 8 * bytesPerFrame m at; frames = sampleFrames m at }
 
@@ -43,7 +43,7 @@ sampleAnswer m sample = sampleIf m (found m Sample sample)
 abbrev pub noFrames : Refusal → FramesAnswer
 noFrames r = record { outcome = refusedOutcome r; offset = 0; length = 0 }
 
--- B5, Q12: the frames stand behind flags and number.
+-- B5, Q12: the frames come after the flags and the number of frames.
 abbrev pub shownFrames : List ℕ → ℕ → FramesAnswer
 shownFrames m at = record { outcome = noRefusal; offset = at + 8; length = sampleFrames m at * bytesPerFrame m at }
 
@@ -54,7 +54,7 @@ framesIf m (Refused r) = noFrames r
 abbrev pub framesAnswer : List ℕ → ℕ → FramesAnswer
 framesAnswer m sample = framesIf m (found m Sample sample)
 
--- Q12: the frames themselves, as the part of the module that they are; empty on a refusal.
+-- Q12: the frames themselves, as the "part of the module itself"; empty on a refusal.
 abbrev pub framesPart : List ℕ → ℕ → List ℕ
 framesPart m sample = partOf m (framesAnswer m sample .offset) (framesAnswer m sample .length)
 
@@ -63,8 +63,8 @@ abbrev pub dividedDown : ℤ → ℤ
 dividedDown (pos n) = pos (n / 65536)
 dividedDown (negsuc n) = negsuc (n / 65536)
 
--- Q13: the frame at a place at 16 bits, by its bytes: 8-bit times 256; 16-bit as it is; 32-bit divided by 65,536 and rounded down.
--- Frames are signed. (Source document 002 calls them unsigned; 000 stands.)
+-- Q13: the frame at a place at 16 bits, by its bytes: 8-bit times 256; 16-bit unchanged; 32-bit divided by 65,536 and rounded down. Frames
+-- are signed. (Source document 002 calls them unsigned; 000 decides.)
 abbrev pub frame16 : List ℕ → ℕ → ℕ → ℤ
 frame16 m bytes at =
     cond (eqb bytes 1) (signedBy 128 (byteAt m at) *ℤ pos 256)
@@ -78,7 +78,7 @@ frameOf m at frame = frame16 m (bytesPerFrame m at) (at + 8 + frame * bytesPerFr
 abbrev pub noFrame : Refusal → FrameAnswer
 noFrame r = record { outcome = refusedOutcome r; frame = pos 0 }
 
--- 18 past the last frame.
+-- A frame of the sample at a place, or 18 past the last frame.
 abbrev pub frameIn : List ℕ → ℕ → ℕ → FrameAnswer
 frameIn m at frame =
     cond (ltb frame (sampleFrames m at))

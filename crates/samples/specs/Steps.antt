@@ -1,4 +1,4 @@
--- A definition that private functions cite: so many frames at 16 bits from a place on, 2 bytes each.
+-- A definition for the contracts of private functions: n frames at 16 bits from a place on, 2 bytes each.
 use Prim.Native.Nat.{ℕ, _+_, _*_}
 use mathlib.Core.List.{List}
 use Rattle.vocabulary.specs.Lists.{joined}

@@ -1,5 +1,5 @@
-// Samples: width and frames, the frames as the part of the module that they are, one frame and all frames at 16 bits. Each query
-// gives the module's own refusal, then 18, then 17.
+// Samples: width and number of frames, the frames as a part of the module itself, one frame and all frames at 16 bits. Each query gives the
+// module's own refusal, then 18, then 17.
 use blocks::RecordKind;
 use blocks::stored::SAMPLE_BYTES;
 use blocks::stored::sample_flags;
@@ -31,7 +31,7 @@ ghost use Rattle.samples.specs.Shown.{framesAnswer, framesPart, noFrame,
 ghost use Rattle.samples.specs.Shown.{allFrames, allFramesAnswer, allFramesOutput};
 ghost use Rattle.samples.specs.Steps.{framesFrom};
 
-// A sample: the bits of a frame (8, 16 or 32), and how many frames there are.
+// A sample: the bits of a frame (8, 16 or 32), and the number of frames.
 #[repr(C)]
 pub struct SampleAnswer {
     pub outcome: Outcome,
@@ -39,7 +39,7 @@ pub struct SampleAnswer {
     pub frames: u32,
 }
 
-// Where the frames of a sample stand in the module, and how many bytes they have.
+// The offset of a sample's frames in the module, and their length in bytes.
 #[repr(C)]
 pub struct FramesAnswer {
     pub outcome: Outcome,
@@ -54,7 +54,7 @@ pub struct FrameAnswer {
     pub frame: i16,
 }
 
-// How many bytes a frame of the sample at a place has: 1, 2 or 4 in an accepted module.
+// The bytes of a frame of the sample at a place: 1, 2 or 4 in an accepted module.
 fn frame_bytes(m: &[u8], at: usize) -> usize
     ensures { λ r. ⌜ (r ≡ bytesPerFrame (now (m .entry)) at) × (r < 5) ⌝ }
 {
@@ -71,7 +71,7 @@ fn no_sample(r: Refusal) -> SampleAnswer
     }
 }
 
-// The sample whose block stands at a place.
+// The sample whose block is at a place.
 fn sample_at(m: &[u8], at: usize) -> SampleAnswer
     ensures { λ r. ⌜ r ≡ shownSample (now (m .entry)) at ⌝ }
 {
@@ -102,7 +102,7 @@ fn no_frames(r: Refusal) -> FramesAnswer
     }
 }
 
-// The frames of the sample whose block stands at a place.
+// The frames of the sample whose block is at a place.
 fn frames_at(m: &[u8], at: usize) -> FramesAnswer
     requires { ⌜ SmallPlace at ⌝ }
     ensures { λ r. ⌜ r ≡ shownFrames (now (m .entry)) at ⌝ }
@@ -114,7 +114,7 @@ fn frames_at(m: &[u8], at: usize) -> FramesAnswer
     }
 }
 
-// The refusal of `frames` on the same inputs, or none; and where the frames stand in the module.
+// The refusal of `frames` on the same inputs, or none; and the offset of the frames in the module.
 pub fn frames_place(m: &[u8], sample: usize) -> FramesAnswer
     ensures { λ r. ⌜ r ≡ framesAnswer (now (m .entry)) sample ⌝ }
 {
@@ -124,8 +124,8 @@ pub fn frames_place(m: &[u8], sample: usize) -> FramesAnswer
     }
 }
 
-// The frames of a sample, counted from 1: the part of the module that they are, at the offset that `frames_place` answers. It is empty
-// where that gives a refusal.
+// The frames of a sample, counted from 1: a part of the module itself, at the offset that `frames_place` answers. The part is empty if that
+// call gives a refusal.
 pub fn frames(m: &[u8], sample: usize) -> &[u8]
     ensures { λ r. ⌜ (now r ≡ framesPart (now (m .entry)) sample)
         × (r .ptr .0 ≡ m .entry .ptr .0)
@@ -135,14 +135,14 @@ pub fn frames(m: &[u8], sample: usize) -> &[u8]
     part(m, a.offset, a.length)
 }
 
-// A stored 32-bit frame as a stored 16-bit frame: divided by 65,536, and rounded down.
+// A stored 32-bit frame as a stored 16-bit frame: divided by 65,536 and rounded down.
 fn rounded_down(v: u32) -> u16
     ensures { λ r. ⌜ r ≡ v / 65536 ⌝ }
 {
     (v / 65536) as u16
 }
 
-// A frame of so many bytes at 16 bits, as it would be stored: 8-bit times 256, 32-bit divided by 65,536 and rounded down.
+// A frame with the given number of bytes, as it is stored at 16 bits: 8-bit times 256, 32-bit divided by 65,536 and rounded down.
 fn at_16_bits(m: &[u8], bytes: usize, at: usize) -> u16
     ensures { λ r. ⌜ signed16 r ≡ frame16 (now (m .entry)) bytes at ⌝ }
 {
@@ -164,7 +164,7 @@ fn no_frame(r: Refusal) -> FrameAnswer
     }
 }
 
-// A frame of the sample whose block stands at a place: 18.
+// A frame of the sample whose block is at a place: 18.
 fn frame_in(m: &[u8], at: usize, frame: usize) -> FrameAnswer
     requires { ⌜ SmallPlace at ⌝ }
     ensures { λ r. ⌜ r ≡ frameIn (now (m .entry)) at frame ⌝ }
@@ -189,7 +189,7 @@ pub fn frame(m: &[u8], sample: usize, frame: usize) -> FrameAnswer
     }
 }
 
-// Writes so many frames of the sample at a place at 16 bits: each has so many bytes.
+// Writes the given number of frames at a place, each with the given number of bytes, at 16 bits.
 fn write_frames(m: &[u8], bytes: usize, at: usize, frames: usize, out: &mut [u8])
     requires { ⌜ SmallPlace at × ((bytes < 5) × ((frames < 0x100000000) × (length (now out) ≡ 2 * frames))) ⌝ }
     ensures { λ r. ⌜ now (out .exit) ≡ framesFrom (now (m .entry)) bytes (at + 8) frames ⌝ }
@@ -203,7 +203,7 @@ fn write_frames(m: &[u8], bytes: usize, at: usize, frames: usize, out: &mut [u8]
     }
 }
 
-// Writes all frames of the sample whose block stands at a place: 17.
+// Writes all frames of the sample whose block is at a place: 17.
 fn all_frames_in(m: &[u8], at: usize, out: &mut [u8]) -> LengthAnswer
     requires { ⌜ SmallPlace at ⌝ }
     ensures { λ r. ⌜ (r ≡ lengthIf (allFramesSize (now (m .entry)) at) (length (now (out .entry))))
@@ -218,7 +218,7 @@ fn all_frames_in(m: &[u8], at: usize, out: &mut [u8]) -> LengthAnswer
     written(needed)
 }
 
-// Writes all frames of a sample at 16 bits, two bytes for each.
+// Writes all frames of a sample at 16 bits, 2 bytes for each.
 pub fn all_frames(m: &[u8], sample: usize, out: &mut [u8]) -> LengthAnswer
     ensures { λ r. ⌜ (r ≡ allFramesAnswer (now (m .entry)) sample (length (now (out .entry))))
         × (now (out .exit) ≡ allFramesOutput (now (m .entry)) sample (now (out .entry))) ⌝ }
