@@ -1,4 +1,4 @@
--- An envelope is shown when each of its fields is.
+-- An envelope is shown if each of its fields is.
 use Prim.Native.Nat.{ℕ}
 use mathlib.Core.Path.{_≡_}
 use mathlib.Core.List.{List}

@@ -1,5 +1,5 @@
--- FORMAT.md, B6, Q3 and Q9 (document 01, "Layout"): envelopes as they are shown. Each answer begins with the refusal's number and
--- place, 0 and 0 where there is none; on a refusal all else is 0.
+-- FORMAT.md, B6, Q3 and Q9 (document 01, "Layout"): envelopes as they are shown. Each answer begins with the refusal's number and place, 0
+-- and 0 if there is none; on a refusal all other fields are 0.
 use Prim.Native.Nat.{ℕ, _*_}
 use mathlib.Core.List.{List}
 use mathlib.Core.Bool.{cond}
@@ -27,7 +27,7 @@ use Rattle.envelopes.specs.declared.EnvelopeKind.the-variants.{Volume, P
 use Rattle.envelopes.specs.declared.CountAnswer.{CountAnswer}
 use Rattle.envelopes.specs.declared.EnvelopeAnswer.{EnvelopeAnswer}
 
--- The envelopes of VENV are of volume, those of PENV of panning.
+-- The record kind of each kind of envelope: VENV has volume envelopes, PENV has panning envelopes.
 abbrev pub recordKind : EnvelopeKind → RecordKind
 recordKind Volume = VolumeEnvelope
 recordKind Panning = PanningEnvelope
@@ -39,15 +39,15 @@ abbrev pub countIf : List ℕ → EnvelopeKind → Outline → CountAnswer
 countIf m kind (Opened l) = record { outcome = noRefusal; count = envelopeCount m (chunkOf l (recordKind kind)) }
 countIf m kind (OpeningRefused r) = noCount r
 
--- Q9: how many envelopes there are: the count of their chunk, and none where it is missing.
+-- Q9: the number of envelopes: the count of their chunk, 0 if it is missing.
 abbrev pub countAnswer : List ℕ → EnvelopeKind → CountAnswer
 countAnswer m kind = countIf m kind (opened m)
 
--- Q9: the points in use are sections + 1, so the last of them has the number of the sections; the others are shown as zeros.
+-- Q9: sections + 1 points are in use, so the number of the last one is the number of sections. The others are shown as zeros.
 abbrev pub positionShown : List ℕ → ℕ → ℕ → ℕ → ℕ
 positionShown m at sections point = cond (leb point sections) (envelopePosition m at point) 0
 
--- Q9: a value of volume as stored; a value of panning is signed, and in version 2 a stored v is shown as 4v − 128.
+-- Q9: a volume value is shown as stored. A panning value is signed; in version 2 a stored v is shown as 4v − 128.
 abbrev pub valueOf : EnvelopeKind → ℕ → ℕ → ℤ
 valueOf Volume version v = pos v
 valueOf Panning version v = cond (eqb version 2) (pos (4 * v) -ℤ pos 128) (signed16 v)

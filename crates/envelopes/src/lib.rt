@@ -1,4 +1,4 @@
-// Envelopes: how many there are, and one of them. Each query gives the module's own refusal, then 18.
+// Envelopes: their number, and one of them. Each query gives the module's own refusal, then 18.
 use blocks::RecordKind;
 use blocks::chunk_of;
 use blocks::envelope_count;
@@ -25,20 +25,20 @@ ghost use lib.ListN.{length};
 ghost use Rattle.numbers.specs.Numbers.{eachFrom};
 ghost use Rattle.envelopes.specs.Shown.{recordKind, noCount, countAnswer, positionShown, valueOf, valueShown, noEnvelope, shownEnvelope, envelopeAnswer};
 
-// The two kinds of envelopes.
+// The two kinds of envelope.
 pub enum EnvelopeKind {
     Volume,
     Panning,
 }
 
-// How many envelopes of a kind there are.
+// The number of envelopes of a kind.
 #[repr(C)]
 pub struct CountAnswer {
     pub outcome: Outcome,
     pub count: u16,
 }
 
-// An envelope. The values of panning are −128 to 128 in both versions; points not in use are zeros.
+// An envelope. Panning values are −128 to 128 in both versions; points not in use are zeros.
 #[repr(C)]
 pub struct EnvelopeAnswer {
     pub outcome: Outcome,
@@ -71,7 +71,7 @@ fn no_count(r: Refusal) -> CountAnswer
     }
 }
 
-// How many envelopes of a kind there are.
+// The number of envelopes of a kind.
 pub fn count(m: &[u8], kind: EnvelopeKind) -> CountAnswer
     ensures { λ r. ⌜ r ≡ countAnswer (now (m .entry)) kind ⌝ }
 {
@@ -84,14 +84,14 @@ pub fn count(m: &[u8], kind: EnvelopeKind) -> CountAnswer
     }
 }
 
-// Whether a point is in use: there is one more of these than there are sections.
+// Whether a point is in use: the points in use are sections + 1.
 fn in_use(sections: u8, point: u8) -> bool
     ensures { λ r. ⌜ r ≡ leb point sections ⌝ }
 {
     point <= sections
 }
 
-// The position of a point of the envelope at a place, as it is shown.
+// The shown position of a point of the envelope at a place.
 pub fn position(m: &[u8], at: usize, sections: u8, point: u8) -> u16
     ensures { λ r. ⌜ r ≡ positionShown (now (m .entry)) at sections point ⌝ }
 {
@@ -101,7 +101,7 @@ pub fn position(m: &[u8], at: usize, sections: u8, point: u8) -> u16
     0
 }
 
-// A value as it is shown.
+// The shown value of a stored value.
 fn value_of(kind: EnvelopeKind, version: u8, v: u16) -> i32
     ensures { λ r. ⌜ r ≡ valueOf kind version v ⌝ }
 {
@@ -116,7 +116,7 @@ fn value_of(kind: EnvelopeKind, version: u8, v: u16) -> i32
     }
 }
 
-// The value of a point of the envelope at a place, as it is shown.
+// The shown value of a point of the envelope at a place.
 pub fn value(m: &[u8], kind: EnvelopeKind, version: u8, at: usize, sections: u8, point: u8) -> i32
     ensures { λ r. ⌜ r ≡ valueShown (now (m .entry)) kind version at sections point ⌝ }
 {
@@ -184,7 +184,7 @@ fn no_envelope(r: Refusal) -> EnvelopeAnswer
     }
 }
 
-// The envelope whose block stands at a place.
+// The envelope whose block is at a place.
 fn envelope_at(m: &[u8], kind: EnvelopeKind, version: u8, at: usize) -> EnvelopeAnswer
     ensures { λ r. ⌜ r ≡ shownEnvelope (now (m .entry)) kind version at ⌝ }
 {
@@ -203,7 +203,7 @@ fn envelope_at(m: &[u8], kind: EnvelopeKind, version: u8, at: usize) -> Envelope
     }
 }
 
-// An envelope, counted from 0 by its place in its chunk.
+// An envelope, counted from 0 in the order of its chunk.
 pub fn envelope(m: &[u8], kind: EnvelopeKind, envelope: usize) -> EnvelopeAnswer
     ensures { λ r. ⌜ r ≡ envelopeAnswer (now (m .entry)) kind envelope ⌝ }
 {
