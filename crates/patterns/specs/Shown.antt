@@ -1,5 +1,5 @@
--- FORMAT.md, B4 and Q10 (document 01, "Layout"): a pattern as it is shown, by its rows and cells. What a stream holds, the
--- definitions of `pattern` say.
+-- FORMAT.md, B4 and Q10 (document 01, "Layout"): a pattern as it is shown, by its rows and cells. The definitions of `packed_rows` say what
+-- a stream holds.
 use Prim.Native.Nat.{ℕ}
 use mathlib.Core.List.{List}
 use Rattle.refusal.specs.Numbers.{noRefusal, refusedOutcome}
@@ -22,7 +22,7 @@ use Rattle.patterns.specs.declared.RowsAnswer.{RowsAnswer}
 abbrev pub noRows : Refusal → RowsAnswer
 noRows r = record { outcome = refusedOutcome r; rows = 0 }
 
--- B4: the rows stand first.
+-- B4: the rows are the first field of the block.
 abbrev pub rowsIf : List ℕ → Found → RowsAnswer
 rowsIf m (At b) = record { outcome = noRefusal; rows = patternRows m (b .at) }
 rowsIf m (Refused r) = noRows r
@@ -31,7 +31,7 @@ rowsIf m (Refused r) = noRows r
 abbrev pub rowsAnswer : List ℕ → ℕ → RowsAnswer
 rowsAnswer m pattern = rowsIf m (found m Pattern pattern)
 
--- Q10: a cell of the pattern's packed bytes, by its rows and the module's tracks.
+-- Q10: a cell of the pattern's packed bytes, with its rows and the module's tracks.
 abbrev pub cellIn : List ℕ → Block → ℕ → ℕ → CellAnswer
 cellIn m b row track = cellOf (packedBytes m (b .at)) (patternRows m (b .at)) (b .tracks) row track
 
@@ -47,7 +47,7 @@ abbrev pub lengthOfUnpacking : Unpacking → LengthAnswer
 lengthOfUnpacking (Unpacked n) = writtenLength n
 lengthOfUnpacking (UnpackingRefused r) = refusedLength r
 
--- Q10: the pattern's packed bytes, unpacked by its rows and the module's tracks.
+-- Q10: the pattern's packed bytes, unpacked with its rows and the module's tracks.
 abbrev pub cellsIn : List ℕ → Block → ℕ → LengthAnswer
 cellsIn m b room = lengthOfUnpacking (streamAnswer (packedBytes m (b .at)) (patternRows m (b .at)) (b .tracks) room)
 

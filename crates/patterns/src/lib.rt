@@ -1,5 +1,5 @@
-// Patterns: rows, one cell, and the whole pattern unpacked. Each query gives the module's own refusal, then 18, then 17. Of the
-// packed rows only the promises of `pattern` are used.
+// Patterns: rows, one cell, and the whole pattern unpacked. Each query gives the module's own refusal, then 18, then 17. Only the contracts
+// of `packed_rows` are used.
 use blocks::RecordKind;
 use blocks::stored::packed_bytes;
 use blocks::stored::pattern_rows;
@@ -21,7 +21,7 @@ ghost use Rattle.refusal.specs.Numbers.{IsAnswer};
 ghost use Rattle.packed_rows.specs.Answers.{cellNumbers};
 ghost use Rattle.patterns.specs.Shown.{noRows, rowsAnswer, cellIn, cellAnswer, cellsIn, cellsOutputIn, cellsAnswer, cellsOutput};
 
-// How many rows a pattern has.
+// The number of rows of a pattern.
 #[repr(C)]
 pub struct RowsAnswer {
     pub outcome: Outcome,
@@ -37,7 +37,7 @@ fn no_rows(r: Refusal) -> RowsAnswer
     }
 }
 
-// The rows of a pattern, counted from 0.
+// The number of rows of a pattern, counted from 0.
 pub fn rows(m: &[u8], pattern: usize) -> RowsAnswer
     ensures { λ r. ⌜ r ≡ rowsAnswer (now (m .entry)) pattern ⌝ }
 {
@@ -50,7 +50,7 @@ pub fn rows(m: &[u8], pattern: usize) -> RowsAnswer
     }
 }
 
-// A cell of the pattern of a block.
+// A cell of the pattern whose block is given.
 fn cell_in(m: &[u8], b: Block, row: usize, track: usize) -> CellAnswer
     ensures { λ r. ⌜ r ≡ cellIn (now (m .entry)) b row track ⌝ }
 {
@@ -68,7 +68,7 @@ pub fn cell(m: &[u8], pattern: usize, row: usize, track: usize) -> CellAnswer
     }
 }
 
-// Unpacks the pattern of a block.
+// Unpacks the pattern whose block is given.
 fn unpack_in(m: &[u8], b: Block, out: &mut [u8]) -> LengthAnswer
     ensures { λ r. ⌜ (r ≡ cellsIn (now (m .entry)) b (length (now (out .entry))))
         × (now (out .exit) ≡ cellsOutputIn (now (m .entry)) b (now (out .entry))) ⌝ }
