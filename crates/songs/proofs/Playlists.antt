@@ -1,4 +1,4 @@
--- Writing a playlist into a lent output.
+-- Writing a playlist to a lent output.
 use Prim.Native.Nat.{ℕ, _+_, _*_, _<_, _≤_}
 use mathlib.Core.Path.{_≡_, ap, _∙_}
 use mathlib.Core.List.{List, _++_}

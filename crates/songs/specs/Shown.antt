@@ -1,5 +1,5 @@
--- FORMAT.md, B2, Q3 and Q7 (document 01, "Layout"): a song as it is shown. Each answer begins with the refusal's number and place,
--- 0 and 0 where there is none; on a refusal all else is 0.
+-- FORMAT.md, B2, Q3 and Q7 (document 01, "Layout"): a song as it is shown. Each answer begins with the refusal's number and place, 0 and 0
+-- if there is none; on a refusal all other fields are 0.
 use Prim.Native.Nat.{ℕ, _+_, _*_}
 use mathlib.Core.List.{List}
 use mathlib.Core.Bool.{cond}
@@ -21,7 +21,7 @@ use Rattle.songs.specs.declared.EntryAnswer.{EntryAnswer}
 abbrev pub noSong : Refusal → SongAnswer
 noSong r = record { outcome = refusedOutcome r; name = replicate 44 0; length = 0 }
 
--- B2, Q7: name 44, length 2.
+-- B2, Q7: a song as it is shown: name 44, length 2.
 abbrev pub shownSong : List ℕ → ℕ → SongAnswer
 shownSong m at = record { outcome = noRefusal; name = songName m at; length = songLength m at }
 
@@ -36,7 +36,7 @@ songAnswer m song = songIf m (found m Song song)
 abbrev pub noEntry : Refusal → EntryAnswer
 noEntry r = record { outcome = refusedOutcome r; pattern = 0 }
 
--- B2, Q7: the entries stand behind the length, 2 bytes each; 18 past the last.
+-- B2, Q7: an entry of the playlist: the entries come after the length, 2 bytes each; 18 past the last.
 abbrev pub entryIn : List ℕ → ℕ → ℕ → EntryAnswer
 entryIn m at entry =
     cond (ltb entry (songLength m at))
@@ -50,7 +50,7 @@ entryIf m entry (Refused r) = noEntry r
 abbrev pub entryAnswer : List ℕ → ℕ → ℕ → EntryAnswer
 entryAnswer m song entry = entryIf m entry (found m Song song)
 
--- Q7: a playlist as it is stored: so many entries of 2 bytes.
+-- Q7: a playlist as it is stored: its entries, 2 bytes each.
 abbrev pub playlistSize : List ℕ → ℕ → ℕ
 playlistSize m at = 2 * songLength m at
 

@@ -48,7 +48,7 @@ fn no_song(r: Refusal) -> SongAnswer
     }
 }
 
-// The song whose block stands at a place.
+// The song whose block is at a place.
 fn song_at(m: &[u8], at: usize) -> SongAnswer
     ensures { λ r. ⌜ r ≡ shownSong (now (m .entry)) at ⌝ }
 {
@@ -78,7 +78,7 @@ fn no_entry(r: Refusal) -> EntryAnswer
     }
 }
 
-// An entry of the song whose block stands at a place: 18.
+// An entry of the song whose block is at a place: 18.
 fn entry_in(m: &[u8], at: usize, entry: usize) -> EntryAnswer
     ensures { λ r. ⌜ r ≡ entryIn (now (m .entry)) at entry ⌝ }
 {
@@ -101,7 +101,7 @@ pub fn entry(m: &[u8], song: usize, entry: usize) -> EntryAnswer
     }
 }
 
-// Writes the playlist of the song whose block stands at a place: 17.
+// Writes the playlist of the song whose block is at a place: 17.
 fn write_playlist(m: &[u8], at: usize, out: &mut [u8]) -> LengthAnswer
     requires { ⌜ SmallPlace at ⌝ }
     ensures { λ r. ⌜ (r ≡ lengthIf (playlistSize (now (m .entry)) at) (length (now (out .entry))))
@@ -115,7 +115,7 @@ fn write_playlist(m: &[u8], at: usize, out: &mut [u8]) -> LengthAnswer
     written(needed)
 }
 
-// Writes a song's playlist, two bytes for each entry.
+// Writes a song's playlist, 2 bytes for each entry.
 pub fn playlist(m: &[u8], song: usize, out: &mut [u8]) -> LengthAnswer
     ensures { λ r. ⌜ (r ≡ playlistAnswer (now (m .entry)) song (length (now (out .entry))))
         × (now (out .exit) ≡ playlistOutput (now (m .entry)) song (now (out .entry))) ⌝ }
