@@ -1,5 +1,5 @@
--- FORMAT.md, Q3 to Q6 (document 01, "Layout"): version, name and INFO's numbers as they are shown. Each answer begins with the
--- refusal's number and place, 0 and 0 where there is none; on a refusal all else is 0.
+-- FORMAT.md, Q3 to Q6 (document 01, "Layout"): version, name and INFO's numbers as they are shown. Each answer begins with the refusal's
+-- number and place, 0 and 0 if there is none; on a refusal all other fields are 0.
 use Prim.Native.Nat.{ℕ, _+_}
 use mathlib.Core.List.{List}
 use mathlib.Core.Bool.{cond}
@@ -18,7 +18,7 @@ use Rattle.summary.specs.declared.InfoAnswer.{InfoAnswer}
 abbrev pub noVersion : Refusal → VersionAnswer
 noVersion r = record { outcome = refusedOutcome r; version = 0; revision = 0 }
 
--- Q4: the two bytes as stored.
+-- Q4: version and revision, both bytes as stored.
 abbrev pub shownVersion : Layout → VersionAnswer
 shownVersion l = record { outcome = noRefusal; version = l .version; revision = l .revision }
 
@@ -33,7 +33,7 @@ versionAnswer m = versionIf (opened m)
 abbrev pub noName : Refusal → NameAnswer
 noName r = record { outcome = refusedOutcome r; name = replicate 44 0 }
 
--- Q5: the 44 bytes of NAME's data, and 44 zeros where it is missing.
+-- Q5: the name: the 44 bytes of NAME's data, or 44 zeros if NAME is missing.
 abbrev pub nameOf : List ℕ → Layout → List ℕ
 nameOf m l = cond (l .spans .name .present) (bytesFrom m (l .spans .name .at + 8) 44) (replicate 44 0)
 

@@ -1,4 +1,4 @@
-// What a module says of itself: version, name, and INFO's numbers. Each query gives the module's own refusal first.
+// Version, name and INFO's numbers of a module. Each query gives the module's own refusal first.
 use layout::Layout;
 use layout::Outline;
 use queries::name44;
@@ -24,7 +24,7 @@ pub struct NameAnswer {
     pub name: [u8; 44],
 }
 
-// How many instruments, samples, songs and patterns there are, and how many tracks a pattern has.
+// The numbers of instruments, samples, songs and patterns, and the number of tracks of a pattern.
 #[repr(C)]
 pub struct InfoAnswer {
     pub outcome: Outcome,
@@ -68,7 +68,7 @@ fn no_name(r: Refusal) -> NameAnswer
     }
 }
 
-// The bytes of NAME, zeros where it is missing.
+// The bytes of NAME, or zeros if it is missing.
 pub fn name_of(m: &[u8], l: Layout) -> [u8; 44]
     ensures { λ r. ⌜ r ≡ nameOf (now (m .entry)) l ⌝ }
 {
