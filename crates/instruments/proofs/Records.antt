@@ -1,4 +1,4 @@
--- An instrument is shown when each of its fields is.
+-- An instrument is shown if each of its fields is.
 use Prim.Native.Nat.{ℕ}
 use mathlib.Core.Path.{_≡_}
 use mathlib.Core.List.{List}

@@ -1,5 +1,5 @@
--- FORMAT.md, B3, Q3 and Q8 (document 01, "Layout"): an instrument as it is shown. The answer begins with the refusal's number and
--- place, 0 and 0 where there is none; on a refusal all else is 0.
+-- FORMAT.md, B3, Q3 and Q8 (document 01, "Layout"): an instrument as it is shown. The answer begins with the refusal's number and place, 0
+-- and 0 if there is none; on a refusal all other fields are 0.
 use Prim.Native.Nat.{ℕ}
 use mathlib.Core.List.{List}
 use lib.ListN.{replicate}

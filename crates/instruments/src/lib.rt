@@ -58,7 +58,7 @@ fn no_instrument(r: Refusal) -> InstrumentAnswer
     }
 }
 
-// The instrument whose block stands at a place.
+// The instrument whose block is at a place.
 fn instrument_at(m: &[u8], at: usize) -> InstrumentAnswer
     ensures { λ r. ⌜ r ≡ shownInstrument (now (m .entry)) at ⌝ }
 {
