@@ -1,5 +1,5 @@
-// The C entry points of the module reader: the check of a module, every query about it, all its records, and its repacking. An answer begins
-// with the refusal's number (0: none) and place.
+// The C entry points of the module reader: the check of a module, every query about it, all its records, and its repacking. An answer
+// begins with the refusal's number (0: none) and place.
 use cells::Cell;
 use cells::note_numbers;
 use envelopes::CountAnswer;
@@ -118,7 +118,7 @@ pub extern "C" fn dbm0_instrument(m: &[u8], instrument: usize) -> InstrumentAnsw
     instruments::instrument(m, instrument)
 }
 
-// How many volume envelopes there are.
+// The number of volume envelopes.
 #[no_mangle]
 pub extern "C" fn dbm0_volume_envelopes(m: &[u8]) -> CountAnswer
     ensures { λ r. ⌜ r ≡ countAnswer (now (m .entry)) Volume ⌝ }
@@ -126,7 +126,7 @@ pub extern "C" fn dbm0_volume_envelopes(m: &[u8]) -> CountAnswer
     envelopes::count(m, EnvelopeKind::Volume)
 }
 
-// How many panning envelopes there are.
+// The number of panning envelopes.
 #[no_mangle]
 pub extern "C" fn dbm0_panning_envelopes(m: &[u8]) -> CountAnswer
     ensures { λ r. ⌜ r ≡ countAnswer (now (m .entry)) Panning ⌝ }
@@ -150,7 +150,7 @@ pub extern "C" fn dbm0_panning_envelope(m: &[u8], envelope: usize) -> EnvelopeAn
     envelopes::envelope(m, EnvelopeKind::Panning, envelope)
 }
 
-// The rows of a pattern.
+// The number of rows of a pattern.
 #[no_mangle]
 pub extern "C" fn dbm0_rows(m: &[u8], pattern: usize) -> RowsAnswer
     ensures { λ r. ⌜ r ≡ rowsAnswer (now (m .entry)) pattern ⌝ }
@@ -222,7 +222,7 @@ pub extern "C" fn dbm0_sample(m: &[u8], sample: usize) -> SampleAnswer
     samples::sample(m, sample)
 }
 
-// Where the frames of a sample stand in the module.
+// The offset of a sample's frames in the module.
 #[no_mangle]
 pub extern "C" fn dbm0_frames(m: &[u8], sample: usize) -> FramesAnswer
     ensures { λ r. ⌜ r ≡ framesAnswer (now (m .entry)) sample ⌝ }
@@ -255,7 +255,7 @@ pub extern "C" fn dbm0_records(m: &[u8], out: &mut [u8]) -> LengthAnswer
     records::all(m, out)
 }
 
-// A module repacked.
+// Repacks a module.
 #[no_mangle]
 pub extern "C" fn dbm0_repack(m: &[u8], out: &mut [u8]) -> LengthAnswer
     ensures { λ r. ⌜ (r ≡ repackAnswer (now (m .entry)) (length (now (out .entry)))) × (now (out .exit) ≡ repackOutput (now (m .entry)) (now (out .entry))) ⌝ }
