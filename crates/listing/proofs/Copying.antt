@@ -1,4 +1,4 @@
--- Copying bytes to the beginning of a text; a listing that was written into enough room.
+-- Copying bytes to the beginning of a text; a listing that was written to enough room.
 use Prim.Native.Nat.{ℕ, _+_, _<_, _≤_}
 use mathlib.Core.Path.{_≡_, sym, _∙_}
 use mathlib.Core.List.{List, _++_}
@@ -13,7 +13,7 @@ use Rattle.listing_text.specs.declared.Listing.{Listing}
 use Rattle.listing_text.specs.declared.Listing.the-variants.{Written, Refused}
 use Rattle.io.specs.Counts.{Counts}
 
--- One byte more.
+-- One more byte.
 pub copy-turn : (text bytes : List ℕ) (i : ℕ) → i < length text → i < length bytes → take i text ≡ take i bytes
     → take (i + 1) (set text i (getD bytes i 0)) ≡ take (i + 1) bytes
 copy-turn text bytes i h k e = rw (add-one i, take-suc-set text i (getD bytes i 0) h, e) (sym (take-suc bytes i 0 k))
@@ -21,7 +21,7 @@ copy-turn text bytes i h k e = rw (add-one i, take-suc-set text i (getD bytes i 
 pub counts : (n : ℕ) (text : List ℕ) → n ≤ length text → Counts n text
 counts n text h = (h, sym (length-take-le n text h))
 
--- In 256 bytes a listing has room: it is written, and is what the text begins with.
+-- A listing fits in 256 bytes: it is written, and the text begins with it.
 module _ (m text text′ : List ℕ) (r : Listing) (answer : r ≡ linesAnswer m (length text))
     (output : text′ ≡ linesOutput m text) (short : length (listing m) ≤ 256) (room : 256 ≤ length text) where
   answer-written : r ≡ Written (length (listing m))

@@ -1,4 +1,4 @@
--- What is known of a read input: its bytes are inside the room that was lent for it. Which bytes are read no contract can say.
+-- The contract of reading the input: its bytes are inside the lent room. No contract can say which bytes are read.
 use Prim.Native.Nat.{ℕ}
 use mathlib.Core.List.{List}
 use Rattle.io.specs.Counts.{Counts}

@@ -1,5 +1,5 @@
-// Prints the listing of the module on standard input, as document 01 has it: its seven lines, or `refused NUMBER at PLACE`. More
-// than 65,536 bytes are `input too big`; an input that cannot be read to its end is `input not read`.
+// Prints the listing of the module on standard input, as in document 01: its seven lines, or `refused NUMBER at PLACE`. For more than
+// 65,536 bytes it prints `input too big`, and for an input that cannot be read to its end `input not read`.
 use listing_text::Listing;
 ghost use mathlib.Core.Path.{_≡_};
 ghost use Prim.Native.Nat.{_≤_};
@@ -8,21 +8,21 @@ ghost use Rattle.io.specs.Counts.{Counts};
 ghost use Rattle.listing.specs.Printed.{printed};
 ghost use Rattle.listing.specs.Inputs.{Inside};
 
-// What reading the input gives: how many bytes there are, or nothing, where a read failed.
+// The result of reading the input: the number of its bytes, or none if a read failed.
 enum Input {
     Read(usize),
     NotRead,
 }
 
-// Room for the input, and for one byte more, which shows that it is too big. The `ensures` gives the length, which lending the
-// array as a slice needs.
+// Room for the input, and for one more byte, which shows that it is too big. The `ensures` gives the length, which lending the array as a
+// slice needs.
 fn input_space() -> [u8; 65537]
     ensures { λ r. ⌜ 65537 ≡ length r ⌝ }
 {
     [0; 65537]
 }
 
-// Reads standard input until it ends or there is no more room. A read that fails is told apart from the end.
+// Reads standard input until it ends or there is no more room. A read that fails is distinguished from the end.
 fn read_input(input: &mut [u8]) -> Input
     ensures { λ r. ⌜ Inside r (now (input .exit)) ⌝ }
 {
@@ -41,7 +41,7 @@ fn read_input(input: &mut [u8]) -> Input
     Input::Read(n)
 }
 
-// Puts bytes at the beginning of a text, and answers how many there are.
+// Writes bytes to the beginning of a text, and returns their number.
 fn put(text: &mut [u8], bytes: &[u8]) -> usize
     requires { ⌜ length (now bytes) ≤ length (now text) ⌝ }
     ensures { λ r. ⌜ (r ≡ length (now (bytes .entry))) × (take r (now (text .exit)) ≡ now (bytes .entry)) ⌝ }
@@ -54,7 +54,7 @@ fn put(text: &mut [u8], bytes: &[u8]) -> usize
     i
 }
 
-// Puts what is printed for an input at the beginning of a text, and answers how many bytes it has.
+// Writes the output for an input to the beginning of a text, and returns its length.
 fn put_printed(text: &mut [u8], input: &[u8]) -> usize
     requires { ⌜ 256 ≤ length (now text) ⌝ }
     ensures { λ r. ⌜ (take r (now (text .exit)) ≡ printed (now (input .entry))) × Counts r (now (text .exit)) ⌝ }
