@@ -1,4 +1,4 @@
--- A number's decimal digits: the laws of `decimal` without its steps, how many digits there are, and the loop that counts them.
+-- The decimal digits of a number: the laws of `decimal` without its steps, the number of digits, and the loop that counts them.
 use Prim.Native.Nat.{ℕ, zero, suc, _+_, _-_, _*_, _/_, _%_, _^_, _<_, _≤_}
 use mathlib.Core.Path.{_≡_, refl, ap}
 use mathlib.Core.List.{List, [], _∷_, _++_}
@@ -10,7 +10,7 @@ use lib.Dec.{ltb}
 use borrow.Author.Tests.{lt-ltb, le-ltb, ltb-true, ltb-false}
 use Rattle.listing_text.specs.Lines.{digit, digitsWithin, decimal}
 
--- Once there are enough steps, their number does not matter.
+-- If there are enough steps, their number does not matter.
 enough : (steps more n : ℕ) → n < steps → n < more → digitsWithin steps n ≡ digitsWithin more n
 unfolding digitsWithin
 enough zero more n h k = absurd (omega arith)
@@ -30,7 +30,7 @@ pub decimal-short : (n : ℕ) → n < 10 → decimal n ≡ digit n ∷ []
 unfolding decimal digitsWithin
 decimal-short n h = simp (lt-ltb n 10 h)
 
--- Any other is its tenth and then its last digit.
+-- Any other number is its tenth and then its last digit.
 pub decimal-long : (n : ℕ) → 10 ≤ n → decimal n ≡ decimal (n / 10) ++ (digit (n % 10) ∷ [])
 unfolding decimal digitsWithin
 decimal-long n h = simp (le-ltb n 10 h) (ap (λ (l : List ℕ). l ++ (digit (n % 10) ∷ [])) (enough n (suc (n / 10)) (n / 10) (omega arith) (omega arith)))
@@ -46,7 +46,7 @@ decimal-some n =
     go true e = rw (decimal-short n (ltb-true _ _ e)) (omega arith)
     go false e = omega (arith, decimal-longer n (ltb-false _ _ e))
 
--- So many digits hold every number below that power of ten.
+-- A number below 10 ^ k has at most k digits, for k from 1 on.
 pub decimal-within : (k n : ℕ) → n < 10 ^ suc k → length (decimal n) ≤ suc k
 decimal-within zero n h = rw (decimal-short n h) (omega arith)
 decimal-within (suc k) n h =
@@ -60,7 +60,7 @@ decimal-within (suc k) n h =
 pub decimal-64 : (n : ℕ) → n < 2 ^ 64 → length (decimal n) ≤ 20
 decimal-64 n h = decimal-within 19 n (omega arith)
 
--- What `decimal` says: read from the front as digits, it is the number; and it does not begin with 0 unless the number is 0.
+-- The meaning of `decimal`: read from the front as digits, it is the number; and it does not begin with 0 unless the number is 0.
 unfoldable pub numberFrom : ℕ → List ℕ → ℕ
 numberFrom n [] = n
 numberFrom n (d ∷ ds) = numberFrom (n * 10 + (d - 48)) ds
@@ -99,6 +99,6 @@ leading-within (suc steps) n h k =
 pub decimal-leading : (n : ℕ) → 0 < n → 48 < getD (decimal n) 0 0
 decimal-leading n h = leading-within (suc n) n (omega arith) h
 
--- Counting: one digit more is counted.
+-- One more digit is counted.
 pub count-turn : (count rest all : ℕ) → 10 ≤ rest → count + length (decimal rest) ≡ all → count + 1 + length (decimal (rest / 10)) ≡ all
 count-turn count rest all h e = let l = decimal-longer rest h in omega arith

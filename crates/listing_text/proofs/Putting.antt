@@ -1,4 +1,4 @@
--- Putting things into a text, one behind the other.
+-- Writing to a text, one part after the other.
 use Prim.Native.Nat.{ℕ, suc, _+_, _-_, _/_, _%_, _<_, _≤_}
 use mathlib.Core.Path.{_≡_, refl, sym, ap, subst, _∙_}
 use mathlib.Core.List.{List, [], _∷_, _++_, append-assoc, append-nil}
@@ -12,7 +12,7 @@ use Rattle.listing_text.specs.Lines.{ascii, digit, decimal, versionLine,
 use Rattle.listing_text.specs.Steps.{Put, countLines}
 use Rattle.listing_text.proofs.Decimals.{decimal-short, decimal-long, decimal-longer, decimal-some}
 
--- One thing behind the other.
+-- One part after the other.
 pub put-both : {text₀ text₁ text₂ : List ℕ} {at next last : ℕ} (xs ys : List ℕ) → Put text₀ at xs text₁ next
     → Put text₁ next ys text₂ last
     → Put text₀ at (xs ++ ys) text₂ last
@@ -22,7 +22,7 @@ put-both {text₀} {text₁} {text₂} {at} xs ys p q =
       front = q .front ∙ rw (p .front) (append-assoc (take at text₀) xs ys);
     }
 
--- What fills a text from its beginning to its end.
+-- Bytes that fill a text from its beginning to its end.
 pub put-whole : (text₀ xs text : List ℕ) (next : ℕ) → length text ≡ length xs → Put text₀ 0 xs text next → text ≡ xs
 put-whole text₀ xs text next l p = sym (take-all next text (omega (arith, p .place))) ∙ p .front
 
@@ -62,7 +62,8 @@ pub word-last : {text₀ text : List ℕ} {at : ℕ} (word : List ℕ) (i : ℕ)
     → Put text₀ at word text (at + i)
 word-last word i h p = rw (take-all i word h) at p
 
--- A number's digits from behind: `rest` is still to be put, its last digit at `to`. Behind that stand the digits that are put.
+-- The digits of a number from the last to the first: the digits of `rest` are still to be written, the last of them at `to`. After it are
+-- the digits already written.
 pub record Spelling (text₀ : List ℕ) (at n : ℕ) (text : List ℕ) (rest to : ℕ) : Type 0 where
   pub room : length text ≡ length text₀
   pub fits : at + length (decimal n) ≤ length text₀
@@ -88,7 +89,7 @@ module _ {text₀ : List ℕ} {at n : ℕ} where
       }
 
   module _ {text : List ℕ} {rest to : ℕ} where
-    -- The place of the next digit is inside.
+    -- The place of the next digit is inside the number's room.
     pub spelling-inside : Spelling text₀ at n text rest to → (at ≤ to) × (to < at + length (decimal n))
     spelling-inside s =
         let some = decimal-some rest in
@@ -99,11 +100,11 @@ module _ {text₀ : List ℕ} {at n : ℕ} where
     pub spelling-write : Spelling text₀ at n text rest to → to < length text
     spelling-write s = let inside = spelling-inside s in omega (arith, s .room, s .fits)
 
-    -- There is a place before it while there are more digits.
+    -- There is a place before it if there are more digits.
     pub spelling-more : 10 ≤ rest → Spelling text₀ at n text rest to → 1 ≤ to
     spelling-more h s = let some = decimal-some (rest / 10) in let longer = decimal-longer rest h in omega (arith, s .place)
 
-    -- What stands from there on, once a digit is put.
+    -- The text from there on, after a digit is written.
     spelling-put : (d : ℕ) → Spelling text₀ at n text rest to
         → drop to (take (at + length (decimal n)) (set text to d)) ≡ d ∷ drop (to + 1) (take (at + length (decimal n)) text)
     spelling-put d s =

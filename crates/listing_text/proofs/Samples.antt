@@ -29,7 +29,7 @@ pub refused-listing : listing (take 42 sample) ≡ ascii "refused 8 at 42\n"
 unfolding listing decimal digitsWithin byteAt number16 number32 chunks chunksFrom
 refused-listing = refl
 
--- Numbers of one and more digits.
+-- Numbers of one and of more digits.
 pub decimal-0 : decimal 0 ≡ ascii "0"
 unfolding decimal digitsWithin
 decimal-0 = refl

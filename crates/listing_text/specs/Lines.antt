@@ -1,5 +1,5 @@
--- FORMAT.md, L1 to L3 (document 01, the listing program): the lines of a module as bytes, and what writing them into a lent output
--- answers and leaves there.
+-- FORMAT.md, L1 to L3 (document 01, the listing program): the lines of a module as bytes, the answer of writing them to a lent output, and
+-- what the output then holds.
 use Prim.Native.Nat.{ℕ, zero, suc, _+_, _/_, _%_}
 use Prim.Native.Char.{code}
 use Prim.Native.String.{String, [] as []ˢ, _∷_ as _∷ˢ_}
@@ -21,29 +21,30 @@ use Rattle.listing_text.specs.declared.Listing.the-variants.{Written, Re
 abbrev pub digit : ℕ → ℕ
 digit d = 48 + d
 
--- A number's decimal digits, the highest first, in at most so many steps: the digits of its tenth, and then its last digit.
+-- The decimal digits of a number, the highest first, in at most the given number of steps: the digits of its tenth, and then its last
+-- digit.
 unfoldable pub digitsWithin : ℕ → ℕ → List ℕ
 digitsWithin zero n = []
 digitsWithin (suc steps) n =
     let tenth : List ℕ = digitsWithin steps (n / 10) in
     cond (ltb n 10) (digit n ∷ []) (tenth ++ (digit (n % 10) ∷ []))
 
--- L1: a number in decimal, without leading zeros. There is a step for each digit, so n + 1 steps are always enough. What this says
--- without steps: `decimal-value` and `decimal-leading` of proofs/Decimals.antt.
+-- L1: a number in decimal, without leading zeros. There is a step for each digit, so n + 1 steps are always enough. For what this means
+-- without steps, see `decimal-value` and `decimal-leading` of proofs/Decimals.antt.
 unfoldable pub decimal : ℕ → List ℕ
 decimal n = digitsWithin (suc n) n
 
--- The bytes of a text, a byte for each character: only ASCII is used here.
+-- The bytes of a text, one byte for each character: only ASCII is used here.
 abbrev pub ascii : String → List ℕ
 ascii []ˢ = []
 ascii (c ∷ˢ text) = code c ∷ ascii text
 
--- L1: the version, which is 2 or 3 (M4), a dot, and the revision's two halves as a digit each, always both.
+-- L1: the version, which is 2 or 3 (M4), a dot, and the two halves of the revision as one digit each, always both.
 abbrev pub versionLine : ℕ → ℕ → List ℕ
 versionLine version revision =
     ascii "version " ++ (decimal version ++ (ascii "." ++ (digit (revision / 16) ∷ digit (revision % 16) ∷ ascii "\n")))
 
--- L1: a word and a number.
+-- L1: a line of a word and a number.
 abbrev pub numberLine : List ℕ → ℕ → List ℕ
 numberLine word n = word ++ (decimal n ++ ascii "\n")
 
@@ -58,7 +59,7 @@ acceptedLines l bytes =
     ++ (numberLine (ascii "tracks ") (l .tracks)
     ++ numberLine (ascii "accepted ") bytes)))))
 
--- L2: a refusal's number and place.
+-- L2: the line of a refusal's number and place.
 abbrev pub refusedLine : Refusal → List ℕ
 refusedLine r = ascii "refused " ++ (decimal (r .number) ++ (ascii " at " ++ (decimal (r .place) ++ ascii "\n")))
 
@@ -70,24 +71,24 @@ linesOf m (Refused r) = refusedLine r
 unfoldable pub listing : List ℕ → List ℕ
 listing m = linesOf m (opened m)
 
--- L3: writing a text into so much room: 17 with the text's length where the room is shorter, else the length.
+-- L3: writing a text to the given room: 17 with the text's length if the room is shorter, else the length.
 abbrev pub writtenIf : List ℕ → ℕ → Listing
 writtenIf text room =
     cond (ltb room (length text)) (ListingRefused (refusal Room (length text))) (Written (length text))
 
--- What an output then holds: the text, and behind it what stood there; on a refusal all stays.
+-- The output after that: the text and then what was there before; on a refusal it is unchanged.
 abbrev pub outputWritten : Listing → List ℕ → List ℕ → List ℕ
 outputWritten (Written n) text out = text ++ drop n out
 outputWritten (ListingRefused r) text out = out
 
--- L3: writing the listing of a module into so much room.
+-- L3: writing the listing of a module to the given room.
 abbrev pub linesAnswer : List ℕ → ℕ → Listing
 linesAnswer m room = writtenIf (listing m) room
 
 abbrev pub linesOutput : List ℕ → List ℕ → List ℕ
 linesOutput m out = outputWritten (linesAnswer m (length out)) (listing m) out
 
--- F1: what writing the listing answers, in numbers: the value is the length written.
+-- F1: the answer of writing the listing in numbers: the value is the length written.
 abbrev pub listingNumbers : Listing → List ℕ
 listingNumbers (Written n) = acceptedNumbers (n ∷ [])
 listingNumbers (ListingRefused r) = refusedNumbers r 1

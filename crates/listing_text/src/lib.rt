@@ -1,4 +1,4 @@
-// The listing of a module, as document 01's program prints it, into a lent output.
+// The listing of a module, as document 01's program prints it, written to a lent output.
 mod text;
 
 use crate::text::put_accepted;
@@ -15,13 +15,13 @@ ghost use Rattle.refusal.specs.Numbers.{IsAnswer};
 ghost use Rattle.listing_text.specs.Lines.{listing, writtenIf, outputWritten, linesAnswer, linesOutput, listingNumbers};
 ghost use Rattle.listing_text.specs.Steps.{Put};
 
-// What writing the listing answers: its length, or a refusal.
+// The answer of writing the listing: its length, or a refusal.
 pub enum Listing {
     Written(usize),
     Refused(Refusal),
 }
 
-// Puts the listing of a module at the beginning of a text.
+// Writes the listing of a module to the beginning of a text.
 fn put_listing(text: &mut [u8], m: &[u8]) -> usize
     requires { ⌜ 256 ≤ length (now text) ⌝ }
     ensures { λ r. ⌜ Put (now (text .entry)) 0 (listing (now (m .entry))) (now (text .exit)) r × (r ≤ 256) ⌝ }
@@ -32,7 +32,7 @@ fn put_listing(text: &mut [u8], m: &[u8]) -> usize
     }
 }
 
-// Hands out a text: 17.
+// Copies a text to a lent output: 17.
 fn hand_out(text: &[u8], out: &mut [u8]) -> Listing
     ensures { λ r. ⌜ (r ≡ writtenIf (now (text .entry)) (length (now (out .entry))))
         × (now (out .exit) ≡ outputWritten r (now (text .entry)) (now (out .entry))) ⌝ }

@@ -1,5 +1,5 @@
-// Putting text together. Each function puts something into a text at a place, and answers the place behind it. A number has at
-// most 20 digits, and so much room is asked for.
+// Writing text. Each function writes to a text at a place, and returns the place after what it wrote. A number has at most 20 digits, and
+// the contracts require that much room.
 use layout::Layout;
 use refusal::Refusal;
 ghost use mathlib.Core.Path.{_≡_};
@@ -17,7 +17,7 @@ fn digit(d: usize) -> u8
     48 + d as u8
 }
 
-// How many decimal digits a number has.
+// The number of decimal digits of a number.
 fn digits(n: usize) -> usize
     ensures { λ r. ⌜ (r ≡ length (decimal n)) × (r ≤ 20) ⌝ }
 {
@@ -30,7 +30,7 @@ fn digits(n: usize) -> usize
     count
 }
 
-// Puts bytes.
+// Writes bytes.
 pub fn put_word(text: &mut [u8], at: usize, word: &[u8]) -> usize
     requires { ⌜ at + length (now word) ≤ length (now text) ⌝ }
     ensures { λ r. ⌜ Put (now (text .entry)) at (now (word .entry)) (now (text .exit)) r ⌝ }
@@ -43,7 +43,7 @@ pub fn put_word(text: &mut [u8], at: usize, word: &[u8]) -> usize
     at + i
 }
 
-// Puts a number in decimal: the last digit first, from behind.
+// Writes a number in decimal, from its last digit to its first.
 fn put_decimal(text: &mut [u8], at: usize, n: usize) -> usize
     requires { ⌜ at + 20 ≤ length (now text) ⌝ }
     ensures { λ r. ⌜ Put (now (text .entry)) at (decimal n) (now (text .exit)) r × (r ≤ at + 20) ⌝ }
@@ -60,7 +60,7 @@ fn put_decimal(text: &mut [u8], at: usize, n: usize) -> usize
     end
 }
 
-// Puts the line of the version.
+// Writes the line of the version.
 fn put_version(text: &mut [u8], at: usize, version: u8, revision: u8) -> usize
     requires { ⌜ at + 32 ≤ length (now text) ⌝ }
     ensures { λ r. ⌜ Put (now (text .entry)) at (versionLine version revision) (now (text .exit)) r × (r ≤ at + 32) ⌝ }
@@ -72,7 +72,7 @@ fn put_version(text: &mut [u8], at: usize, version: u8, revision: u8) -> usize
     put_word(text, next, &[b'.', tens, ones, b'\n'])
 }
 
-// Puts a line of a word and a number.
+// Writes a line of a word and a number.
 fn put_line(text: &mut [u8], at: usize, word: &[u8], n: usize) -> usize
     requires { ⌜ at + length (now word) + 21 ≤ length (now text) ⌝ }
     ensures { λ r. ⌜ Put (now (text .entry)) at (numberLine (now (word .entry)) n) (now (text .exit)) r × (r ≤ at + length (now (word .entry)) + 21) ⌝ }
@@ -82,7 +82,7 @@ fn put_line(text: &mut [u8], at: usize, word: &[u8], n: usize) -> usize
     put_word(text, next, b"\n")
 }
 
-// Puts the lines of INFO's numbers.
+// Writes the lines of INFO's numbers.
 fn put_counts(
     text: &mut [u8],
     at: usize,
@@ -102,7 +102,7 @@ fn put_counts(
     put_line(text, next, b"tracks ", tracks as usize)
 }
 
-// Puts the seven lines of an accepted module of so many bytes.
+// Writes the seven lines of an accepted module with the given length.
 pub fn put_accepted(text: &mut [u8], l: Layout, bytes: usize) -> usize
     requires { ⌜ 256 ≤ length (now text) ⌝ }
     ensures { λ r. ⌜ Put (now (text .entry)) 0 (acceptedLines l bytes) (now (text .exit)) r × (r ≤ 256) ⌝ }
@@ -120,7 +120,7 @@ pub fn put_accepted(text: &mut [u8], l: Layout, bytes: usize) -> usize
     put_line(text, at, b"accepted ", bytes)
 }
 
-// Puts the line of a refusal.
+// Writes the line of a refusal.
 pub fn put_refused(text: &mut [u8], r: Refusal) -> usize
     requires { ⌜ 256 ≤ length (now text) ⌝ }
     ensures { λ next. ⌜ Put (now (text .entry)) 0 (refusedLine r) (now (text .exit)) next × (next ≤ 256) ⌝ }
