@@ -1,4 +1,4 @@
--- How many digits a number has.
+-- The number of digits of a number.
 use Prim.Native.Nat.{ℕ, zero, suc, _-_, _/_, _^_, _<_, _≤_}
 use native.Mathlib.Nat.{pow-zero, pow-suc, mul-le-mul}
 use native.Mathlib.Omega.{arith}
@@ -14,7 +14,7 @@ power-some b (suc k) h = rw (pow-suc b k) (mul-le-mul (power-some b k h) h)
 less : (k : ℕ) → suc k - 1 ≡ k
 less k = omega arith
 
--- The fewest digits that hold a number are so many.
+-- The least number of digits that hold a number.
 fewest-figures : (more k n : ℕ) → Fewest 10 1 n (suc k) → n < 10 ^ suc more → figures more n ≡ suc k
 fewest-figures zero zero n h b = refl
 fewest-figures zero (suc k) n h b =
@@ -30,7 +30,7 @@ fewest-figures (suc more) (suc k) n h b =
     let above : 1 < suc k → 10 ^ (suc k - 1) ≤ n / 10 = λ one. rw (less k) (omega (arith, pow-suc 10 k)) in
     simp (le-ltb n 10 two-digits, fewest-figures more k (n / 10) (omega arith, below, above) (omega (arith, pow-suc 10 (suc more))))
 
--- What `io::decimal64` writes.
+-- The digits that `io::decimal` writes.
 pub fewest-decimal : (k n : ℕ) → Fewest 10 1 n k → n < 2 ^ 64 → digits 10 k n ≡ decimal64 n
 unfolding decimal64
 fewest-decimal zero n h b = absurd (omega (arith, h .0))

@@ -1,4 +1,4 @@
--- Text that is put into a line part by part.
+-- Text that is written to a line part by part.
 use Prim.Native.Nat.{ℕ, suc, _+_, _-_, _<_, _≤_, min}
 use native.Mathlib.Nat.{add-zero}
 use native.Mathlib.Numerals.{add-one}
@@ -25,7 +25,7 @@ sets-append (x ∷ xs) ys line at =
     let place : at + suc (length xs) ≡ suc at + length xs = omega arith in
     rw place (sets-append xs ys (set line at x) (suc at))
 
--- A text is put at the line's end at the latest.
+-- A text written past the line's end is written at its end: both change nothing.
 pub clamped : (text line : List ℕ) (at : ℕ) → sets line (min at (length line)) text ≡ sets line at text
 clamped text line at =
     go (leb at (length line)) refl
@@ -36,7 +36,7 @@ clamped text line at =
         let h : length line < at = leb-false _ _ e in
         past-end text line (min at (length line)) (omega arith) ∙ sym (past-end text line at (omega arith))
 
--- The loop that puts a text: `i` bytes are put from `start` on, which is the place or the line's end.
+-- The loop that writes a text: `i` bytes are written from `start` on, which is the place or the line's end.
 module _ (line₀ : List ℕ) (at : ℕ) (text : List ℕ) (start : ℕ) where
   pub put-first : start ≡ min at (length line₀) → sets line₀ (start + 0) (drop 0 text) ≡ sets line₀ at text
   put-first e = rw (e, add-zero (min at (length line₀))) (clamped text line₀ at)
@@ -57,14 +57,14 @@ module _ (line₀ : List ℕ) (at : ℕ) (text : List ℕ) (start : ℕ) where
             let less : i < length text = leb-false _ _ e in
             sym (past-end (drop i text) line (start + i) (omega arith)) ∙ done
 
--- Of `text`, which goes to `at`, everything but `rest` is put, and `next` is the place after it.
+-- Of `text`, which is written at `at`, everything but `rest` is written, and `next` is the place after it.
 pub record Going (line₀ : List ℕ) (at : ℕ) (text line : List ℕ) (next : ℕ) (rest : List ℕ) : Type 0 where
   pub room : length line ≡ length line₀
   pub inside : next ≤ length line
   pub place : min (next + length rest) (length line₀) ≡ lineEnd line₀ at text
   pub same : sets line next rest ≡ sets line₀ at text
 
--- The first part is put.
+-- The first part is written.
 pub going-on : (line₀ : List ℕ) (at : ℕ) (xs rest : List ℕ) {line : List ℕ} {next : ℕ}
     → HasPut line₀ at xs line next → Going line₀ at (xs ++ rest) line next rest
 going-on line₀ at xs rest {line} {next} put =
@@ -75,7 +75,7 @@ going-on line₀ at xs rest {line} {next} put =
     let clamp : sets held (min end (length line₀)) rest ≡ sets held end rest = ap (λ (k : ℕ). sets held (min end k) rest) (sym long) ∙ clamped rest held end in
     rw (put .1, put .0) (record { room = long; inside = omega arith; place = omega arith; same = clamp ∙ sym (sets-append xs rest line₀ at) })
 
--- Two parts are put, one after the other.
+-- Two parts are written, one after the other.
 pub both-put : (line₀ : List ℕ) (at : ℕ) (xs ys : List ℕ) {line line′ : List ℕ} {next next′ : ℕ}
     → HasPut line₀ at xs line next → HasPut line next ys line′ next′ → HasPut line₀ at (xs ++ ys) line′ next′
 both-put line₀ at xs ys put then =
@@ -87,7 +87,7 @@ module _ (line₀ : List ℕ) (at : ℕ) (text : List ℕ) where
   going-first h = record { room = refl; inside = h; place = refl; same = refl }
 
   module _ {line : List ℕ} {next : ℕ} where
-    -- One part more.
+    -- One more part.
     pub going-more : (xs rest : List ℕ) {line′ : List ℕ} {next′ : ℕ}
         → Going line₀ at text line next (xs ++ rest) → HasPut line next xs line′ next′ → Going line₀ at text line′ next′ rest
     going-more xs rest {line′} {next′} g put =
@@ -102,11 +102,11 @@ module _ (line₀ : List ℕ) (at : ℕ) (text : List ℕ) where
     pub going-last : Going line₀ at text line next [] → HasPut line₀ at text line next
     going-last g = (omega (arith, g .room, g .inside, g .place), g .same)
 
--- The texts of the elements from one on.
+-- The texts of the elements from a place on.
 abbrev pub texts : (ℕ → List ℕ) → List ℕ → ℕ → List ℕ
 texts f xs i = joined (map f (drop i xs))
 
--- The loop that puts the text of each element.
+-- The loop that writes the text of each element.
 module _ (line₀ : List ℕ) (at : ℕ) (text : List ℕ) (f : ℕ → List ℕ) (xs : List ℕ) (i : ℕ) {line : List ℕ} {next : ℕ} where
   pub going-turn : {line′ : List ℕ} {next′ : ℕ} → i < length xs → Going line₀ at text line next (texts f xs i)
       → HasPut line next (f (getD xs i 0)) line′ next′ → Going line₀ at text line′ next′ (texts f xs (i + 1))

@@ -1,4 +1,4 @@
--- The line of the answer for a cell.
+-- The line for the answer to a query for a cell.
 use Prim.Native.Nat.{ℕ}
 use mathlib.Core.List.{List, [], _∷_}
 use Rattle.packed_rows.specs.declared.CellAnswer.{CellAnswer}

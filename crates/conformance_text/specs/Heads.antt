@@ -1,4 +1,4 @@
--- The numbers of a case's head: those of 4 bytes are read as a module's are.
+-- The numbers at the head of a case: those of 4 bytes are read as in a module.
 use Prim.Native.Nat.{ℕ, _+_, _*_}
 use mathlib.Core.List.{List}
 use Rattle.numbers.specs.Numbers.{number32}

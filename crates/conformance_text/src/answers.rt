@@ -1,4 +1,4 @@
-// Answers as they are printed.
+// Printing answers.
 use crate::text::print_bytes;
 use crate::text::print_numbers;
 use cells::Cell;
@@ -30,7 +30,7 @@ pub fn print_output(word: &[u8], answer: LengthAnswer, out: &[u8], line: &mut [u
     print_bytes(word, &numbers, out, line);
 }
 
-// A cell as it is printed: its note in numbers, and its other fields.
+// A cell in the numbers that are printed: its note in numbers, and its other fields.
 pub fn cell_values(c: Cell) -> [usize; 9]
     ensures { λ r. ⌜ r ≡ cellValues c ⌝ }
 {
@@ -49,7 +49,7 @@ pub fn cell_values(c: Cell) -> [usize; 9]
     ]
 }
 
-// Prints the line of a cell that was asked for.
+// Prints the line for the answer to a query for a cell.
 pub fn print_cell_answer(answer: CellAnswer, line: &mut [u8])
     ensures { λ _. ⌜ now (line .exit) ≡ sets (now (line .entry)) 0 (cellLine answer) ⌝ }
 {

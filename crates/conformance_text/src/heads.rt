@@ -1,4 +1,4 @@
-// The big-endian numbers of a case's head. A byte past the end counts as 0.
+// The big-endian numbers at the head of a case. A byte past the end counts as 0.
 use numbers::number32;
 ghost use mathlib.Core.Path.{_≡_};
 ghost use Rattle.numbers.specs.Numbers.{number32 as number32At};

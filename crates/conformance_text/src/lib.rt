@@ -1,4 +1,4 @@
-// What the conformance programs share: the numbers of a case's head, lines of text, answers as they are printed, and room.
+// What the conformance programs share: the numbers at the head of a case, lines of text, printing answers, and room.
 pub mod answers;
 pub mod heads;
 pub mod text;

@@ -1,4 +1,4 @@
-// Lines of text. A line is lent whole with the place where it goes on; what does not fit is left out.
+// Lines of text. A line is lent whole, with the place to write at; what does not fit is dropped.
 ghost use mathlib.Core.Path.{_≡_};
 ghost use mathlib.Core.List.{_++_};
 ghost use Prim.Native.Nat.{_≤_, min};
@@ -8,7 +8,7 @@ ghost use Rattle.io.specs.Counts.{Counts};
 ghost use Rattle.io.specs.Digits.{digits};
 ghost use Rattle.conformance_text.specs.Text.{HasPut, decimal64, numbersText, hexText, newline, bytesEnd, numbersLine, bytesLine};
 
-// How many bytes a part of `xs` has where `n` are asked for: `n`, but no more than there are.
+// The length of the part of `xs` with `n` bytes: `n`, or the length of `xs` if that is less.
 pub fn within(n: usize, xs: &[u8]) -> usize
     ensures { λ r. ⌜ (r ≡ min n (length (now (xs .entry)))) × Counts r (now (xs .entry)) ⌝ }
 {
@@ -26,7 +26,7 @@ pub fn fill(out: &mut [u8])
     }
 }
 
-// Puts bytes into a line, and answers where it goes on.
+// Writes bytes to a line, and returns the place after them.
 fn put(line: &mut [u8], at: usize, text: &[u8]) -> usize
     ensures { λ r. ⌜ HasPut (now (line .entry)) at (now (text .entry)) (now (line .exit)) r ⌝ }
 {
@@ -40,7 +40,7 @@ fn put(line: &mut [u8], at: usize, text: &[u8]) -> usize
     start + n
 }
 
-// Puts a word and a number in decimal64.
+// Writes a word and a number in decimal.
 pub fn put_number(line: &mut [u8], at: usize, word: &[u8], number: usize) -> usize
     ensures { λ r. ⌜ HasPut (now (line .entry)) at (now (word .entry) ++ decimal64 number) (now (line .exit)) r ⌝ }
 {
@@ -50,7 +50,7 @@ pub fn put_number(line: &mut [u8], at: usize, word: &[u8], number: usize) -> usi
     put(line, next, &figures[..k])
 }
 
-// Puts each number with a space before it.
+// Writes each number with a space before it.
 fn put_numbers(line: &mut [u8], at: usize, numbers: &[usize]) -> usize
     requires { ⌜ at ≤ length (now line) ⌝ }
     ensures { λ r. ⌜ HasPut (now (line .entry)) at (numbersText (now (numbers .entry))) (now (line .exit)) r ⌝ }
@@ -64,7 +64,7 @@ fn put_numbers(line: &mut [u8], at: usize, numbers: &[usize]) -> usize
     next
 }
 
-// Puts a byte in hexadecimal.
+// Writes a byte in hexadecimal.
 fn put_byte(line: &mut [u8], at: usize, x: u8) -> usize
     ensures { λ r. ⌜ HasPut (now (line .entry)) at (digits 16 2 x) (now (line .exit)) r ⌝ }
 {
@@ -73,7 +73,7 @@ fn put_byte(line: &mut [u8], at: usize, x: u8) -> usize
     put(line, at, &figures[..k])
 }
 
-// Puts bytes in hexadecimal.
+// Writes bytes in hexadecimal.
 fn put_hex(line: &mut [u8], at: usize, bytes: &[u8]) -> usize
     requires { ⌜ at ≤ length (now line) ⌝ }
     ensures { λ r. ⌜ HasPut (now (line .entry)) at (hexText (now (bytes .entry))) (now (line .exit)) r ⌝ }
@@ -87,7 +87,7 @@ fn put_hex(line: &mut [u8], at: usize, bytes: &[u8]) -> usize
     next
 }
 
-// Puts a word and numbers at a line's start.
+// Writes a word and numbers to the beginning of a line.
 pub fn begin(line: &mut [u8], word: &[u8], numbers: &[usize]) -> usize
     ensures { λ r. ⌜ HasPut (now (line .entry)) 0 (now (word .entry) ++ numbersText (now (numbers .entry))) (now (line .exit)) r ⌝ }
 {
