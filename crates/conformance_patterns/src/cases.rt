@@ -1,4 +1,4 @@
-// One case after the other.
+// Running the cases, one after the other.
 use conformance_text::answers::cell_values;
 use conformance_text::answers::print_cell_answer;
 use conformance_text::answers::print_outcome;
@@ -84,7 +84,8 @@ fn print_shown(cell: [u8; 6], line: &mut [u8]) {
     print_numbers(b"shown", &cell_values(cells::shown(cell)), line);
 }
 
-// Each function below takes the input from a case's first byte on, and answers how many bytes the case has: 0 where no whole case is there.
+// Each function below takes the input from the first byte of a case on, and returns the length of the case, or 0 if there is no complete
+// case.
 
 fn stream_case(s: &[u8], out: &mut [u8], line: &mut [u8]) -> usize
     ensures { λ r. ⌜ r ≤ length (now (s .entry)) ⌝ }
@@ -154,7 +155,7 @@ fn case(s: &[u8], out: &mut [u8], line: &mut [u8]) -> usize
     0
 }
 
-// Prints every case, and answers how many there were.
+// Prints the answers for every case, and returns the number of cases.
 pub fn run(s: &[u8], out: &mut [u8], line: &mut [u8]) -> usize {
     let mut at = 0;
     let mut n = 0;
