@@ -1,4 +1,4 @@
--- Signed numbers in more bytes, and one of 4 bytes above the least one: not negative, and below 2 ^ 32.
+-- Signed numbers in more bytes, and the difference of a 4-byte number and the least one: not negative, and below 2 ^ 32.
 use Prim.{tt}
 use Prim.Native.Nat.{ℕ, suc, _+_, _-_, _<_}
 use native.Mathlib.Omega.{arith}
@@ -23,7 +23,7 @@ two-in-four x h = rw (toZ-ofZ w16 x h) (fits32 x h)
 pub four-in-eight : (x : ℤ) → SFits w32 x → SFits w64 (toZ w32 (ofZ w32 x))
 four-in-eight x h = rw (toZ-ofZ w32 x h) (fits64 x h)
 
--- how far a number is above −2,147,483,648
+-- The difference of a number and −2,147,483,648.
 abbrev up : ℤ → ℕ
 up (pos n) = n + 2147483648
 up (negsuc n) = 2147483648 - suc n
@@ -36,7 +36,7 @@ up-is : (x : ℤ) → SFits w32 x → x +ℤ pos 2147483648 ≡ pos (up x)
 up-is (pos n) h = refl
 up-is (negsuc n) h = simp (le-ltb 2147483648 (suc n) (omega (arith, h .sfits)))
 
--- What the code adds.
+-- The sum that the code computes.
 abbrev sum : ℤ → ℤ
 sum x = toZ w64 (ofZ w64 (toZ w32 (ofZ w32 x))) +ℤ toZ w64 2147483648
 

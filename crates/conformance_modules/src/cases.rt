@@ -1,4 +1,4 @@
-// One case after the other.
+// Running the cases, one after the other.
 use crate::shown::Asked;
 use crate::shown::print_records;
 use conformance_text::answers::print_outcome;
@@ -43,7 +43,7 @@ fn print_records_into(m: &[u8], out: &mut [u8], line: &mut [u8]) {
     print_output(b"records", a, out, line);
 }
 
-// All records into the first so many bytes of an output.
+// Prints the answer of the call for all records, with the first n bytes of an output.
 fn print_all_records(m: &[u8], n: usize, out: &mut [u8], line: &mut [u8]) {
     let room = within(n, out);
     print_records_into(m, &mut out[..room], line);
@@ -55,7 +55,8 @@ fn print_records_twice(m: &[u8], room: usize, out: &mut [u8], line: &mut [u8]) {
     print_all_records(m, m.len() + 60, out, line);
 }
 
-// Each function below takes the input from a case's first byte on, and answers how many bytes the case has: 0 where no whole case is there.
+// Each function below takes the input from the first byte of a case on, and returns the length of the case, or 0 if there is no complete
+// case.
 
 fn module_case(s: &[u8], out: &mut [u8], line: &mut [u8]) -> usize
     ensures { λ r. ⌜ r ≤ length (now (s .entry)) ⌝ }
@@ -125,7 +126,7 @@ fn case(s: &[u8], out: &mut [u8], line: &mut [u8]) -> usize
     0
 }
 
-// Prints every case, and answers how many there were.
+// Prints the answers for every case, and returns the number of cases.
 pub fn run(s: &[u8], out: &mut [u8], line: &mut [u8]) -> usize {
     let mut at = 0;
     let mut n = 0;

@@ -1,13 +1,13 @@
-// Prints what the libraries answer for each case of standard input, where the cases are about modules.
+// Prints the answers of the libraries for each case on standard input. The cases are about modules.
 //
 // The input has at most 524,288 bytes, and its numbers are big-endian. A case is one of
-//   4, room u32, length u32, a module of that length: prints what checking, listing and repacking it answer, what repacking it
-//      answers with an output as long as the module, and what the call for all records answers, with that room and with an output 60
-//      bytes longer than the module;
+//   4, room u32, length u32, a module of that length: prints the answers of checking, listing and repacking it, of repacking it with
+//      an output as long as the module, and of the call for all records, with that room and with an output 60 bytes longer than the
+//      module;
 //   5, song u64, entry u64, instrument u64, envelope u64, pattern u64, row u64, track u64, sample u64, frame u64, room u32, length
-//      u32, a module of that length: prints what each query answers at these indices.
-// Room is the length of the output that is lent; more than 65,536, also of a module, is taken as that. Each byte of the output is 170
-// before the call. Another first byte, or a case that is cut, ends the run. The last line counts the cases.
+//      u32, a module of that length: prints the answer of each query at these indices.
+// Room is the length of the lent output. Every output has at most 65,536 bytes; a greater length is taken as that. Each byte of
+// the output is 170 before the call. Any other first byte, or a case that is cut, ends the run. The last line is the number of cases.
 mod cases;
 mod shown;
 mod signed;

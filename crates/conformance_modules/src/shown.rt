@@ -1,5 +1,5 @@
-// The records of a module: a line for each query, of a word, the refusal's number and place, and the record's fields. Names, parts
-// and outputs stand last, in hexadecimal.
+// The records of a module: a line for each query, with a word, the refusal's number and place, and the fields of the record. Names, parts
+// and outputs come last, in hexadecimal.
 use crate::signed::put_all_signed;
 use crate::signed::put_signed;
 use crate::signed::put_words;
@@ -17,7 +17,7 @@ use envelopes::CountAnswer;
 use envelopes::EnvelopeAnswer;
 use envelopes::EnvelopeKind;
 
-// What is asked for.
+// The indices of the queries.
 pub struct Asked {
     pub song: usize,
     pub entry: usize,
@@ -204,7 +204,7 @@ fn print_sample(m: &[u8], sample: usize, line: &mut [u8]) {
     print_numbers(b"sample", &numbers, line);
 }
 
-// Of the part at most 65,536 bytes are printed.
+// At most 65,536 bytes of the part are printed.
 fn print_frames(m: &[u8], sample: usize, line: &mut [u8]) {
     let a = samples::frames_place(m, sample);
     let part = samples::frames(m, sample);
@@ -268,7 +268,7 @@ fn print_samples(m: &[u8], sample: usize, frame: usize, out: &mut [u8], line: &m
     print_all_frames(m, sample, out, line);
 }
 
-// Prints what each query answers.
+// Prints the answer of each query.
 pub fn print_records(m: &[u8], a: Asked, out: &mut [u8], line: &mut [u8]) {
     print_summary(m, line);
     print_songs(m, a.song, a.entry, out, line);

@@ -1,20 +1,20 @@
-// Numbers with a sign and numbers of two bytes in a line of text.
+// Signed numbers and 2-byte numbers in a line of text.
 use conformance_text::text::put_number;
 ghost use Prim.Native.Nat.{_<_};
 
-// A number of two bytes in four.
+// A 2-byte signed number in 4 bytes.
 pub fn wider(x: i16) -> i32 {
     x as i32
 }
 
-// How far a number is above the least one.
+// The difference between a number and the least one.
 fn above_least(x: i32) -> usize
     ensures { λ r. ⌜ r < 4294967296 ⌝ }
 {
     (x as i64 + 2147483648) as usize
 }
 
-// Puts a space and a number in decimal, with its sign where it is negative.
+// Writes a space and a number in decimal, with its sign if it is negative.
 pub fn put_signed(line: &mut [u8], at: usize, x: i32) -> usize {
     let n = above_least(x);
     if n < 2147483648 {
@@ -23,7 +23,7 @@ pub fn put_signed(line: &mut [u8], at: usize, x: i32) -> usize {
     put_number(line, at, b" ", n - 2147483648)
 }
 
-// Puts each number of two bytes with a space before it.
+// Writes each 2-byte number with a space before it.
 pub fn put_words(line: &mut [u8], at: usize, numbers: &[u16]) -> usize {
     let mut next = at;
     let mut i = 0;
@@ -34,7 +34,7 @@ pub fn put_words(line: &mut [u8], at: usize, numbers: &[u16]) -> usize {
     next
 }
 
-// The same for numbers with a sign.
+// The same for signed numbers.
 pub fn put_all_signed(line: &mut [u8], at: usize, numbers: &[i32]) -> usize {
     let mut next = at;
     let mut i = 0;
