@@ -32,7 +32,7 @@ envelopesRule m chunk = rule (not (chunk .present) || fills m Envelope chunk (en
 abbrev pub flagsRules : List ℕ → ChunkSpan → ℕ → List Rule
 flagsRules m chunk at = rule (not (eqb (widthOf (sampleFlags m at)) 0)) Blocks (chunk .at) ∷ []
 
--- F14: 11 for SONG, INST, PATT, SMPL, VENV, PENV, in whatever order these chunks are.
+-- F14: 11 for SONG, INST, PATT, SMPL, VENV, PENV in this order, whatever the order of the chunks.
 abbrev pub blockRules : List ℕ → Layout → List Rule
 blockRules m l =
     fillingRule m Song (l .spans .song) (l .songs)

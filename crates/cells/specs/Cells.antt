@@ -20,7 +20,7 @@ emptyCell = replicate 6 0
 abbrev pub emptyRow : ℕ → Row
 emptyRow tracks = replicate tracks emptyCell
 
--- C1: at most 65,535 rows; an even number of tracks, from 4 to 254.
+-- C1: whether a pattern may have these rows and tracks: at most 65,535 rows, and an even number of tracks from 4 to 254.
 abbrev pub sizesFit : ℕ → ℕ → Bool
 sizesFit rows tracks = leb rows 65535 && (leb 4 tracks && (leb tracks 254 && eqb (tracks % 2) 0))
 

@@ -1,5 +1,5 @@
--- FORMAT.md, N1 to N4 (document 01, "A shown cell tells its note as one of"). Key off is from source document 003. The octaves go up to 8
--- as in document 01 (000 has 1 to 7, 001 has 1 to 8).
+-- FORMAT.md, N1 to N4 (document 01, "Packed rows"): notes and cells as they are shown. Key off is from source document 003. The octaves go
+-- up to 8 as in document 01 (000 has 1 to 7, 001 has 1 to 8).
 use Prim.Native.Nat.{ℕ, _+_, _*_, _/_, _%_, _≤_}
 use mathlib.Core.Path.{_≡_}
 use mathlib.Core.List.{List, [], _∷_}

@@ -66,7 +66,7 @@ envelopePointRules m flags sections at =
     ∷ rule (not (bit3 flags) || leb (envelopeSecondSustain m at) sections) FieldRange (at + 7)
     ∷ []
 
--- V5: a value is 0 to 64, or −128 to 128 if values are signed.
+-- V5: whether a value is 0 to 64, or −128 to 128 if values are signed.
 abbrev pub valueFits : Bool → ℕ → Bool
 valueFits signed v = cond signed (panningFits v) (leb v 64)
 

@@ -14,7 +14,7 @@ use Rattle.layout.specs.Outlines.{standing, spanOf, spansOf, mandatoryTh
 use Rattle.layout.specs.declared.ChunkSpan.{ChunkSpan}
 use Rattle.layout.specs.Steps.{presentIn, putIn, placedRules, allPresent}
 
--- A chunk has a span exactly if it occurs.
+-- The span of a chunk is present exactly if the chunk occurs.
 pub present-of : (k : ℕ) (cs : List ChunkHeader) → (spanOf k cs) .present ≡ occurs k cs
 present-of k [] = refl
 present-of k (c ∷ cs) = go (eqb (c .identifier) k) refl (present-of k cs)

@@ -77,7 +77,7 @@ occurs identifier (c ∷ cs) = eqb (c .identifier) identifier || occurs identifi
 abbrev pub lengthFits : ChunkHeader → Bool
 lengthFits c = (not (eqb (c .identifier) nameIdentifier) || eqb (c .length) 44) && (not (eqb (c .identifier) infoIdentifier) || eqb (c .length) 10)
 
--- M9: an even number of tracks, from 4 to 254.
+-- M9: whether the number of tracks is even and from 4 to 254.
 abbrev pub tracksFit : ℕ → Bool
 tracksFit tracks = leb 4 tracks && (leb tracks 254 && eqb (tracks % 2) 0)
 

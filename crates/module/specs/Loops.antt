@@ -29,7 +29,7 @@ isLoop pingPong = true
 abbrev pub isLooped : List ℕ → ℕ → Bool
 isLooped m at = isLoop (loopKind (instrumentFlags m at) (instrumentLoopLength m at))
 
--- The number of frames of a sample, counted from 1.
+-- The number of frames of a sample; samples are counted from 1.
 abbrev pub framesOfSample : List ℕ → ChunkSpan → ℕ → ℕ
 framesOfSample m chunk sample = sampleFrames m (blockAt m Sample chunk (sample - 1))
 

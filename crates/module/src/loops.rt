@@ -22,7 +22,7 @@ fn is_looped(flags: u16, length: u32) -> bool
     (length != 0) & ((flags % 2 == 1) | (flags / 2 % 2 == 1))
 }
 
-// The number of frames of a sample, counted from 1.
+// The number of frames of a sample; samples are counted from 1.
 fn frames(m: &[u8], chunk: ChunkSpan, sample: u16) -> u32
     requires { ⌜ 0 < sample ⌝ }
     ensures { λ r. ⌜ r ≡ framesOfSample (now (m .entry)) chunk sample ⌝ }

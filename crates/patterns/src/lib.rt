@@ -37,7 +37,7 @@ fn no_rows(r: Refusal) -> RowsAnswer
     }
 }
 
-// The number of rows of a pattern, counted from 0.
+// The number of rows of a pattern; patterns are counted from 0.
 pub fn rows(m: &[u8], pattern: usize) -> RowsAnswer
     ensures { λ r. ⌜ r ≡ rowsAnswer (now (m .entry)) pattern ⌝ }
 {

@@ -11,7 +11,7 @@ use Rattle.module.specs.Verdicts.{opened}
 use Rattle.queries.specs.Finding.{firstOf, blockOf, foundIf, found}
 use Rattle.queries.specs.declared.Found.the-variants.{At}
 
--- Every number from the first on, below the count, is found.
+-- Every number from the first record to the last is found.
 pub counted-found : (m : List ℕ) (l : Layout) (kind : RecordKind) (number : ℕ) → opened m ≡ Opened l → firstOf kind ≤ number
     → number - firstOf kind < countOf m l kind
     → found m kind number ≡ At (blockOf m l kind number)
