@@ -12,7 +12,6 @@ use lib.Dec.{T, eqb}
 use lib.IntN.{ℤ}
 use lib.Signed.{leZ, _≤ℤ_}
 use borrow.Author.Tests.{eqb-true, eqb-false}
-use Rattle.vocabulary.specs.Lists.{none}
 use Rattle.vocabulary.proofs.EveryOne.{every-one, every-split}
 use Rattle.numbers.specs.Numbers.{byteAt, number16, number32}
 use Rattle.layout.specs.declared.ChunkSpan.{ChunkSpan}

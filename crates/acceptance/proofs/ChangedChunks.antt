@@ -75,12 +75,12 @@ module _ {changes : ℕ → Bool} {f : List ℕ → List ℕ} (change : Change c
 -- M7 still holds.
 module _ {changes : ℕ → Bool} {f : List ℕ → List ℕ} (change : Change changes f) {all : List (List ℕ)} (whole : Every IsChunk all) where
   after-changed : {letters : List ℕ} → AfterInfo all letters → AfterInfo (map f all) letters
-  after-changed behind before after chunk e named =
+  after-changed following before after chunk e named =
       let s = map-split f all before after chunk e in
       let one : Within all (s .one) = record { before = s .front; after = s .back; splits = s .splits } in
       let first = every-append (s .front) (s .one ∷ s .back) .0 (rw (s .splits) at whole) .0 in
       let letters = letters-were change whole (s .one) one (ap (take 4) (sym (s .oneIs)) ∙ named) in
-      let (info, there) = behind (s .front) (s .back) (s .one) (s .splits) letters in
+      let (info, there) = following (s .front) (s .back) (s .one) (s .splits) letters in
       (f info, subst (λ (l : List (List ℕ)). Among l infoLetters (f info)) (sym (s .frontIs)) (among-changed change first there))
 
 module _ {m header : List ℕ} {all : List (List ℕ)} (rules : ChunkRules m header all) {changes : ℕ → Bool} {f : List ℕ → List ℕ}
@@ -196,5 +196,5 @@ module _ {m header : List ℕ} {all : List (List ℕ)} (rules : ChunkRules m hea
     pub module-changed : partOf m 0 8 ++ joined (map made (recordsFrom 8 all)) ≡ header ++ joined (map f all)
     module-changed =
         let front : partOf m 0 8 ≡ header = ap (take 8) (rules .bytes) ∙ take-at header (joined all) 8 (rules .headerSize) in
-        let behind : PartAt m 8 (joined all) = record { before = header; after = []; bytes = rules .bytes ∙ simp append-nil; starts = rules .headerSize } in
-        rw (front, records-changed made f reads 8 all behind (rules .whole)) refl
+        let following : PartAt m 8 (joined all) = record { before = header; after = []; bytes = rules .bytes ∙ simp append-nil; starts = rules .headerSize } in
+        rw (front, records-changed made f reads 8 all following (rules .whole)) refl

@@ -14,7 +14,7 @@ use Rattle.vocabulary.proofs.JoinedLists.{joined-append}
 use Rattle.numbers.specs.Numbers.{Bytes}
 use Rattle.layout.specs.Header.{headerRules}
 use Rattle.layout.specs.Chunks.{occurs}
-use Rattle.layout.specs.Outlines.{standing, spanOf, spansOf, layoutWith, mandatoryThere, outline}
+use Rattle.layout.specs.Outlines.{headerSpan, spanOf, spansOf, layoutWith, mandatoryThere, outline}
 use Rattle.layout.specs.declared.ChunkSpan.{ChunkSpan}
 use Rattle.layout.specs.declared.Layout.{Layout}
 use Rattle.layout.specs.declared.Outline.{Outline}
@@ -24,7 +24,7 @@ use Rattle.acceptance.proofs.Spans.{SpanHolds, Found, LayoutOf}
 use Rattle.acceptance.proofs.Locating.{PartAt, number16-at}
 use Rattle.acceptance.proofs.Holding.{and-says, accepted-hold}
 use Rattle.acceptance.proofs.Identifiers.{identifierOf, chunk-named}
-use Rattle.acceptance.proofs.Recorded.{recorded, recordsFrom, There, every-among, occurs-says, place-of-first, present-occurs}
+use Rattle.acceptance.proofs.Recorded.{recorded, recordsFrom, There, every-among, occurs-says, span-of-first, present-occurs}
 use Rattle.acceptance.proofs.Chunking.{read-whole}
 use Rattle.acceptance.proofs.Heading.{HeaderFits, header-byte, rules-header, header-rules}
 use Rattle.acceptance.proofs.Outlining.{AllRead, along-outline}
@@ -63,27 +63,27 @@ module _ {m header : List ℕ} {all : List (List ℕ)} (rules : ChunkRules m hea
         rules .once letters covers (b .before) (b .after) (a .after) other chunk
         (a .splits ∙ rw (b .splits) (append-assoc (b .before) (other ∷ b .after) (chunk ∷ a .after))) (b .named) (a .named)
 
-    place-is : (covers : Covered letters) → spanOf (identifierOf covers) (recordsFrom 8 all) ≡ standing (recorded (8 + length (joined (a .before))) chunk)
-    place-is covers =
+    span-is : (covers : Covered letters) → spanOf (identifierOf covers) (recordsFrom 8 all) ≡ headerSpan (recorded (8 + length (joined (a .before))) chunk)
+    span-is covers =
         let before = every-append (a .before) (chunk ∷ a .after) .0 (rw (a .splits) at (rules .whole)) .0 in
         let c = every-among (rules .whole) a in
         ap (λ (l : List (List ℕ)). spanOf (identifierOf covers) (recordsFrom 8 l)) (a .splits)
-        ∙ place-of-first covers 8 chunk (a .after) before (chunk-named c covers .1 (a .named)) (not-before covers)
+        ∙ span-of-first covers 8 chunk (a .after) before (chunk-named c covers .1 (a .named)) (not-before covers)
 
     span-of : (covers : Covered letters) → SpanHolds m (spanOf (identifierOf covers) (recordsFrom 8 all)) chunk
     span-of covers = record {
       before = header ++ joined (a .before);
       after = joined (a .after);
       bytes = bytes-split;
-      there = rw (place-is covers);
-      starts = rw (place-is covers) (length-append header (joined (a .before)) ∙ ap (λ (n : ℕ). n + length (joined (a .before))) (rules .headerSize));
-      size = rw (place-is covers) (every-among (rules .whole) a .size);
+      there = rw (span-is covers);
+      starts = rw (span-is covers) (length-append header (joined (a .before)) ∙ ap (λ (n : ℕ). n + length (joined (a .before))) (rules .headerSize));
+      size = rw (span-is covers) (every-among (rules .whole) a .size);
     }
 
   found-of : {letters : List ℕ} (covers : Covered letters) → Found m all letters (spanOf (identifierOf covers) (recordsFrom 8 all))
   found-of covers = record {
     holds = λ chunk a. span-of a covers;
-    begins = λ chunk a. ap (λ (p : ChunkSpan). p .at) (place-is a covers);
+    begins = λ chunk a. ap (λ (p : ChunkSpan). p .at) (span-is a covers);
     chunk = λ present. occurs-says covers 8 (rules .whole) .0 (sym (present-occurs (identifierOf covers) (recordsFrom 8 all)) ∙ present);
   }
 

@@ -129,10 +129,10 @@ module _ {m header : List ℕ} (P : Walk → Type 0)
   along-steps zero before at r h = absurd (omega (arith, reached-inside r))
   along-steps (suc steps) before at r h = go (leb (length m) at) refl (along-steps steps)
     where
-      behind : Walk
-      behind = chunksFrom steps m (recordsFrom 8 before ++ (chunkAt m at ∷ [])) (chunkEnd (chunkAt m at))
+      following : Walk
+      following = chunksFrom steps m (recordsFrom 8 before ++ (chunkAt m at ∷ [])) (chunkEnd (chunkAt m at))
 
-      turn : (v : Verdict) → firstBroken (chunkRules m (recordsFrom 8 before) at) ≡ v → at < length m → Onward steps → P (walkOn v behind)
+      turn : (v : Verdict) → firstBroken (chunkRules m (recordsFrom 8 before) at) ≡ v → at < length m → Onward steps → P (walkOn v following)
       turn (Refused refused) e less ih = stops before at r less refused e
       turn Accepted e less ih =
           let (chunk, part, fits) = accepted-fits r (accepted-hold (chunkRules m (recordsFrom 8 before) at) .0 e) in
@@ -140,7 +140,7 @@ module _ {m header : List ℕ} (P : Walk → Type 0)
           (ih (before ++ (chunk ∷ [])) (at + length chunk) (reached-next r part fits) (omega (arith, fits .bytes .size)))
 
       go : (b : Bool) → leb (length m) at ≡ b → Onward steps
-          → P (cond b (complete (recordsFrom 8 before)) (walkOn (firstBroken (chunkRules m (recordsFrom 8 before) at)) behind))
+          → P (cond b (complete (recordsFrom 8 before)) (walkOn (firstBroken (chunkRules m (recordsFrom 8 before) at)) following))
       go true e ih = ends before (reached-end r (leb-true (length m) at e)) (r .turn)
       go false e ih = turn (firstBroken (chunkRules m (recordsFrom 8 before) at)) refl (leb-false (length m) at e) ih
 

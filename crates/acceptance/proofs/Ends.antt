@@ -32,7 +32,7 @@ module _ (front xs out₀ out mid : List ℕ) (a e : ℕ) (before : out ≡ fron
   pub put-next : mid ≡ xs ++ drop (length xs) (midOf a (e - a) out) → putMid a (e - a) out mid ≡ (front ++ xs) ++ drop (length (front ++ xs)) out₀
   put-next is =
       let part : midOf a (e - a) out ≡ take (e - a) (drop a out₀) = ap (take (e - a)) ahead in
-      let behind : mid ++ postOf a (e - a) out ≡ xs ++ drop (length xs) (drop a out₀) =
+      let following : mid ++ postOf a (e - a) out ≡ xs ++ drop (length xs) (drop a out₀) =
       ap (λ (l : List ℕ). l ++ postOf a (e - a) out) (is ∙ ap (λ (l : List ℕ). xs ++ drop (length xs) l) part)
       ∙ ap (λ (l : List ℕ). (xs ++ drop (length xs) (take (e - a) (drop a out₀))) ++ drop (e - a) l) ahead
       ∙ append-assoc xs (drop (length xs) (take (e - a) (drop a out₀))) (drop (e - a) (drop a out₀))
@@ -42,7 +42,7 @@ module _ (front xs out₀ out mid : List ℕ) (a e : ℕ) (before : out ≡ fron
       let there : a + length xs ≡ length (front ++ xs) = omega (arith, length-append front xs, place) in
       let last : drop (length xs) (drop a out₀) ≡ drop (length (front ++ xs)) out₀ = drop-drop (length xs) a out₀ ∙ ap (λ (k : ℕ). drop k out₀) there in
       ap (λ (l : List ℕ). l ++ (mid ++ postOf a (e - a) out)) written
-      ∙ ap (λ (l : List ℕ). front ++ l) (behind ∙ ap (λ (l : List ℕ). xs ++ l) last)
+      ∙ ap (λ (l : List ℕ). front ++ l) (following ∙ ap (λ (l : List ℕ). xs ++ l) last)
       ∙ sym (append-assoc front xs (drop (length (front ++ xs)) out₀))
 
 -- The length of the list is unchanged.

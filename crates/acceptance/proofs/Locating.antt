@@ -26,14 +26,14 @@ module _ (xs ys : List ℕ) where
   unfolding byteAt
   byteAt-after k = getD-append-add xs ys k 0
 
-  behind : (i : ℕ) → byteAt (xs ++ ys) (length xs + i) ≡ byteAt ys (0 + i)
-  behind i = rw zero-add (byteAt-after i)
+  following : (i : ℕ) → byteAt (xs ++ ys) (length xs + i) ≡ byteAt ys (0 + i)
+  following i = rw zero-add (byteAt-after i)
 
   pub number16-after : (k : ℕ) → number16 (xs ++ ys) (length xs + k) ≡ number16 ys k
-  number16-after k = rw zero-add at (same-number16 (xs ++ ys) ys (length xs) 0 (k + 2) (λ i h. behind i) k (omega arith))
+  number16-after k = rw zero-add at (same-number16 (xs ++ ys) ys (length xs) 0 (k + 2) (λ i h. following i) k (omega arith))
 
   pub number32-after : (k : ℕ) → number32 (xs ++ ys) (length xs + k) ≡ number32 ys k
-  number32-after k = rw zero-add at (same-number32 (xs ++ ys) ys (length xs) 0 (k + 4) (λ i h. behind i) k (omega arith))
+  number32-after k = rw zero-add at (same-number32 (xs ++ ys) ys (length xs) 0 (k + 4) (λ i h. following i) k (omega arith))
 
 -- The front of a list.
 module _ (xs ys : List ℕ) where

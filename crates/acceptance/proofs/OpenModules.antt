@@ -14,7 +14,7 @@ use Rattle.layout.specs.declared.Outline.the-variants.{Found as Opened, Refused
 use Rattle.module.specs.Verdicts.{contentRules, contentIf, opened, verdictOfOutline, moduleVerdict}
 use Rattle.acceptance.proofs.Holding.{accepted-hold}
 use Rattle.acceptance.proofs.ContentRules.{ContentHolds, content-hold}
-use Rattle.acceptance.proofs.WholeChunks.{SpansWhole, outline-places}
+use Rattle.acceptance.proofs.WholeChunks.{SpansWhole, outline-spans}
 
 -- An accepted module opens, and a refused one does not.
 pub accepted-opens : (m : List ℕ) → moduleVerdict m ≡ Accepted → (l : Layout) × (opened m ≡ Opened l)
@@ -46,7 +46,7 @@ module-opens m l = go (outline m) refl
     accepted : (k : Layout) → outline m ≡ Opened k → (v : Verdict) → firstBroken (contentRules m k) ≡ v → outlineIf v (Opened k) ≡ Opened l → Opens m l
     accepted k h Accepted e o =
         let content = content-hold m k .0 (accepted-hold (contentRules m k) .0 e) in
-        let opens : Opens m k = record { outlined = h; spans = outline-places m k h; content = content } in
+        let opens : Opens m k = record { outlined = h; spans = outline-spans m k h; content = content } in
         rw (same o) at opens
     accepted k h (VerdictRefused r) e o = let z : _≡_ {A = ℕ} 0 1 = cc in absurd (omega arith)
 

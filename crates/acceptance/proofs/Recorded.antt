@@ -15,7 +15,7 @@ use Rattle.vocabulary.proofs.EveryOne.{every-append, every-first}
 use Rattle.vocabulary.proofs.Splits.{Within}
 use Rattle.numbers.specs.Numbers.{number32}
 use Rattle.layout.specs.Chunks.{ChunkHeader, occurs}
-use Rattle.layout.specs.Outlines.{standing, spanOf}
+use Rattle.layout.specs.Outlines.{headerSpan, spanOf}
 use Rattle.acceptance.specs.Rules.{IsChunk, Among, Covered}
 use Rattle.acceptance.proofs.Identifiers.{identifierOf, chunk-named}
 
@@ -79,14 +79,14 @@ module _ {letters : List ℕ} (covers : Covered letters) where
   )
 
   -- The span that the check finds is that of the first chunk with these letters.
-  pub place-of-first : (at : ℕ) {before : List (List ℕ)} (chunk : List ℕ) (after : List (List ℕ)) → Every IsChunk before
+  pub span-of-first : (at : ℕ) {before : List (List ℕ)} (chunk : List ℕ) (after : List (List ℕ)) → Every IsChunk before
       → number32 chunk 0 ≡ identifierOf covers → (There before letters → ⊥)
-      → spanOf (identifierOf covers) (recordsFrom at (before ++ (chunk ∷ after))) ≡ standing (recorded (at + length (joined before)) chunk)
-  place-of-first at chunk after none e not-before = rw (eq-eqb _ _ e, add-zero)
-  place-of-first at chunk after (also {x = first} {xs = before} c every) e not-before =
+      → spanOf (identifierOf covers) (recordsFrom at (before ++ (chunk ∷ after))) ≡ headerSpan (recorded (at + length (joined before)) chunk)
+  span-of-first at chunk after none e not-before = rw (eq-eqb _ _ e, add-zero)
+  span-of-first at chunk after (also {x = first} {xs = before} c every) e not-before =
       let other : eqb (number32 first 0) (identifierOf covers) ≡ false =
       ne-eqb _ _ (λ same. not-before (first, among-front first before (chunk-named c covers .0 same))) in
-      let ih = place-of-first (at + length first) chunk after every e (λ there. not-before (there .0, among-after first (there .1))) in
+      let ih = span-of-first (at + length first) chunk after every e (λ there. not-before (there .0, among-after first (there .1))) in
       rw (other, ih, length-append) (simp add-assoc)
 
 -- The span of a chunk is present exactly if the chunk occurs.

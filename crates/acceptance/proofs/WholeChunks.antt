@@ -11,7 +11,7 @@ use Rattle.vocabulary.proofs.JoinedLists.{joined-next}
 use Rattle.numbers.specs.Numbers.{number32}
 use Rattle.layout.specs.Chunks.{nameIdentifier, infoIdentifier, songIdentifier, instIdentifier, pattIdentifier, smplIdentifier, venvIdentifier}
 use Rattle.layout.specs.Chunks.{penvIdentifier, occurs}
-use Rattle.layout.specs.Outlines.{standing, spanOf, spansOf, layoutWith, mandatoryThere, outline}
+use Rattle.layout.specs.Outlines.{headerSpan, spanOf, spansOf, layoutWith, mandatoryThere, outline}
 use Rattle.layout.specs.declared.ChunkSpan.{ChunkSpan}
 use Rattle.layout.specs.declared.Layout.{Layout}
 use Rattle.layout.specs.declared.Outline.{Outline}
@@ -51,20 +51,20 @@ pub record WholeAt (m : List ℕ) (identifier : ℕ) (span : ChunkSpan) : Type 0
   pub inside : dataEnd span ≤ length m
 
 -- A span that the check finds among chunks that fit in order.
-place-whole : (n : ℕ) {m header : List ℕ} {before rest : List (List ℕ)} {at : ℕ} → Reached m header before at
+span-whole : (n : ℕ) {m header : List ℕ} {before rest : List (List ℕ)} {at : ℕ} → Reached m header before at
     → m ≡ (header ++ joined before) ++ joined rest → InTurn before rest → spanOf n (recordsFrom at rest) .present ≡ true
     → WholeAt m n (spanOf n (recordsFrom at rest))
-place-whole n r bytes done there = let z : _≡_ {A = ℕ} 0 1 = cc in absurd (omega arith)
-place-whole n {m} {header} {before} {at = at} r bytes (next {chunk = chunk} {rest = rest} fits turn) there =
-    go (eqb (number32 chunk 0) n) refl (place-whole n (reached-next r part fits) (bytes ∙ joined-next header before chunk rest) turn) there
+span-whole n r bytes done there = let z : _≡_ {A = ℕ} 0 1 = cc in absurd (omega arith)
+span-whole n {m} {header} {before} {at = at} r bytes (next {chunk = chunk} {rest = rest} fits turn) there =
+    go (eqb (number32 chunk 0) n) refl (span-whole n (reached-next r part fits) (bytes ∙ joined-next header before chunk rest) turn) there
   where
     part : PartAt m at chunk
     part = record { before = header ++ joined before; after = joined rest; bytes = bytes; starts = r .there }
 
     go : (b : Bool) → eqb (number32 chunk 0) n ≡ b
         → (spanOf n (recordsFrom (at + length chunk) rest) .present ≡ true → WholeAt m n (spanOf n (recordsFrom (at + length chunk) rest)))
-        → cond b (standing (recorded at chunk)) (spanOf n (recordsFrom (at + length chunk) rest)) .present ≡ true
-        → WholeAt m n (cond b (standing (recorded at chunk)) (spanOf n (recordsFrom (at + length chunk) rest)))
+        → cond b (headerSpan (recorded at chunk)) (spanOf n (recordsFrom (at + length chunk) rest)) .present ≡ true
+        → WholeAt m n (cond b (headerSpan (recorded at chunk)) (spanOf n (recordsFrom (at + length chunk) rest)))
     go true e ih h =
         let size = fits .bytes .size in
         let inside = part-inside part in
@@ -103,7 +103,7 @@ places-of {m} all read mandatory = record {
 }
   where
     of : (n : ℕ) → spanOf n (recordsFrom 8 all) .present ≡ true → WholeAt m n (spanOf n (recordsFrom 8 all))
-    of n = place-whole n (read .front) (rw (append-nil (take 8 m)) (read .bytes)) (read .turn)
+    of n = span-whole n (read .front) (rw (append-nil (take 8 m)) (read .bytes)) (read .turn)
 
     says : (occurs infoIdentifier (recordsFrom 8 all) ≡ true)
         × ((occurs songIdentifier (recordsFrom 8 all) ≡ true)
@@ -120,5 +120,5 @@ reported m =
     along-outline m (Says m)
     (record { header = λ r e. tt; chunk = λ before at reached less r e. tt; missing = λ all read lacks. tt; found = places-of })
 
-pub outline-places : (m : List ℕ) (l : Layout) → outline m ≡ Found l → SpansWhole m l
-outline-places m l e = subst (Says m) e (reported m)
+pub outline-spans : (m : List ℕ) (l : Layout) → outline m ≡ Found l → SpansWhole m l
+outline-spans m l e = subst (Says m) e (reported m)

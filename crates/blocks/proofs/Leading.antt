@@ -35,12 +35,12 @@ module _ {size : ℕ → ℕ} {n start left at : ℕ} (p : Leading size n start 
     leading-last none = let e : left ≡ 0 = omega arith in (rw e at (p .same)) ∙ ap (placeAfter size n) begun
 
     -- No block is left: the place is the place after all blocks.
-    pub leading-ends : {end behind : ℕ} → end ≡ behind → left ≤ 0 → eqb at end ≡ eqb (placeAfter size n begin) behind
+    pub leading-ends : {end following : ℕ} → end ≡ following → left ≤ 0 → eqb at end ≡ eqb (placeAfter size n begin) following
     leading-ends e none = rw (leading-last none, e) refl
 
     -- A block is left, and the end is reached: the place after all blocks is past the end.
-    pub leading-over : {end behind : ℕ} → end ≡ behind → 0 < left → 0 < size at → end ≤ at → false ≡ eqb (placeAfter size n begin) behind
-    leading-over {end} {behind} e some grows reached =
+    pub leading-over : {end following : ℕ} → end ≡ following → 0 < left → 0 < size at → end ≤ at → false ≡ eqb (placeAfter size n begin) following
+    leading-over {end} {following} e some grows reached =
         let past : at < placeAfter size n start = omega (arith, leads-on size (left - 1) (at + size at), ahead some) in
         let same : placeAfter size n start ≡ placeAfter size n begin = ap (placeAfter size n) begun in
-        sym (ne-eqb (placeAfter size n begin) behind (λ met. omega arith))
+        sym (ne-eqb (placeAfter size n begin) following (λ met. omega arith))

@@ -42,9 +42,9 @@ module _ (m : List ℕ) (bytes : Bytes m) where
   -- The number's bytes, and the bytes after them.
   pub number-next : (w : Width) (at to : ℕ) → at + flagsOf w ≡ to → to ≤ length m → frameBytes w (numberAt w m at) ++ drop to m ≡ drop at m
   number-next w at to e h =
-      let behind : drop to m ≡ drop (flagsOf w) (drop at m) = ap (λ (k : ℕ). drop k m) (sym e) ∙ sym (drop-drop (flagsOf w) at m) in
+      let following : drop to m ≡ drop (flagsOf w) (drop at m) = ap (λ (k : ℕ). drop k m) (sym e) ∙ sym (drop-drop (flagsOf w) at m) in
       ap (λ (front : List ℕ). front ++ drop to m) (number-bytes w at ∙ bytes-part m (flagsOf w) at (omega arith))
-      ∙ ap (λ (rest : List ℕ). take (flagsOf w) (drop at m) ++ rest) behind
+      ∙ ap (λ (rest : List ℕ). take (flagsOf w) (drop at m) ++ rest) following
       ∙ take-append-drop (flagsOf w) (drop at m)
 
   pub number-then : (w : Width) (at : ℕ) {rest : List ℕ} → at + flagsOf w ≤ length m → rest ≡ drop (at + flagsOf w) m

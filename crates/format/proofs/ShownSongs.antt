@@ -47,10 +47,10 @@ module _ {patterns : ℕ} (s : Song) (f : SongFits patterns s) where
 
     playlist : playlistBytes m at ≡ joined (map bytes16 (s .playlist))
     playlist =
-        let behind : PartAt m (at + 44) (bytes16 (length (s .playlist)) ++ joined (map bytes16 (s .playlist))) =
+        let following : PartAt m (at + 44) (bytes16 (length (s .playlist)) ++ joined (map bytes16 (s .playlist))) =
         rw (f .name .0) at (part-rest (s .name) (bytes16 (length (s .playlist)) ++ joined (map bytes16 (s .playlist))) p) in
         let entries : PartAt m (at + 46) (joined (map bytes16 (s .playlist))) =
-        simp add-assoc at (part-rest (bytes16 (length (s .playlist))) (joined (map bytes16 (s .playlist))) behind) in
+        simp add-assoc at (part-rest (bytes16 (length (s .playlist))) (joined (map bytes16 (s .playlist))) following) in
         rw count (bytes-at entries (2 * length (s .playlist))
         (omega (
           arith,

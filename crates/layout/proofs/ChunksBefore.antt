@@ -10,7 +10,7 @@ use Rattle.refusal.specs.Rules.{firstBroken}
 use Rattle.numbers.specs.Numbers.{number32}
 use Rattle.layout.specs.Chunks.{nameIdentifier, infoIdentifier, songIdentifier, instIdentifier, pattIdentifier, smplIdentifier, venvIdentifier}
 use Rattle.layout.specs.Chunks.{penvIdentifier, ChunkHeader, covered, occurs, chunkRules}
-use Rattle.layout.specs.Outlines.{standing, spanOf, spansOf, mandatoryThere}
+use Rattle.layout.specs.Outlines.{headerSpan, spanOf, spansOf, mandatoryThere}
 use Rattle.layout.specs.declared.ChunkSpan.{ChunkSpan}
 use Rattle.layout.specs.Steps.{presentIn, putIn, placedRules, allPresent}
 
@@ -61,17 +61,17 @@ pub rules-placed : (m : List ℕ) (cs : List ChunkHeader) (at : ℕ) → firstBr
 rules-placed m cs at = rw (present-in cs (number32 m at), present-of infoIdentifier cs)
 
 -- One more chunk, after chunks that do not have its identifier.
-behind : (a b o : Bool) (x y z z′ : ChunkSpan) → (b && (a || o)) ≡ false → ((b && o) ≡ false → z′ ≡ cond b y z) → cond a x z′ ≡ cond b y (cond a x z)
-behind true true o x y z z′ h more = absurd (true≢false h)
-behind true false o x y z z′ h more = refl
-behind false true o x y z z′ h more = more h
-behind false false o x y z z′ h more = more refl
+following : (a b o : Bool) (x y z z′ : ChunkSpan) → (b && (a || o)) ≡ false → ((b && o) ≡ false → z′ ≡ cond b y z) → cond a x z′ ≡ cond b y (cond a x z)
+following true true o x y z z′ h more = absurd (true≢false h)
+following true false o x y z z′ h more = refl
+following false true o x y z z′ h more = more h
+following false false o x y z z′ h more = more refl
 
 more-of : (k : ℕ) (c : ChunkHeader) (cs : List ChunkHeader) → (eqb (c .identifier) k && occurs k cs) ≡ false
-    → spanOf k (cs ++ (c ∷ [])) ≡ cond (eqb (c .identifier) k) (standing c) (spanOf k cs)
+    → spanOf k (cs ++ (c ∷ [])) ≡ cond (eqb (c .identifier) k) (headerSpan c) (spanOf k cs)
 more-of k c [] h = refl
 more-of k c (d ∷ ds) h =
-    behind (eqb (d .identifier) k) (eqb (c .identifier) k) (occurs k ds) (standing d) (standing c) (spanOf k ds)
+    following (eqb (d .identifier) k) (eqb (c .identifier) k) (occurs k ds) (headerSpan d) (headerSpan c) (spanOf k ds)
     (spanOf k (ds ++ (c ∷ []))) h (more-of k c ds)
 
 module _ (c : ChunkHeader) (cs : List ChunkHeader) (new : (covered (c .identifier) && occurs (c .identifier) cs) ≡ false) where
@@ -85,18 +85,18 @@ module _ (c : ChunkHeader) (cs : List ChunkHeader) (new : (covered (c .identifie
           simp t (ap (λ (b : Bool). b && occurs k cs) (sym is) ∙ new-k)
       go false t = simp t
 
-  more-places : (k : ℕ) → covered k ≡ true → spanOf k (cs ++ (c ∷ [])) ≡ cond (eqb (c .identifier) k) (standing c) (spanOf k cs)
-  more-places k is = more-of k c cs (not-before k is)
+  more-spans : (k : ℕ) → covered k ≡ true → spanOf k (cs ++ (c ∷ [])) ≡ cond (eqb (c .identifier) k) (headerSpan c) (spanOf k cs)
+  more-spans k is = more-of k c cs (not-before k is)
 
-  pub put-more : putIn (spansOf cs) (c .identifier) (standing c) ≡ spansOf (cs ++ (c ∷ []))
+  pub put-more : putIn (spansOf cs) (c .identifier) (headerSpan c) ≡ spansOf (cs ++ (c ∷ []))
   put-more =
       simp (
-        more-places nameIdentifier refl,
-        more-places infoIdentifier refl,
-        more-places songIdentifier refl,
-        more-places instIdentifier refl,
-        more-places pattIdentifier refl,
-        more-places smplIdentifier refl,
-        more-places venvIdentifier refl,
-        more-places penvIdentifier refl,
+        more-spans nameIdentifier refl,
+        more-spans infoIdentifier refl,
+        more-spans songIdentifier refl,
+        more-spans instIdentifier refl,
+        more-spans pattIdentifier refl,
+        more-spans smplIdentifier refl,
+        more-spans venvIdentifier refl,
+        more-spans penvIdentifier refl,
       )

@@ -13,7 +13,7 @@ use Rattle.refusal.specs.declared.Verdict.the-variants.{Accepted, Refused}
 use Rattle.refusal.proofs.RuleLists.{rules-held}
 use Rattle.numbers.specs.Numbers.{number32}
 use Rattle.layout.specs.Chunks.{ChunkHeader, chunkAt, chunkEnd, covered, occurs, chunkRules, complete, walkOn, chunksFrom, chunks}
-use Rattle.layout.specs.Outlines.{standing, spansOf}
+use Rattle.layout.specs.Outlines.{headerSpan, spansOf}
 use Rattle.layout.specs.Steps.{putIn, placedRules, walked, OthersTo}
 use Rattle.layout.specs.declared.ChunkSpans.{ChunkSpans}
 use Rattle.layout.specs.declared.walk.Walked.the-variants.{Whole, Refused as WalkRefused}
@@ -69,7 +69,7 @@ module _ (m : List ℕ) (p : ChunkSpans) (at : ℕ) (w : Walking m p at) where
   walking-refused h r e = sym (ap walked (walking-step h (Refused r) e .2))
 
   pub walking-turn : at < length m → firstBroken (placedRules m at p) ≡ Accepted → (p′ : ChunkSpans)
-      → p′ ≡ putIn p (number32 m at) (standing (chunkAt m at))
+      → p′ ≡ putIn p (number32 m at) (headerSpan (chunkAt m at))
       → Walking m p′ (at + 8 + number32 m (at + 4))
   walking-turn h e p′ put =
       let next = walking-step h Accepted e in
@@ -79,7 +79,7 @@ module _ (m : List ℕ) (p : ChunkSpans) (at : ℕ) (w : Walking m p at) where
         enough = omega (arith, w .enough, next .1);
         placed =
             put
-            ∙ ap (λ (q : ChunkSpans). putIn q (number32 m at) (standing (chunkAt m at))) (w .placed)
+            ∙ ap (λ (q : ChunkSpans). putIn q (number32 m at) (headerSpan (chunkAt m at))) (w .placed)
             ∙ put-more (chunkAt m at) (w .before) (not-repeated m (w .before) at (by-chunks Accepted e));
         same = next .2;
       }
@@ -88,6 +88,6 @@ module _ (m : List ℕ) (p : ChunkSpans) (at : ℕ) (w : Walking m p at) where
 pub walking-others : (m : List ℕ) (p : ChunkSpans) (n at end : ℕ) → OthersTo m n at end → Walking m p at → Walking m p end
 walking-others m p zero at end e w = rw (← e) w
 walking-others m p (suc n) at end (is, more) w =
-    let behind : at + 8 + number32 m (at + 4) ≤ length m = other-end m at is in
+    let following : at + 8 + number32 m (at + 4) ≤ length m = other-end m at is in
     walking-others m p n (at + 8 + number32 m (at + 4)) end more
-    (walking-turn m p at w (omega (arith, behind)) (other-holds m at is p) p (other-stays m at is p (standing (chunkAt m at))))
+    (walking-turn m p at w (omega (arith, following)) (other-holds m at is p) p (other-stays m at is p (headerSpan (chunkAt m at))))

@@ -24,13 +24,13 @@ use Rattle.layout.specs.declared.Outline.the-variants.{Found, Refused}
 abbrev pub absent : ChunkSpan
 absent = record { present = false; at = 0; length = 0 }
 
-abbrev pub standing : ChunkHeader → ChunkSpan
-standing c = record { present = true; at = c .at; length = c .length }
+abbrev pub headerSpan : ChunkHeader → ChunkSpan
+headerSpan c = record { present = true; at = c .at; length = c .length }
 
 -- M6: the span of the chunk with an identifier; a covered chunk occurs at most once. And the spans of all covered chunks.
 abbrev pub spanOf : ℕ → List ChunkHeader → ChunkSpan
 spanOf identifier [] = absent
-spanOf identifier (c ∷ cs) = cond (eqb (c .identifier) identifier) (standing c) (spanOf identifier cs)
+spanOf identifier (c ∷ cs) = cond (eqb (c .identifier) identifier) (headerSpan c) (spanOf identifier cs)
 
 abbrev pub spansOf : List ChunkHeader → ChunkSpans
 spansOf cs = record {
@@ -78,21 +78,21 @@ abbrev pub outline : List ℕ → Outline
 outline m = outlineIf (firstBroken (headerRules m)) (outlineOf m (chunks m))
 
 -- A span in numbers: 1 if the chunk is present, else 0; the place of its header; the length of its data.
-abbrev pub placeNumbers : ChunkSpan → List ℕ
-placeNumbers p = cond (p .present) 1 0 ∷ p .at ∷ p .length ∷ []
+abbrev pub spanNumbers : ChunkSpan → List ℕ
+spanNumbers p = cond (p .present) 1 0 ∷ p .at ∷ p .length ∷ []
 
 -- A layout in numbers: version, revision, INFO's numbers, and the spans of the covered chunks in document 01's order.
 abbrev pub layoutNumbers : Layout → List ℕ
 layoutNumbers l =
     (l .version ∷ l .revision ∷ l .instruments ∷ l .samples ∷ l .songs ∷ l .patterns ∷ l .tracks ∷ [])
-    ++ (placeNumbers (l .spans .name)
-    ++ (placeNumbers (l .spans .info)
-    ++ (placeNumbers (l .spans .song)
-    ++ (placeNumbers (l .spans .inst)
-    ++ (placeNumbers (l .spans .patt)
-    ++ (placeNumbers (l .spans .smpl)
-    ++ (placeNumbers (l .spans .venv)
-    ++ placeNumbers (l .spans .penv))))))))
+    ++ (spanNumbers (l .spans .name)
+    ++ (spanNumbers (l .spans .info)
+    ++ (spanNumbers (l .spans .song)
+    ++ (spanNumbers (l .spans .inst)
+    ++ (spanNumbers (l .spans .patt)
+    ++ (spanNumbers (l .spans .smpl)
+    ++ (spanNumbers (l .spans .venv)
+    ++ spanNumbers (l .spans .penv))))))))
 
 -- An outline in numbers: a layout has 31 values.
 abbrev pub outlineNumbers : Outline → List ℕ

@@ -210,7 +210,7 @@ fn skip_others(m: &[u8], start: usize) -> usize
 }
 
 // The span of the chunk whose header is at a place.
-fn standing(at: usize, length: u32) -> ChunkSpan
+fn header_span(at: usize, length: u32) -> ChunkSpan
     requires { ⌜ at < 0x100000000 ⌝ }
     ensures { λ r. ⌜ r ≡ record { present = true; at = at; length = length } ⌝ }
 {
@@ -231,7 +231,7 @@ fn absent() -> ChunkSpan
     }
 }
 
-fn no_places() -> ChunkSpans
+fn no_spans() -> ChunkSpans
     ensures { λ r. ⌜ r ≡ spansOf [] ⌝ }
 {
     ChunkSpans {
@@ -251,14 +251,14 @@ pub fn walk_chunks(m: &[u8]) -> Walked
     requires { ⌜ length (now m) ≤ 16777216 ⌝ }
     ensures { λ r. ⌜ r ≡ walked (chunks (now (m .entry))) ⌝ }
 {
-    let mut p = no_places();
+    let mut p = no_spans();
     let mut at = skip_others(m, 8);
     while at < m.len() {
         if let Verdict::Refused(r) = check_chunk(m, at, p) {
             return Walked::Refused(r);
         }
         let length = number32(m, at + 4);
-        p = put(p, number32(m, at), standing(at, length));
+        p = put(p, number32(m, at), header_span(at, length));
         at = skip_others(m, at + 8 + length as usize);
     }
     Walked::Whole(p)

@@ -34,13 +34,13 @@ pub seven : {text₀ text₁ text₂ text₃ : List ℕ} {first second last : �
     → Put text₀ 0 (acceptedLines l bytes) text₃ last
 seven {text₀} {text₃ = text₃} {last = last} l bytes p q r =
     subst (λ (lines : List ℕ). Put text₀ 0 (versionLine (l .version) (l .revision) ++ lines) text₃ last)
-    (behind (numberLine (ascii "instruments ") (l .instruments)) (numberLine (ascii "samples ") (l .samples))
+    (following (numberLine (ascii "instruments ") (l .instruments)) (numberLine (ascii "samples ") (l .samples))
     (numberLine (ascii "songs ") (l .songs)) (numberLine (ascii "patterns ") (l .patterns))
     (numberLine (ascii "tracks ") (l .tracks)) (numberLine (ascii "accepted ") bytes))
     (put-both (versionLine (l .version) (l .revision)) _ p (put-both (countLines (l .instruments) (l .samples) (l .songs) (l .patterns) (l .tracks)) _ q r))
   where
-    behind : (a b c d e rest : List ℕ) → (a ++ (b ++ (c ++ (d ++ e)))) ++ rest ≡ a ++ (b ++ (c ++ (d ++ (e ++ rest))))
-    behind a b c d e rest = simp append-assoc
+    following : (a b c d e rest : List ℕ) → (a ++ (b ++ (c ++ (d ++ e)))) ++ rest ≡ a ++ (b ++ (c ++ (d ++ (e ++ rest))))
+    following a b c d e rest = simp append-assoc
 
 -- The bytes of a word, one after the other.
 pub word-first : (text : List ℕ) (at : ℕ) (word : List ℕ) → Put text at (take 0 word) text (at + 0)
@@ -75,14 +75,14 @@ module _ {text₀ : List ℕ} {at n : ℕ} where
   pub spelling-first : at + length (decimal n) ≤ length text₀ → Spelling text₀ at n text₀ n (at + length (decimal n) - 1)
   spelling-first h =
       let some = decimal-some n in
-      let behind : at + length (decimal n) - 1 + 1 ≡ at + length (decimal n) = omega arith in
+      let following : at + length (decimal n) - 1 + 1 ≡ at + length (decimal n) = omega arith in
       record {
         room = refl;
         fits = h;
-        place = behind;
+        place = following;
         kept = refl;
         done = rw (
-          behind,
+          following,
           drop-of-length-le (take (at + length (decimal n)) text₀) {i = at + length (decimal n)}
               (omega (arith, length-take-le (at + length (decimal n)) text₀ h)),
         ) (append-nil (decimal n));
@@ -139,7 +139,7 @@ module _ {text₀ : List ℕ} {at n : ℕ} where
         let one : length (decimal rest) ≡ 1 = ap length (decimal-short rest h) in
         let here : to ≡ at = omega (arith, s .place) in
         let spelled : List ℕ = take (at + length (decimal n)) (set text to (digit rest)) in
-        let behind : drop at spelled ≡ decimal n =
+        let following : drop at spelled ≡ decimal n =
         ap (λ (k : ℕ). drop k spelled) (sym here)
         ∙ (spelling-put (digit rest) s ∙ (rw (decimal-short rest h) at (s .done))) in
         let before : take at spelled ≡ take at text₀ =
@@ -147,5 +147,5 @@ module _ {text₀ : List ℕ} {at n : ℕ} where
         (s .kept) in
         record {
           place = refl;
-          front = sym (take-append-drop at spelled) ∙ rw (before, behind);
+          front = sym (take-append-drop at spelled) ∙ rw (before, following);
         }

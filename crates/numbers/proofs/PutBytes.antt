@@ -54,11 +54,11 @@ module _ (front xs : List ℕ) (at : ℕ) (place : length front ≡ at) where
   pub put-after : (rest : List ℕ) → length xs ≤ length rest → putAt xs at (front ++ rest) ≡ front ++ (xs ++ drop (length xs) rest)
   put-after rest h =
       let inside : at + length xs ≤ length (front ++ rest) = omega (arith, length-append front rest) in
-      let behind : drop (at + length xs) (front ++ rest) ≡ drop (length xs) rest =
+      let following : drop (at + length xs) (front ++ rest) ≡ drop (length xs) rest =
       sym (drop-drop (length xs) at (front ++ rest)) ∙ ap (drop (length xs)) (drop-at front rest at place) in
       put-there xs at (front ++ rest) inside
       ∙ ap (λ (l : List ℕ). l ++ (xs ++ drop (at + length xs) (front ++ rest))) (take-at front rest at place)
-      ∙ ap (λ (l : List ℕ). front ++ (xs ++ l)) behind
+      ∙ ap (λ (l : List ℕ). front ++ (xs ++ l)) following
 
 module _ (xs ys : List ℕ) (at to : ℕ) (out : List ℕ) (e : at + length xs ≡ to) (h : to + length ys ≤ length out) where
   pub put-both : putAt ys to (putAt xs at out) ≡ putAt (xs ++ ys) at out

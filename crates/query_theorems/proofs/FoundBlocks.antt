@@ -33,7 +33,7 @@ use Rattle.acceptance.proofs.Cutting.{after-least}
 use Rattle.acceptance.proofs.ContentRules.{kind-fills}
 use Rattle.acceptance.proofs.WholeChunks.{WholeAt, SpansWhole}
 use Rattle.acceptance.proofs.OpenModules.{Opens, module-opens}
-use Rattle.query_theorems.specs.Queries.{identifierOf, InChunk}
+use Rattle.query_theorems.specs.Queries.{kindIdentifier, InChunk}
 
 -- The block that a query finds in a module that opens is that of a number in range.
 pub record Numbered (m : List ℕ) (l : Layout) (kind : RecordKind) (number : ℕ) (b : Block) : Type 0 where
@@ -74,7 +74,7 @@ count-there m span i h = go (span .present) refl
     go false e = absurd (omega (arith, rw e at h))
 
 module _ {m : List ℕ} {l : Layout} where
-  pub kind-whole : SpansWhole m l → (kind : RecordKind) (i : ℕ) → i < countOf m l kind → WholeAt m (identifierOf kind) (chunkOf l kind)
+  pub kind-whole : SpansWhole m l → (kind : RecordKind) (i : ℕ) → i < countOf m l kind → WholeAt m (kindIdentifier kind) (chunkOf l kind)
   kind-whole c Song i h = c .song
   kind-whole c Instrument i h = c .inst
   kind-whole c Pattern i h = c .patt
@@ -97,13 +97,13 @@ first-after EnvelopeBlock span = omega arith
 
 -- A block of a kind is at a place within a chunk's data.
 record BlockIn (m : List ℕ) (kind : BlockKind) (span : ChunkSpan) (at : ℕ) : Type 0 where
-  behind : span .at + 8 ≤ at
+  afterHeader : span .at + 8 ≤ at
   inside : at + sizeOf kind m at ≤ dataEnd span
 
 block-in : (m : List ℕ) (kind : BlockKind) (span : ChunkSpan) (n i : ℕ) → blockAt m kind span n ≡ dataEnd span → i < n
     → BlockIn m kind span (blockAt m kind span i)
 block-in m kind span n i e h = record {
-  behind = omega (arith, first-after kind span, after-least (sizeOf kind m) i (firstBlock kind span));
+  afterHeader = omega (arith, first-after kind span, after-least (sizeOf kind m) i (firstBlock kind span));
   inside = omega (arith, after-next (sizeOf kind m) n i (firstBlock kind span) h, e);
 }
 
@@ -126,7 +126,7 @@ block-in-chunk m kind number b e = in-layout (found-opened m kind number b e .0)
           header = w .header;
           named = w .named;
           size = w .size;
-          behind = inside .behind;
+          afterHeader = inside .afterHeader;
           inside = inside .inside;
           whole = w .inside;
         })

@@ -29,13 +29,13 @@ use Rattle.envelopes.specs.Shown.{envelopeAnswer}
 use Rattle.envelopes.specs.declared.EnvelopeKind.{EnvelopeKind}
 
 -- The identifier of the chunk with the blocks of a record kind.
-abbrev pub identifierOf : RecordKind → ℕ
-identifierOf Song = songIdentifier
-identifierOf Instrument = instIdentifier
-identifierOf Pattern = pattIdentifier
-identifierOf Sample = smplIdentifier
-identifierOf VolumeEnvelope = venvIdentifier
-identifierOf PanningEnvelope = penvIdentifier
+abbrev pub kindIdentifier : RecordKind → ℕ
+kindIdentifier Song = songIdentifier
+kindIdentifier Instrument = instIdentifier
+kindIdentifier Pattern = pattIdentifier
+kindIdentifier Sample = smplIdentifier
+kindIdentifier VolumeEnvelope = venvIdentifier
+kindIdentifier PanningEnvelope = penvIdentifier
 
 -- The block of a record kind at a place lies within the data of its chunk. The module is accepted and has this layout. The chunk is
 -- present, with its own identifier and the length in its header, and it is whole.
@@ -44,9 +44,9 @@ pub record InChunk (m : List ℕ) (kind : RecordKind) (at : ℕ) : Type 0 where
   pub opens : opened m ≡ Opened layout
   pub present : chunkOf layout kind .present ≡ true
   pub header : HeaderAt m (chunkOf layout kind .at)
-  pub named : number32 m (chunkOf layout kind .at) ≡ identifierOf kind
+  pub named : number32 m (chunkOf layout kind .at) ≡ kindIdentifier kind
   pub size : number32 m (chunkOf layout kind .at + 4) ≡ chunkOf layout kind .length
-  pub behind : chunkOf layout kind .at + 8 ≤ at
+  pub afterHeader : chunkOf layout kind .at + 8 ≤ at
   pub inside : at + sizeOf (blockKindOf kind) m at ≤ dataEnd (chunkOf layout kind)
   pub whole : dataEnd (chunkOf layout kind) ≤ length m
 

@@ -38,7 +38,7 @@ numbers-given m bytes f (suc n) k at h =
     numbers-given m bytes f n (k + 1) (at + 2)
     (λ i less. ap f (omega arith) ∙ h (suc i) (omega arith) ∙ ap (number16 m) (omega arith)) in
     ap (λ (v : ℕ). bytes16 v ++ joined (eachFrom (λ (i : ℕ). bytes16 (f i)) (k + 1) n)) first
-    ∙ ap (λ (behind : List ℕ). bytes16 (number16 m at) ++ behind) rest
+    ∙ ap (λ (following : List ℕ). bytes16 (number16 m at) ++ following) rest
     ∙ sym (next16 m bytes (2 * n) at (at + 2) refl)
     ∙ ap (bytesFrom m at) more
 

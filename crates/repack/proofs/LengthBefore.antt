@@ -17,8 +17,8 @@ module _ (front out first : List ℕ) (a : ℕ) (size : length front ≡ a) (roo
 
   first-rest : drop (a + 4) first ≡ drop (a + 4) out
   first-rest =
-      let behind : drop a first ≡ drop a out = rw e₁ (drop-at front (drop a out) a size) in
-      sym (drop-drop 4 a first) ∙ ap (drop 4) behind ∙ drop-drop 4 a out
+      let following : drop a first ≡ drop a out = rw e₁ (drop-at front (drop a out) a size) in
+      sym (drop-drop 4 a first) ∙ ap (drop 4) following ∙ drop-drop 4 a out
 
   -- The part that is lent after the place of the length.
   pub lent-length : length (midOf (a + 4) (length first - (a + 4)) first) ≡ length out - (a + 4)

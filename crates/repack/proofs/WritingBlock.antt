@@ -74,10 +74,10 @@ module _ (m : List ℕ) (tracks at : ℕ) (inside : at + 6 ≤ length m) (sound 
         stream-next : mid ≡ repackedStream m tracks at ++ drop n (midOf 6 (length first - 6) first)
         stream-next = reported .3 (omega (arith, lent-length (partOf m at 2) out first 2 two six-fit rows-first, enough))
 
-        abbrev behind : List ℕ
-        behind = putMid 6 (length first - 6) first mid
+        abbrev following : List ℕ
+        following = putMid 6 (length first - 6) first mid
 
-        module _ {whole : List ℕ} (put : whole ≡ putAt (bytes32 n) 2 behind) where
+        module _ {whole : List ℕ} (put : whole ≡ putAt (bytes32 n) 2 following) where
           whole-is : whole ≡ partOf m at 2 ++ (bytes32 n ++ (repackedStream m tracks at ++ drop (6 + n) out))
           whole-is = put ∙ third-is (partOf m at 2) out first 2 two six-fit rows-first (repackedStream m tracks at) mid n (reported .0) enough stream-next
 

@@ -82,16 +82,16 @@ module _ (m : List ℕ) (chunk : ChunkSpan) (rewritten : List ℕ) (whole : data
   -- Writing the bytes after PATT.
   module _ (out₀ : List ℕ) (room : length (replaced m chunk rewritten) ≤ length out₀) {end : ℕ} {out₁ : List ℕ}
       (done : (end ≡ length (rewrittenFront m chunk rewritten)) × (out₁ ≡ rewrittenFront m chunk rewritten ++ drop end out₀)) where
-    abbrev behind : ℕ
-    behind = chunk .at + 8 + chunk .length
+    abbrev following : ℕ
+    following = chunk .at + 8 + chunk .length
 
     abbrev rest : List ℕ
-    rest = midOf behind (length m - behind) m
+    rest = midOf following (length m - following) m
 
     rest-is : rest ≡ drop (dataEnd chunk) m
-    rest-is = mid-end behind m ∙ ap (λ (k : ℕ). drop k m) same
+    rest-is = mid-end following m ∙ ap (λ (k : ℕ). drop k m) same
       where
-        same : behind ≡ dataEnd chunk
+        same : following ≡ dataEnd chunk
         same = omega arith
 
     before : out₁ ≡ rewrittenFront m chunk rewritten ++ drop (length (rewrittenFront m chunk rewritten)) out₀
@@ -105,21 +105,21 @@ module _ (m : List ℕ) (chunk : ChunkSpan) (rewritten : List ℕ) (whole : data
         append-assoc front (bytes32 (length rewritten) ++ rewritten) rest
         ∙ ap (λ (l : List ℕ). front ++ (bytes32 (length rewritten) ++ (rewritten ++ l))) rest-is
 
-    pub rest-length : length rest ≡ length m - behind
+    pub rest-length : length rest ≡ length m - following
     rest-length = omega (arith, ap length rest-is, length-drop (dataEnd chunk) m)
 
-    pub all-length : end + (length m - behind) ≡ length (replaced m chunk rewritten)
+    pub all-length : end + (length m - following) ≡ length (replaced m chunk rewritten)
     all-length = omega (arith, replaced-length, front-length, done .0)
 
-    pub rest-room : end + (length m - behind) ≤ length out₀
+    pub rest-room : end + (length m - following) ≤ length out₀
     rest-room = omega (arith, all-length)
 
     module _ {mid₂ : List ℕ} (e₂ : mid₂ ≡ take (length rest) rest ++ drop (length rest) (midOf end (length out₁ - end) out₁)) where
       abbrev written : List ℕ
       written = putMid end (length out₁ - end) out₁ mid₂
 
-      pub module-written : (end + (length m - behind) ≡ length (replaced m chunk rewritten))
-          × (written ≡ replaced m chunk rewritten ++ drop (end + (length m - behind)) out₀)
+      pub module-written : (end + (length m - following) ≡ length (replaced m chunk rewritten))
+          × (written ≡ replaced m chunk rewritten ++ drop (end + (length m - following)) out₀)
       module-written = (
         all-length,
         put-next (rewrittenFront m chunk rewritten) rest out₀ out₁ mid₂ end (length out₁) before (sym (done .0))

@@ -133,9 +133,9 @@ fn write_module(m: &[u8], chunk: ChunkSpan, patterns: u16, tracks: u16, out: &mu
         ≡ replaced (now (m .entry)) chunk (rewrittenBlocks (now (m .entry)) tracks patterns (firstBlock Pattern chunk)) ++ drop r (now (out .entry))) ⌝ }
 {
     let end = write_front(m, chunk, patterns, tracks, out);
-    let behind = (chunk.at as usize) + 8 + (chunk.length as usize);
-    bytes::copy(&m[behind..], &mut out[end..]);
-    end + (m.len() - behind)
+    let rest = (chunk.at as usize) + 8 + (chunk.length as usize);
+    bytes::copy(&m[rest..], &mut out[end..]);
+    end + (m.len() - rest)
 }
 
 // The length that an output with this room needs. If there is room for the module itself, its own length is returned, which is no less than

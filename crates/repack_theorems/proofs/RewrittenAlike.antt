@@ -31,7 +31,7 @@ use Rattle.module.specs.Verdicts.{opened}
 use Rattle.queries.specs.Finding.{firstOf, there, blockOf, foundIn, foundIf, found}
 use Rattle.queries.specs.declared.Found.the-variants.{At, Refused}
 use Rattle.acceptance.specs.Rules.{Among, EnvelopesRules, Filled, Covered}
-use Rattle.acceptance.proofs.Spans.{SpanHolds, Found as Standing, LayoutOf}
+use Rattle.acceptance.proofs.Spans.{SpanHolds, Found as FoundSpan, LayoutOf}
 use Rattle.acceptance.proofs.Locating.{PartAt, part-inside, part-is}
 use Rattle.acceptance.proofs.Holding.{and-says, ltb-says, false-never}
 use Rattle.acceptance.proofs.Cutting.{Sized, part-rest, block-there}
@@ -88,7 +88,7 @@ found-opened m l kind number o = ap (foundIf m kind number) o
 -- A chunk that is in both modules, or in neither.
 data SameChunk (m n : List ℕ) (chunks : List (List ℕ)) (letters : List ℕ) (p q : ChunkSpan) : Type 0 where
   missing : p .present ≡ false → q .present ≡ false → SameChunk m n chunks letters p q
-  standing : (chunk : List ℕ) → Among chunks letters chunk → SpanHolds m p chunk → SpanHolds n q chunk → SameChunk m n chunks letters p q
+  held : (chunk : List ℕ) → Among chunks letters chunk → SpanHolds m p chunk → SpanHolds n q chunk → SameChunk m n chunks letters p q
 
 module _ (m : List ℕ) (bytes : Bytes m) (l : Layout) (o : opened m ≡ Opened l) where
   abbrev pub n : List ℕ
@@ -116,13 +116,13 @@ module _ (m : List ℕ) (bytes : Bytes m) (l : Layout) (o : opened m ≡ Opened 
 
   -- A chunk other than PATT.
   same-chunk : {letters : List ℕ} → (covers : Covered letters) → eqb (identifierOf covers) pattIdentifier || false ≡ false
-      → (p q : ChunkSpan) → Standing m (chunks m bytes l o) letters p
-      → Standing n (map (changed m bytes l o) (chunks m bytes l o)) letters q
+      → (p q : ChunkSpan) → FoundSpan m (chunks m bytes l o) letters p
+      → FoundSpan n (map (changed m bytes l o) (chunks m bytes l o)) letters q
       → SameChunk m n (chunks m bytes l o) letters p q
   same-chunk {letters} covers other p q f g = go (p .present) refl (q .present) refl
     where
       go : (b : Bool) → p .present ≡ b → (c : Bool) → q .present ≡ c → SameChunk m n (chunks m bytes l o) letters p q
-      go true e c d = let (chunk, a) = f .chunk e in standing chunk a (f .holds chunk a) (g .holds chunk (stays-among m bytes l o covers other a))
+      go true e c d = let (chunk, a) = f .chunk e in held chunk a (f .holds chunk a) (g .holds chunk (stays-among m bytes l o covers other a))
       go false e true d = let (chunk, a) = g .chunk d in false-never (sym e ∙ f .holds chunk (was-among m bytes l o covers other a) .there)
       go false e false d = missing e d
 
@@ -141,7 +141,7 @@ module _ (m : List ℕ) (bytes : Bytes m) (l : Layout) (o : opened m ≡ Opened 
     where
       go : SameChunk m n (chunks m bytes l o) nameLetters (l .spans .name) (k .spans .name) → nameOf n k ≡ nameOf m l
       go (missing e d) = name-missing n k d ∙ sym (name-missing m l e)
-      go (standing chunk a s t) =
+      go (held chunk a s t) =
           let long = rules m bytes l o .name chunk a in
           name-there n k (t .there) ∙ name-bytes t long ∙ sym (name-there m l (s .there) ∙ name-bytes s long)
 
@@ -150,12 +150,12 @@ module _ (m : List ℕ) (bytes : Bytes m) (l : Layout) (o : opened m ≡ Opened 
       (rule : (chunk : List ℕ) → Among (chunks m bytes l o) letters chunk → EnvelopesRules instruments ValueFits chunk) where
     same-count : SameChunk m n (chunks m bytes l o) letters p q → envelopeCount n q ≡ envelopeCount m p
     same-count (missing e d) = rw (e, d) refl
-    same-count (standing chunk a s t) = let long = rule chunk a .filled .fronts in count-same t long ∙ sym (count-same s long)
+    same-count (held chunk a s t) = let long = rule chunk a .filled .fronts in count-same t long ∙ sym (count-same s long)
 
     same-envelope : SameChunk m n (chunks m bytes l o) letters p q → (i : ℕ) → i < envelopeCount m p
         → SameBlock EnvelopeBlock m n (blockAt m EnvelopeBlock p i) (blockAt n EnvelopeBlock q i)
     same-envelope (missing e d) i h = absurd (omega (arith, rw e at h))
-    same-envelope (standing chunk a s t) i h =
+    same-envelope (held chunk a s t) i h =
         let r = rule chunk a in
         let sized = every-of (envelope-sized instruments ValueFits) (r .rules) in
         let here = filled-blocks s EnvelopeBlock 10 (number16 chunk 8) (r .envelopes) (r .filled) sized in
@@ -174,8 +174,8 @@ module _ (m : List ℕ) (bytes : Bytes m) (l : Layout) (o : opened m ≡ Opened 
 
   -- The blocks of a chunk that is in both.
   same-blocks : (kind : BlockKind) (front : ℕ) {letters : List ℕ} → (covers : Covered letters)
-      → eqb (identifierOf covers) pattIdentifier || false ≡ false → (p q : ChunkSpan) → Standing m (chunks m bytes l o) letters p
-      → Standing n (map (changed m bytes l o) (chunks m bytes l o)) letters q → {chunk : List ℕ}
+      → eqb (identifierOf covers) pattIdentifier || false ≡ false → (p q : ChunkSpan) → FoundSpan m (chunks m bytes l o) letters p
+      → FoundSpan n (map (changed m bytes l o) (chunks m bytes l o)) letters q → {chunk : List ℕ}
       → Among (chunks m bytes l o) letters chunk → {number count others : ℕ} → count ≡ number → others ≡ number
       → (list : List (List ℕ)) → Filled front chunk number list → Every (Sized kind) list → (i : ℕ) → i < count
       → SameBlock kind m n (placeAfter (sizeOf kind m) i (p .at + front)) (placeAfter (sizeOf kind n) i (q .at + front))

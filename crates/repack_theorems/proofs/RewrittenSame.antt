@@ -199,11 +199,11 @@ module _ (m : List ℕ) (bytes : Bytes m) (l : Layout) (o : opened m ≡ Found l
   patt-same e =
       let chunk : List ℕ = patt m bytes l o in
       let size = patt-size m bytes l o in
-      let behind : drop 8 chunk ≡ joined (blocks m bytes l o) = data-after in
+      let following : drop 8 chunk ≡ joined (blocks m bytes l o) = data-after in
       let number : length (repackedPatterns m l) ≡ number32 chunk 4 = omega (arith, ap length e, size, patt-bytes m bytes l o .size) in
       let four : bytes32 (length (repackedPatterns m l)) ≡ partOf chunk 4 4 =
       ap bytes32 number ∙ four-again chunk 4 (patt-below m bytes l o) (omega (arith, size)) in
-      ap (λ (content : List ℕ). take 4 chunk ++ (bytes32 (length (repackedPatterns m l)) ++ content)) (e ∙ sym behind)
+      ap (λ (content : List ℕ). take 4 chunk ++ (bytes32 (length (repackedPatterns m l)) ++ content)) (e ∙ sym following)
       ∙ ap (λ (bytes : List ℕ). take 4 chunk ++ (bytes ++ drop 8 chunk)) four
       ∙ ap (λ (rest : List ℕ). take 4 chunk ++ rest) (sym (parts-of chunk 4 4))
       ∙ take-append-drop 4 chunk
@@ -229,18 +229,18 @@ module _ (m : List ℕ) (bytes : Bytes m) (l : Layout) (o : opened m ≡ Found l
   same-data e =
       let at : ℕ = l .spans .patt .at in
       let content : List ℕ = repackedPatterns m l in
-      let behind : List ℕ = drop (at + 8 + l .spans .patt .length) m in
+      let following : List ℕ = drop (at + 8 + l .spans .patt .length) m in
       let inside : at + 8 + l .spans .patt .length ≤ length m = patterns-in m bytes l o .inside in
       let front : List ℕ = take (at + 4) m ++ bytes32 (length content) in
       let eight : length front ≡ at + 8 =
       omega (arith, length-append (take (at + 4) m) (bytes32 (length content)), length-take-le (at + 4) m (omega (arith, inside))) in
       let long : length content ≡ length (joined (blocks m bytes l o)) = omega (arith, repacked-size m bytes l o, ap length e) in
-      let is : front ++ (content ++ behind) ≡ m =
-      append-assoc (take (at + 4) m) (bytes32 (length content)) (content ++ behind) ∙ sym (module-replaced m bytes l o) ∙ e in
+      let is : front ++ (content ++ following) ≡ m =
+      append-assoc (take (at + 4) m) (bytes32 (length content)) (content ++ following) ∙ sym (module-replaced m bytes l o) ∙ e in
       let here : partOf m (at + 8) (length content) ≡ content =
       ap (λ (list : List ℕ). partOf list (at + 8) (length content)) (sym is)
-      ∙ ap (take (length content)) (drop-at front (content ++ behind) (at + 8) eight)
-      ∙ take-at content behind (length content) refl in
+      ∙ ap (take (length content)) (drop-at front (content ++ following) (at + 8) eight)
+      ∙ take-at content following (length content) refl in
       sym here ∙ ap (partOf m (at + 8)) long ∙ part-is (blocks-in m bytes l o .there)
 
   same-packed : repackedModule m l ≡ m → AllPacked

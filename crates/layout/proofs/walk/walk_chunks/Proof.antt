@@ -17,10 +17,10 @@ loop-holds : tie.Need-loop-holds Inv-loop μ-loop
 loop-holds c =
     let entry = c .before .before .before in
     let m = entry .args .m .now in
-    let no-places = c .before .no-places in
+    let no-spans = c .before .no-spans in
     let skip-others = c .skip-others in
-    walking-others m (no-places .result) (skip-others .ensures .0 .0) 8 (skip-others .result) (skip-others .ensures .0 .1)
-    (rw (no-places .ensures) (walking-first m))
+    walking-others m (no-spans .result) (skip-others .ensures .0 .0) 8 (skip-others .result) (skip-others .ensures .0 .1)
+    (rw (no-spans .ensures) (walking-first m))
 
 returns : tie.Need-returns Inv-loop μ-loop
 returns c =
@@ -64,11 +64,11 @@ loop-again c =
     let m = turn .before .before .before .before .before .args .m .now in
     let size = c .before .before .before .before .number32 in
     let put = c .before .put in
-    let place = c .before .before .standing in
+    let span = c .before .before .header-span in
     let letters = c .before .before .before .number322 in
     let sound = sym (check-chunk .ensures) ∙ variant .given .1 in
     let next = walking-turn m (loop .p) (loop .at) (loop .inv) (turn .loop-test .taken) sound (put .result)
-    (put .ensures ∙ simp (place .ensures, size .ensures, letters .ensures)) in
+    (put .ensures ∙ simp (span .ensures, size .ensures, letters .ensures)) in
     let others = c .skip-others2 .ensures .0 in
     walking-others m (put .result) (others .0) (loop .at + 8 + size .result) (c .skip-others2 .result) (others .1)
     (rw (size .ensures) next)

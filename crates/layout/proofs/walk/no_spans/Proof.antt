@@ -1,6 +1,6 @@
 use borrow.Author.Needs.{needs}
-use Rattle.layout.proofs.walk.no_places.Statement.{statement}
-use Rattle.layout.proofs.walk.no_places.Tie as tie
+use Rattle.layout.proofs.walk.no_spans.Statement.{statement}
+use Rattle.layout.proofs.walk.no_spans.Tie as tie
 
 returns : tie.Need-returns
 returns c =
@@ -19,8 +19,8 @@ returns c =
       c .absent8 .ensures,
     )
 
-pub no-places-spec : {M : Type 1} → statement M
-no-places-spec =
+pub no-spans-spec : {M : Type 1} → statement M
+no-spans-spec =
     tie.close
     (tie.spec (λ c κs. search needs) (λ c κs. search needs) (λ c κs. search needs) (λ c κs. search needs)
     (λ c κs. search needs) (λ c κs. search needs) (λ c κs. search needs) (λ c κs. search needs) returns)
