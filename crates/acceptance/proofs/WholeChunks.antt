@@ -107,7 +107,8 @@ places-of {m} all read mandatory = record {
 
     says : (occurs infoIdentifier (recordsFrom 8 all) ≡ true)
         × ((occurs songIdentifier (recordsFrom 8 all) ≡ true)
-        × ((occurs instIdentifier (recordsFrom 8 all) ≡ true) × ((occurs pattIdentifier (recordsFrom 8 all) ≡ true) × (occurs smplIdentifier (recordsFrom 8 all) ≡ true))))
+        × ((occurs instIdentifier (recordsFrom 8 all) ≡ true)
+        × ((occurs pattIdentifier (recordsFrom 8 all) ≡ true) × (occurs smplIdentifier (recordsFrom 8 all) ≡ true))))
     says = simp and-says at mandatory
 
 -- For a found outline, the spans are those of whole chunks.

@@ -51,13 +51,16 @@ loop-less c =
 
 loop-again : tie.Need-loop-again Inv-loop μ-loop
 loop-again c =
-    let m = c .before .before .before .before .before .args .m .now in
-    let at = c .before .before .before .loop .at in
+    let entry = c .before .before .before .before .before in
+    let loop = c .before .before .before .loop in
+    let number32 = c .number32 in
+    let m = entry .args .m .now in
+    let at = loop .at in
     let other = sym (c .before .before .is-other .ensures) ∙ c .before .if1 .taken in
-    let fit : at + 8 + c .number32 .result ≤ length m = rw (c .number32 .ensures) (other-end m at other) in
-    let before = c .before .before .before .loop .inv in
-    let more = others-more m (before .0 .0) (c .before .before .before .before .before .args .start) at (before .0 .1) other in
-    ((suc (before .0 .0), rw (c .number32 .ensures) more), omega (arith, fit, before .1), omega (arith, fit))
+    let fit : at + 8 + number32 .result ≤ length m = rw (number32 .ensures) (other-end m at other) in
+    let before = loop .inv in
+    let more = others-more m (before .0 .0) (entry .args .start) at (before .0 .1) other in
+    ((suc (before .0 .0), rw (number32 .ensures) more), omega (arith, fit, before .1), omega (arith, fit))
 
 returns : tie.Need-returns Inv-loop μ-loop
 returns c = (c .before .before .loop .inv .0, c .before .before .loop .inv .1)
