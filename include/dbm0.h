@@ -4,36 +4,36 @@
  * its records by one call, and its repacking.
  *
  * Link with libdbm0.a (x86-64, System V calling convention). The calls of
- * dbm0_pattern.h, which this header includes, are in libpattern.a: a program
- * that wants both links both. libdbm0.a needs memcpy and memset of a C library,
- * or the program's own.
+ * dbm0_pattern.h, which this header includes, are in libpattern.a. A program
+ * that uses both links both. libdbm0.a needs memcpy and memset, of a C library
+ * or of the program itself.
  *
  * A module is a header of 8 bytes ("DBM0", version, revision, two reserved
  * bytes) and chunks: an identifier of four letters, the length of the data in
- * four bytes, and the data. All numbers are big-endian. Covered are the chunks
- * NAME, INFO, SONG, INST, PATT, SMPL, VENV and PENV; others are stepped over.
+ * four bytes, and the data. All numbers are big-endian. The covered chunks are
+ * NAME, INFO, SONG, INST, PATT, SMPL, VENV and PENV. Others are skipped.
  *
  * What holds for every call:
  *
  * - Every pair of a pointer and a length is memory that the caller lends for
- *   the time of the call. A pointer may be NULL where its length is 0. The
+ *   the time of the call. A pointer may be NULL if its length is 0. The
  *   module and an output must not overlap. Only an output is written.
- * - The bytes and numbers may be any: a call ends on every input, reads
- *   nothing outside it, and no sum or product wraps.
+ * - The bytes and numbers can have any value: a call terminates for every
+ *   input, reads nothing outside it, and no sum or product wraps.
  * - Every answer begins with number (0: no refusal) and place. On a refusal
- *   all else in the answer is 0, and no byte of an output is changed.
- * - A query gives, the first that applies: the module's own refusal (1 to 15,
- *   as dbm0_check_module), then 18, then 17 where an output is lent. Instruments,
- *   samples and tracks are counted from 1, all else from 0.
+ *   everything else in the answer is 0, and no byte of an output changes.
+ * - A query gives the first of these that applies: the module's own refusal (1
+ *   to 15, as dbm0_check_module), then 18, then 17 if an output is lent.
+ *   Instruments, samples and tracks are counted from 1, everything else from 0.
  * - A call that fills an output gives the needed length as the place of 17:
- *   call it with an output of length 0 to ask for it. Where nothing is needed
+ *   call it with an output of length 0 to get the length. If nothing is needed
  *   (an empty playlist, a pattern of 0 rows, a sample of 0 frames), that call
- *   succeeds with length 0. On success, bytes after the written length stay as
- *   they were.
- * - Every query checks the module first; that is most of its time. What comes
- *   on top of the check is said at each. Work on many entries, cells or frames
- *   goes through the calls that fill an output, and work on many records
- *   through dbm0_records.
+ *   succeeds with length 0. On success, bytes after the written length do not
+ *   change.
+ * - Every query checks the module first; that is most of its time. The time in
+ *   addition to the check is given at each call. For many entries, cells or
+ *   frames use the calls that fill an output, and for many records
+ *   dbm0_records.
  * - No call keeps any state, allocates, or waits. They may run on any thread
  *   and at the same time, as long as no call's output is used by another: two
  *   calls at the same time must not share an output.
@@ -82,17 +82,18 @@ extern "C" {
 /* An identifier is not four letters A to Z. The place is the chunk's header. */
 #define DBM0_MODULE_IDENTIFIER 5
 
-/* A covered chunk stands a second time. The place is its header. */
+/* A covered chunk occurs a second time. The place is its header. */
 #define DBM0_MODULE_CHUNK_REPEATED 6
 
-/* SONG, INST, PATT or SMPL stands before INFO. The place is its header. */
+/* SONG, INST, PATT or SMPL comes before INFO. The place is its header. */
 #define DBM0_MODULE_BEFORE_INFO 7
 
 /* INFO, SONG, INST, PATT or SMPL is missing. The place is the module's
  * length. */
 #define DBM0_MODULE_CHUNK_MISSING 8
 
-/* NAME has not 44 bytes, or INFO not 10. The place is the chunk's header. */
+/* NAME does not have 44 bytes, or INFO not 10. The place is the chunk's
+ * header. */
 #define DBM0_MODULE_CHUNK_LENGTH 9
 
 /* A number of INFO is out of range. The place is that field. */
@@ -123,8 +124,8 @@ extern "C" {
 #define DBM0_MODULE_NOT_THERE 18
 
 /*
- * number: 0 where there is no refusal, else one of the numbers above.
- * place:  what the number says, and 0 where there is no refusal.
+ * number: 0 if there is no refusal, else one of the numbers above.
+ * place:  as described at the number, and 0 if there is no refusal.
  */
 typedef struct {
     uint64_t number;
@@ -155,11 +156,11 @@ typedef struct {
     uint8_t revision;
 } dbm0_version_answer;
 
-/* Refusals: the module's own. Time beside the check: constant. */
+/* Refusals: the module's own. Time besides the check: constant. */
 dbm0_version_answer dbm0_version(
     const uint8_t *module, size_t module_length);
 
-/* The name's bytes as stored; zeros where the module has none. They need not
+/* The bytes of the name as stored; zeros if the module has none. They need not
  * end in a zero. */
 typedef struct {
     uint64_t number;
@@ -167,7 +168,7 @@ typedef struct {
     uint8_t name[44];
 } dbm0_name_answer;
 
-/* Refusals: the module's own. Time beside the check: constant. */
+/* Refusals: the module's own. Time besides the check: constant. */
 dbm0_name_answer dbm0_name(
     const uint8_t *module, size_t module_length);
 
@@ -183,7 +184,7 @@ typedef struct {
     uint16_t tracks;
 } dbm0_info_answer;
 
-/* Refusals: the module's own. Time beside the check: constant. */
+/* Refusals: the module's own. Time besides the check: constant. */
 dbm0_info_answer dbm0_info(
     const uint8_t *module, size_t module_length);
 
@@ -195,7 +196,7 @@ typedef struct {
     uint16_t length;
 } dbm0_song_answer;
 
-/* A song, counted from 0. Refusals: the module's own, 18. Time beside the
+/* A song, counted from 0. Refusals: the module's own, 18. Time besides the
  * check: grows with the songs before it. */
 dbm0_song_answer dbm0_song(
     const uint8_t *module, size_t module_length, size_t song);
@@ -208,7 +209,7 @@ typedef struct {
 } dbm0_entry_answer;
 
 /* An entry of a song, both counted from 0. Refusals: the module's own, 18 (no
- * such song or entry). Time beside the check: grows with the songs before
+ * such song or entry). Time besides the check: grows with the songs before
  * it. */
 dbm0_entry_answer dbm0_entry(
     const uint8_t *module, size_t module_length, size_t song, size_t entry);
@@ -222,14 +223,14 @@ typedef struct {
 } dbm0_length_answer;
 
 /* Writes all entries of a song, 2 bytes each and big-endian. Refusals: the
- * module's own, 18, 17. Time beside the check: grows with the songs before it
+ * module's own, 18, 17. Time besides the check: grows with the songs before it
  * and the entries. */
 dbm0_length_answer dbm0_playlist(
     const uint8_t *module, size_t module_length, size_t song,
     uint8_t *out, size_t out_length);
 
-/* The two bits of an instrument's flags. Where both are set, the loop is
- * forward. Without a loop length there is no loop. */
+/* The two bits of an instrument's flags. If both are set, the loop is forward.
+ * If the loop length is 0, there is no loop. */
 #define DBM0_LOOP_FORWARD 1
 #define DBM0_LOOP_PING_PONG 2
 
@@ -248,19 +249,19 @@ typedef struct {
     uint32_t loop_length;
 } dbm0_instrument_answer;
 
-/* An instrument, counted from 1. Refusals: the module's own, 18. Time beside
+/* An instrument, counted from 1. Refusals: the module's own, 18. Time besides
  * the check: grows with the instruments before it. */
 dbm0_instrument_answer dbm0_instrument(
     const uint8_t *module, size_t module_length, size_t instrument);
 
-/* How many envelopes there are; 0 where their chunk is missing. */
+/* The number of envelopes; 0 if their chunk is missing. */
 typedef struct {
     uint64_t number;
     uint64_t place;
     uint16_t count;
 } dbm0_count_answer;
 
-/* Refusals: the module's own. Time beside the check: constant. */
+/* Refusals: the module's own. Time besides the check: constant. */
 dbm0_count_answer dbm0_volume_envelopes(
     const uint8_t *module, size_t module_length);
 dbm0_count_answer dbm0_panning_envelopes(
@@ -275,8 +276,8 @@ dbm0_count_answer dbm0_panning_envelopes(
 /* An envelope. instrument: counted from 1. The points in use are sections + 1;
  * the others are zeros. values: 0 to 64 of volume; of panning -128 to 128 (a
  * stored v of version 2 is shown as 4v - 128). The rest is as stored: the
- * points at which the first sustain, the loop and the second sustain stand
- * count only where their flag is set. */
+ * points of the first sustain, the loop and the second sustain have a meaning
+ * only if their flag is set. */
 typedef struct {
     uint64_t number;
     uint64_t place;
@@ -292,7 +293,7 @@ typedef struct {
 } dbm0_envelope_answer;
 
 /* An envelope, counted from 0 by its place in the chunk VENV or PENV.
- * Refusals: the module's own, 18. Time beside the check: grows with the
+ * Refusals: the module's own, 18. Time besides the check: grows with the
  * envelopes before it. */
 dbm0_envelope_answer dbm0_volume_envelope(
     const uint8_t *module, size_t module_length, size_t envelope);
@@ -306,7 +307,7 @@ typedef struct {
     uint16_t rows;
 } dbm0_rows_answer;
 
-/* A pattern, counted from 0. Refusals: the module's own, 18. Time beside the
+/* A pattern, counted from 0. Refusals: the module's own, 18. Time besides the
  * check: grows with the patterns before it. */
 dbm0_rows_answer dbm0_rows(
     const uint8_t *module, size_t module_length, size_t pattern);
@@ -335,7 +336,7 @@ typedef struct {
 } dbm0_cell_answer;
 
 /* A cell: pattern and row counted from 0, track from 1. Refusals: the module's
- * own, 18 (no such pattern, row or track). Time beside the check: grows with
+ * own, 18 (no such pattern, row or track). Time besides the check: grows with
  * the patterns before it and the packed bytes of its own. */
 dbm0_cell_answer dbm0_cell(
     const uint8_t *module, size_t module_length,
@@ -343,7 +344,7 @@ dbm0_cell_answer dbm0_cell(
 
 /* Writes all cells of a pattern: row by row, tracks ascending, six bytes each
  * (note, instrument, command 1, parameter 1, command 2, parameter 2).
- * Refusals: the module's own, 18, 17. Time beside the check: grows with the
+ * Refusals: the module's own, 18, 17. Time besides the check: grows with the
  * patterns before it, the packed bytes of its own and the bytes written. */
 dbm0_length_answer dbm0_cells(
     const uint8_t *module, size_t module_length, size_t pattern,
@@ -357,14 +358,13 @@ typedef struct {
     uint32_t frames;
 } dbm0_sample_answer;
 
-/* A sample, counted from 1. Refusals: the module's own, 18. Time beside the
+/* A sample, counted from 1. Refusals: the module's own, 18. Time besides the
  * check: grows with the samples before it. */
 dbm0_sample_answer dbm0_sample(
     const uint8_t *module, size_t module_length, size_t sample);
 
-/* The frames of a sample, as the part of the module that they are: module +
- * offset, length bytes (frames times the bytes of a frame), signed and
- * big-endian. */
+/* The frames of a sample, as a part of the module: length bytes (frames times
+ * the bytes of a frame) from module + offset, signed and big-endian. */
 typedef struct {
     uint64_t number;
     uint64_t place;
@@ -373,7 +373,7 @@ typedef struct {
 } dbm0_frames_answer;
 
 /* The frames of a sample, counted from 1. Nothing is copied. Refusals: the
- * module's own, 18. Time beside the check: grows with the samples before
+ * module's own, 18. Time besides the check: grows with the samples before
  * it. */
 dbm0_frames_answer dbm0_frames(
     const uint8_t *module, size_t module_length, size_t sample);
@@ -387,22 +387,22 @@ typedef struct {
 } dbm0_frame_answer;
 
 /* A frame: the sample counted from 1, the frame from 0. Refusals: the
- * module's own, 18 (no such sample or frame). Time beside the check: grows
+ * module's own, 18 (no such sample or frame). Time besides the check: grows
  * with the samples before it. */
 dbm0_frame_answer dbm0_frame(
     const uint8_t *module, size_t module_length,
     size_t sample, size_t frame);
 
 /* Writes all frames of a sample at 16 bits, 2 bytes each, signed and
- * big-endian. Refusals: the module's own, 18, 17. Time beside the check:
+ * big-endian. Refusals: the module's own, 18, 17. Time besides the check:
  * grows with the samples before it and the frames. */
 dbm0_length_answer dbm0_all_frames(
     const uint8_t *module, size_t module_length, size_t sample,
     uint8_t *out, size_t out_length);
 
 /*
- * Writes all records of a module, one behind the other and with nothing
- * between. Each record tells just what its own query answers. All numbers are
+ * Writes all records of a module, one after the other and with nothing
+ * between. Each record has exactly what its own query answers. All numbers are
  * big-endian, and those called signed are in two's complement.
  *
  * First 60 bytes:
@@ -410,7 +410,7 @@ dbm0_length_answer dbm0_all_frames(
  *   offset  bytes
  *        0      1  version (dbm0_version)
  *        1      1  revision
- *        2     44  name (dbm0_name); zeros where the module has none
+ *        2     44  name (dbm0_name); zeros if the module has none
  *       46      2  instruments (dbm0_info)
  *       48      2  samples
  *       50      2  songs
@@ -423,7 +423,7 @@ dbm0_length_answer dbm0_all_frames(
  * dbm0_playlist):
  *
  *        0     44  name
- *       44      2  length: how many entries there are
+ *       44      2  length: the number of entries
  *       46         the entries, 2 bytes each: the numbers of patterns
  *
  * Then every instrument from 1 on, 50 bytes (dbm0_instrument):
@@ -460,10 +460,10 @@ dbm0_length_answer dbm0_all_frames(
  *                  use are zeros, and values are as they are shown: of panning
  *                  in version 2, 4v - 128
  *
- * The needed length is told by an output of length 0.
+ * An output of length 0 gives the needed length.
  *
- * Refusals: the module's own, 17. Time: one check of the module, and beside it
- * one pass over the blocks and the bytes written.
+ * Refusals: the module's own, 17. Time: one check of the module, and one pass
+ * over the blocks and the bytes written.
  */
 dbm0_length_answer dbm0_records(
     const uint8_t *module, size_t module_length,
@@ -473,19 +473,19 @@ dbm0_length_answer dbm0_records(
  * Writes the module repacked: header and chunks in order and byte for byte,
  * except that PATT holds, for each pattern, its rows, the packer's stream of
  * its cells (as dbm0_pack_pattern writes it) with the length of that stream,
- * and a filler byte of 0 where that length is odd; and PATT's own length is
- * what follows. The output is a module that is accepted, shows the same
- * records, cells and frames, and repacks to itself. It is the module's own
- * bytes just where every stream was the packer's and every filler 0.
+ * and a filler byte of 0 if that length is odd; and PATT's own length is that
+ * of its new data. The output is a module that is accepted, shows the same
+ * records, cells and frames, and repacks to itself. It is the same as the
+ * module exactly if every stream was the packer's and every filler 0.
  *
  * The needed length is never more than the module's, so an output as long as
  * the module is always enough. The output must not overlap the module.
  *
- * Refusals: the module's own, 17. Time beside the check: the packed streams
- * are gone over three times to be written, and the rest of the module is
- * copied. With an output shorter than the module they are first gone over
- * twice for the needed length. No memory is needed beyond one row of cells,
- * which stands on the stack.
+ * Refusals: the module's own, 17. Time besides the check: the packed streams
+ * are read three times to write them, and the rest of the module is copied.
+ * If the output is shorter than the module, they are first read twice for the
+ * needed length. No memory is needed beyond one row of cells, which is on the
+ * stack.
  */
 dbm0_length_answer dbm0_repack(
     const uint8_t *module, size_t module_length,

@@ -11,24 +11,24 @@
  * A packed stream is read from the front. A byte 0 ends a row. Any other byte
  * begins an entry: the track, from 1 to the pattern's tracks; a mask whose
  * bits 0 to 5 name fields of the cell in the order above (bits 6 and 7 are 0);
- * and the fields that it names. Fields that are not named stay as they are;
- * every cell starts as zeros. The stream has exactly the pattern's number of
+ * and the fields that it names. Fields that are not named do not change; every
+ * cell starts as zeros. The stream has exactly the pattern's number of
  * row ends, and the last one is its last byte.
  *
  * What holds for all three calls:
  *
  * - Every pair of a pointer and a length is memory that the caller lends for
- *   the time of the call. A pointer may be NULL where its length is 0.
+ *   the time of the call. A pointer may be NULL if its length is 0.
  * - The output must not overlap the input.
- * - Rows and tracks may be any numbers: no sum or product wraps, and what is
- *   out of range is refused.
- * - A refusal changes no byte of the output. On success the bytes past the
- *   written length stay as they were.
+ * - Rows and tracks can be any numbers: no sum or product wraps, and numbers
+ *   out of range are refused.
+ * - A refusal changes no byte of the output. On success the bytes after the
+ *   written length do not change.
  * - No call keeps any state, allocates, or waits. They may run on any thread
  *   and at the same time, as long as no call's output is used by another.
  * - A call needs less than 512 bytes of stack. What memset needs is not
  *   counted.
- * - A call with an output of length 0 tells the needed length: the answer is
+ * - A call with an output of length 0 reports the needed length: the answer is
  *   then DBM0_PATTERN_OUTPUT_TOO_SHORT with the length as its place (or, for
  *   a pattern of 0 rows, success with length 0).
  */
@@ -50,11 +50,11 @@ extern "C" {
 #define DBM0_PATTERN_OK 0
 
 /*
- * The packed stream is broken. The place is that of the first fault met
+ * The packed stream is broken. The place is that of the first fault found
  * reading forward: the first byte of a faulty entry (its track is too high,
  * its mask has bit 6 or 7, or the stream ends inside it), the first byte that
- * is left over after the last row end, or the stream's length where row ends
- * lack.
+ * is left over after the last row end, or the stream's length if row ends are
+ * missing.
  */
 #define DBM0_PATTERN_STREAM_BROKEN 15
 
@@ -75,7 +75,7 @@ extern "C" {
 /*
  * The bytes of rows x tracks cells, and the length of the longest stream that
  * the packer writes for them: rows x (1 + 8 x tracks). Both are uint64_t, and
- * right for all rows and tracks in range.
+ * correct for all rows and tracks in range.
  */
 #define DBM0_PATTERN_CELL_BYTES(rows, tracks) \
     ((uint64_t)(rows) * (uint64_t)(tracks) * 6u)
@@ -83,9 +83,9 @@ extern "C" {
     ((uint64_t)(rows) * (1u + 8u * (uint64_t)(tracks)))
 
 /*
- * number: 0 where there is no refusal, else one of the numbers above.
- * place:  what the number says, and 0 where there is no refusal.
- * length: how many bytes were written; 0 on a refusal, and for the check.
+ * number: 0 if there is no refusal, else one of the numbers above.
+ * place:  as described at the number, and 0 if there is no refusal.
+ * length: the number of bytes written; 0 on a refusal, and for the check.
  */
 typedef struct {
     uint64_t number;
@@ -97,7 +97,7 @@ typedef struct {
  * Checks a packed stream.
  *
  * Refusals, the first that applies: 16, 15.
- * Time: linear in stream_length, whatever the rows. No allocation.
+ * Time: linear in stream_length, and independent of the rows. No allocation.
  */
 dbm0_pattern_answer dbm0_check_pattern(
     const uint8_t *stream, size_t stream_length,
@@ -118,8 +118,8 @@ dbm0_pattern_answer dbm0_unpack_pattern(
 /*
  * Packs cells: rows in order, in each row one entry for each cell that is not
  * all zeros, tracks ascending, naming exactly the fields that are not 0. No
- * stream for the same cells is shorter. Its length is the rows, and two for
- * each such cell, and one for each field that is not 0.
+ * stream for the same cells is shorter. Its length is the number of rows, plus
+ * two for each such cell, plus one for each field that is not 0.
  *
  * Refusals, the first that applies: 16, 17 (the place is that length).
  * Time: linear in cells_length. No allocation.
