@@ -172,7 +172,8 @@ fn read_cell(
     track: usize,
     line: &mut [u8],
 ) -> Cell
-    requires { ⌜ (verdictOfReading (readStream rows tracks (now stream)) ≡ Accepted) × (cellThere rows tracks row track ≡ true) × (length (now line) ≡ tracks * 6) ⌝ }
+    requires { ⌜ (verdictOfReading (readStream rows tracks (now stream)) ≡ Accepted) × (cellThere rows tracks row track ≡ true)
+        × (length (now line) ≡ tracks * 6) ⌝ }
     ensures { λ r. ⌜ r ≡ shownCell (cellRead (now (stream .entry)) rows tracks row track) ⌝ }
 {
     let at = skip_rows(stream, row);
