@@ -3,6 +3,7 @@ use Prim.Native.Nat.{ℕ}
 use mathlib.Core.Path.{_≡_, refl}
 use mathlib.Core.List.{List, [], _∷_, _++_}
 use mathlib.Core.Bool.{Bool, true, false, cond}
+use lib.ListN.{drop}
 use native.Mathlib.Omega.{arith}
 use Rattle.refusal.specs.Rules.{Rule, firstBroken}
 use Rattle.refusal.specs.declared.Refusal.{Refusal}
@@ -24,6 +25,10 @@ rules-held [] e = tt
 rules-held (r ∷ rs) e =
     let both = held (r .holds) (firstBroken rs) _ e in
     (both .0, rules-held rs (both .1))
+
+-- The first n rules hold, so the verdict is that of the others.
+abbrev pub FirstHold : ℕ → List Rule → Type 0
+FirstHold n rules = firstBroken rules ≡ firstBroken (drop n rules)
 
 -- Rules after rules that all hold, and after one that does not.
 module _ (ys : List Rule) where
