@@ -1,6 +1,6 @@
 //! The corpus: fixed test cases for the library, in one part for each conformance program.
 //!
-//! The cases of a part follow each other. All numbers are big-endian. Kinds 1 to 3 are for conformance_patterns, kinds 4 and 5 for
+//! The cases of a part follow each other. All numbers are big-endian. Kinds 1 to 3 are for conformance_patterns, kinds 4 to 6 for
 //! conformance_modules:
 //!
 //! - kind 1, a stream: rows (8), tracks (8), row (8), track (8), room (4), length (4), the stream;
@@ -8,10 +8,13 @@
 //! - kind 3, a cell to show: six bytes;
 //! - kind 4, a module: room (4), length (4), the module;
 //! - kind 5, the records of a module: song, entry, instrument, envelope, pattern, row, track, sample and frame (8 each), room (4),
-//!   length (4), the module.
+//!   length (4), the module;
+//! - kind 6, a sample to replace: its number (8), room (4), length of the new frames in bytes (4), length of the module (4), the new
+//!   frames, the module.
 
 mod modules;
 mod records;
+mod replacements;
 
 use crate::generate::{bytes, cells, damaged, entry, likely_bytes, valid_stream, Random};
 use crate::pattern::{pack, repack, FIELDS};
@@ -55,6 +58,12 @@ pub enum Case {
     Records {
         query: Query,
         room: u32,
+        module: Vec<u8>,
+    },
+    Replacement {
+        sample: u64,
+        room: u32,
+        frames: Vec<u8>,
         module: Vec<u8>,
     },
 }
@@ -149,6 +158,20 @@ pub fn encoded(cases: &[Case]) -> Vec<u8> {
                 corpus.extend((module.len() as u32).to_be_bytes());
                 corpus.extend(module);
             }
+            Case::Replacement {
+                sample,
+                room,
+                frames,
+                module,
+            } => {
+                corpus.push(6);
+                corpus.extend(sample.to_be_bytes());
+                corpus.extend(room.to_be_bytes());
+                corpus.extend((frames.len() as u32).to_be_bytes());
+                corpus.extend((module.len() as u32).to_be_bytes());
+                corpus.extend(frames);
+                corpus.extend(module);
+            }
         }
     }
     corpus
@@ -198,6 +221,18 @@ pub fn take(corpus: &[u8]) -> Option<(Case, &[u8])> {
                 module,
             }
         }
+        6 => {
+            let [sample] = take_numbers(&mut left)?;
+            let [room, frame_bytes, length] = take_lengths(&mut left)?;
+            let frames = take_bytes(&mut left, frame_bytes)?.to_vec();
+            let module = take_bytes(&mut left, length)?.to_vec();
+            Case::Replacement {
+                sample,
+                room,
+                frames,
+                module,
+            }
+        }
         _ => return None,
     };
     Some((case, left))
@@ -225,15 +260,21 @@ fn take_lengths<const N: usize>(left: &mut &[u8]) -> Option<[u32; N]> {
     Some(numbers)
 }
 
-/// The name of each conformance program and its cases: packed rows and cells for the first, whole modules and then records for the second.
+/// The name of each conformance program and its cases: packed rows and cells for the first; whole modules, then records, then samples to
+/// replace for the second.
 pub fn programs() -> [(&'static str, Vec<Case>); 2] {
     [
         ("conformance_patterns", pattern_cases()),
         (
             "conformance_modules",
-            [module_cases(), record_cases()].concat(),
+            [module_cases(), record_cases(), replacement_cases()].concat(),
         ),
     ]
+}
+
+/// The cases of kind 6.
+pub fn replacement_cases() -> Vec<Case> {
+    replacements::cases()
 }
 
 /// The cases of kind 5.

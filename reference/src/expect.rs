@@ -6,6 +6,7 @@ use std::fmt::Write;
 
 use crate::corpus::{take, Case};
 use crate::pattern::{cell, check, pack, repack, shown, unpack, Cell, Note, Refusal};
+use crate::replace::{replace_sample, Replaced};
 use crate::{all_records, listing, module};
 
 /// An output is filled with this byte before the call.
@@ -81,7 +82,25 @@ fn lines(case: &Case, text: &mut String) {
             room,
             module,
         } => records::lines(text, module, query, *room),
+        Case::Replacement {
+            sample,
+            room,
+            frames,
+            module,
+        } => {
+            // An output of the second length is always enough: no more than the new frames is added to the module.
+            for room in [*room, (module.len() + frames.len()) as u32] {
+                replaced(text, room, |out| {
+                    replace_sample(module, *sample, frames, out)
+                });
+            }
+        }
     }
+}
+
+/// An output before the call.
+fn output(room: u32) -> Vec<u8> {
+    vec![FILL; room.min(MOST_ROOM) as usize]
 }
 
 /// The line of a call that fills an output.
@@ -91,12 +110,29 @@ fn written(
     room: u32,
     call: impl FnOnce(&mut [u8]) -> Result<u64, Refusal>,
 ) {
-    let mut out = vec![FILL; room.min(MOST_ROOM) as usize];
+    let mut out = output(room);
     let answer = call(&mut out);
     let (number, place) = numbers(answer.err());
     let length = answer.unwrap_or(0);
     let out = hex(&out);
     line(text, format_args!("{name} {number} {place} {length} {out}"));
+}
+
+/// The line of a module with a sample replaced. It also has the number of instruments whose loop was cleared.
+fn replaced(
+    text: &mut String,
+    room: u32,
+    call: impl FnOnce(&mut [u8]) -> Result<Replaced, Refusal>,
+) {
+    let mut out = output(room);
+    let answer = call(&mut out);
+    let (number, place) = numbers(answer.err());
+    let Replaced { length, cleared } = answer.unwrap_or_default();
+    let out = hex(&out);
+    line(
+        text,
+        format_args!("replaced {number} {place} {length} {cleared} {out}"),
+    );
 }
 
 /// The line of a selected cell.

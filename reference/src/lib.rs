@@ -20,5 +20,6 @@ pub mod pattern;
 pub mod records;
 pub mod refusal;
 pub mod repack;
+pub mod replace;
 pub mod rules;
 pub mod tunes;

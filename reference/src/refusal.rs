@@ -7,7 +7,7 @@ pub struct Refusal {
     pub place: u64,
 }
 
-/// 1: the module has more than 16,777,216 bytes.
+/// 1: the module, or the module to be written, has more than 16,777,216 bytes.
 pub fn too_long() -> Refusal {
     Refusal {
         number: 1,
@@ -122,6 +122,14 @@ pub fn too_short(needed: u64) -> Refusal {
 pub fn not_there() -> Refusal {
     Refusal {
         number: 18,
+        place: 0,
+    }
+}
+
+/// 19: the new frames of a sample have an odd number of bytes.
+pub fn odd_frames() -> Refusal {
+    Refusal {
+        number: 19,
         place: 0,
     }
 }

@@ -1,9 +1,9 @@
-//! The modules of the folder `samples`.
+//! The files of the folder `samples`: modules, and the frames of a sample.
 
 use crate::draft::{Chunk, Draft, Envelope, Instrument, Pattern, Sample, Song, Tune};
 use crate::pattern::{pack, FIELDS};
 
-/// The names and the contents of the files.
+/// The names and the contents of the modules.
 pub fn files() -> [(&'static str, Vec<u8>); 5] {
     [
         ("smallest.dbm", Tune::default().bytes()),
@@ -12,6 +12,15 @@ pub fn files() -> [(&'static str, Vec<u8>); 5] {
         ("short-organ.dbm", echoed(&short_organ()).bytes()),
         ("broken-pattern.dbm", broken_pattern().bytes()),
     ]
+}
+
+/// The name and the contents of the file of frames: the 40 frames of the short recording of the organ, each times 256, at 16 bits.
+pub fn frames_file() -> (&'static str, Vec<u8>) {
+    let frames = organ(40).data;
+    let wide = frames
+        .into_iter()
+        .flat_map(|frame| (256 * i16::from(frame as i8)).to_be_bytes());
+    ("short-organ.frames", wide.collect())
 }
 
 /// A cell of a pattern: row, track, and the six fields.

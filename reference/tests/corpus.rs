@@ -3,12 +3,15 @@
 use std::collections::BTreeSet;
 
 use reference::corpus::{
-    encoded, module_cases, pattern_cases, programs, record_cases, take, Case, Query,
+    encoded, module_cases, pattern_cases, programs, record_cases, replacement_cases, take, Case,
+    Query,
 };
 use reference::draft::{Pattern, Tune};
 use reference::expect::expected;
-use reference::module::read;
+use reference::module::{check, read};
+use reference::refusal::Refusal;
 use reference::repack::repack;
+use reference::replace::{replace_sample, Replaced};
 
 fn stream(rows: u64, tracks: u64, row: u64, track: u64, room: u32, stream: &[u8]) -> Case {
     Case::Stream {
@@ -383,12 +386,139 @@ fn at_most_65536_bytes_of_a_part_are_printed() {
     assert!(text.contains(&line));
 }
 
+fn replacement(sample: u64, room: u32, frames: &[u8], module: &[u8]) -> Case {
+    Case::Replacement {
+        sample,
+        room,
+        frames: frames.to_vec(),
+        module: module.to_vec(),
+    }
+}
+
+/// One instrument with the ping-pong loop 1 + 1 of sample 1, which has two frames of 8 bits. INST is at 34, SMPL at 100.
+#[rustfmt::skip]
+fn one_loop() -> Vec<u8> {
+    [
+        &b"DBM0\x03\x00\x00\x00"[..],
+        b"INFO\x00\x00\x00\x0A", &[0, 1, 0, 1, 0, 0, 0, 0, 0, 4],
+        b"SONG\x00\x00\x00\x00",
+        b"INST\x00\x00\x00\x32", &[0x77; 30], &[0, 1, 0, 64], &[0, 0, 0x20, 0xAB], &[0, 0, 0, 1], &[0, 0, 0, 1],
+        &[0xFF, 0xD8], &[0, 2],
+        b"PATT\x00\x00\x00\x00",
+        b"SMPL\x00\x00\x00\x0A", &[0, 0, 0, 1, 0, 0, 0, 2], &[0x11, 0x22],
+    ]
+    .concat()
+}
+
+/// The result for one frame, $1234: 118 bytes as before, without the loop.
+const ONE_FRAME: &str = "44424d3003000000494e464f0000000a00010001000000000004\
+    534f4e4700000000\
+    494e535400000032\
+    777777777777777777777777777777777777777777777777777777777777\
+    00010040000020ab0000000000000000ffd80000\
+    5041545400000000\
+    534d504c0000000a00000002000000011234";
+
+/// The result for the three frames $1234, $5678 and $9ABC: 122 bytes, with the loop.
+const THREE_FRAMES: &str = "44424d3003000000494e464f0000000a00010001000000000004\
+    534f4e4700000000\
+    494e535400000032\
+    777777777777777777777777777777777777777777777777777777777777\
+    00010040000020ab0000000100000001ffd80002\
+    5041545400000000\
+    534d504c0000000e0000000200000003123456789abc";
+
+#[test]
+fn the_lines_of_replacements() {
+    let module = one_loop();
+    assert_eq!(module.len(), 118);
+    let corpus = encoded(&[
+        replacement(1, 118, &[0x12, 0x34], &module),
+        replacement(1, 117, &[0x12, 0x34], &module),
+        replacement(1, 123, &[0x12, 0x34, 0x56, 0x78, 0x9A, 0xBC], &module),
+    ]);
+    assert_eq!(corpus.len(), 3 * (21 + 118) + 2 + 2 + 6);
+    assert_eq!(
+        corpus[..27],
+        *b"\x06\x00\x00\x00\x00\x00\x00\x00\x01\x00\x00\x00\x76\x00\x00\x00\x02\x00\x00\x00\x76\x12\x34DBM0"
+    );
+    assert_eq!(
+        expected(&corpus),
+        format!(
+            "replaced 0 0 118 1 {ONE_FRAME}\n\
+             replaced 0 0 118 1 {ONE_FRAME}aaaa\n\
+             replaced 17 118 0 0 {}\n\
+             replaced 0 0 118 1 {ONE_FRAME}aaaa\n\
+             replaced 0 0 122 0 {THREE_FRAMES}aa\n\
+             replaced 0 0 122 0 {THREE_FRAMES}aaaa\n\
+             cases 3\n",
+            "aa".repeat(117)
+        )
+    );
+}
+
+#[test]
+fn the_lines_of_refused_replacements() {
+    let module = one_loop();
+    let corpus = encoded(&[
+        replacement(1, 0, &[0x12], &module),
+        replacement(2, 1, &[0x12], &module),
+        replacement(0, 0, &[0x12, 0x34], &module),
+        replacement(u64::MAX, 0, &[], &module),
+        replacement(2, 3, &[0x12], &module[..20]),
+        replacement(1, 0, &[], &[]),
+    ]);
+    let filled = |count| "aa".repeat(count);
+    assert_eq!(
+        expected(&corpus),
+        format!(
+            "replaced 19 0 0 0 \nreplaced 19 0 0 0 {}\n\
+             replaced 18 0 0 0 aa\nreplaced 18 0 0 0 {}\n\
+             replaced 18 0 0 0 \nreplaced 18 0 0 0 {}\n\
+             replaced 18 0 0 0 \nreplaced 18 0 0 0 {}\n\
+             replaced 4 8 0 0 aaaaaa\nreplaced 4 8 0 0 {}\n\
+             replaced 2 0 0 0 \nreplaced 2 0 0 0 \n\
+             cases 6\n",
+            filled(119),
+            filled(119),
+            filled(120),
+            filled(118),
+            filled(21),
+        )
+    );
+}
+
+/// The second output of a long module has 65,536 bytes, which may be enough.
+#[test]
+fn replacements_of_more_than_65536_bytes() {
+    // SMPL at 50, the block at 58, its frames from 66 on.
+    let mut module = b"DBM0\x03\x00\x00\x00INFO\x00\x00\x00\x0A".to_vec();
+    module.extend([0, 0, 0, 1, 0, 0, 0, 0, 0, 4]);
+    for name in [b"SONG", b"INST", b"PATT"] {
+        module.extend(name);
+        module.extend([0; 4]);
+    }
+    module.extend(b"SMPL\x00\x01\x00\x09\x00\x00\x00\x01\x00\x01\x00\x01");
+    module.extend([0x11; 65_537]);
+    for (bytes, answer) in [
+        (4, "0 0 70 0"),
+        (65_470, "0 0 65536 0"),
+        (65_472, "17 65538 0 0"),
+    ] {
+        let text = expected(&encoded(&[replacement(1, 0, &vec![0x55; bytes], &module)]));
+        let line = text.lines().nth(1).expect("there are three lines");
+        let words: Vec<&str> = line.split(' ').collect();
+        assert_eq!(words[1..5].join(" "), answer);
+        assert_eq!(words[5].len(), 2 * 65_536);
+    }
+}
+
 #[test]
 fn a_cut_case_or_an_unknown_kind_ends_the_run() {
     assert_eq!(expected(&[]), "cases 0\n");
     assert_eq!(expected(&[0]), "cases 0\n");
     assert_eq!(expected(&[4, 0, 0]), "cases 0\n");
-    assert_eq!(expected(&[6, 0, 0, 0, 0, 0, 0, 0, 0]), "cases 0\n");
+    assert_eq!(expected(&[7, 0, 0, 0, 0, 0, 0, 0, 0]), "cases 0\n");
     let shown = encoded(&[Case::Shown([0; 6])]);
     let line = "shown 0 0 0 0 0 0 0 0 0\n";
     assert_eq!(
@@ -409,6 +539,7 @@ fn a_cut_case_or_an_unknown_kind_ends_the_run() {
             module: vec![b'D'; 9],
         },
         records(QUERY, 3, &[b'D'; 9]),
+        replacement(1, 3, &[1, 2], &[b'D'; 9]),
     ];
     for case in whole {
         let case = encoded(&[case]);
@@ -448,6 +579,13 @@ fn more_room_than_65536_is_taken_as_that() {
                 "aa".repeat(65_536),
                 "aa".repeat(65_536),
                 "aa".repeat(60)
+            )
+        );
+        assert_eq!(
+            expected(&encoded(&[replacement(1, room, &[], &[])])),
+            format!(
+                "replaced 2 0 0 0 {}\nreplaced 2 0 0 0 \ncases 1\n",
+                "aa".repeat(65_536)
             )
         );
     }
@@ -494,7 +632,7 @@ fn the_first_program_has_packed_rows_and_the_second_modules() {
         ("conformance_patterns", "conformance_modules")
     );
     assert!(kinds(&patterns).iter().all(|kind| (1..=3).contains(kind)));
-    assert!(kinds(&modules).iter().all(|kind| (4..=5).contains(kind)));
+    assert!(kinds(&modules).iter().all(|kind| (4..=6).contains(kind)));
     assert!(kinds(&modules).is_sorted());
 }
 
@@ -503,6 +641,17 @@ fn the_cases_of_packed_rows_stay_as_they_are() {
     let patterns = encoded(&pattern_cases());
     assert_eq!(patterns.len(), 230_736);
     assert_eq!(hash(&patterns), 0x9BEA_592E_846C_7DC2);
+}
+
+#[test]
+fn the_cases_of_modules_and_records_stay_as_they_are() {
+    let before = encoded(&[module_cases(), record_cases()].concat());
+    assert_eq!(before.len(), 293_381);
+    assert_eq!(hash(&before), 0x0166_1699_44AC_D1B3);
+    let [_, (_, modules)] = programs();
+    let all = encoded(&modules);
+    assert!(all.starts_with(&before));
+    assert!(all.len() < 400_000, "{} bytes", all.len());
 }
 
 #[test]
@@ -606,6 +755,17 @@ fn the_corpus_has_every_kind_of_answer() {
             assert!(count >= 60, "{start}: {count}");
         }
     }
+    for (numbers, least) in [
+        (vec![0], 300),
+        ((2..=15).collect(), 4),
+        (vec![17, 18, 19], 30),
+    ] {
+        for number in numbers {
+            let start = format!("replaced {number} ");
+            let count = text.lines().filter(|line| line.starts_with(&start)).count();
+            assert!(count >= least, "{start}: {count}");
+        }
+    }
     for kind in 0..4 {
         let start = format!("cell 0 0 {kind} ");
         assert!(text.lines().any(|line| line.starts_with(&start)), "{start}");
@@ -645,4 +805,195 @@ fn the_modules_have_something_to_repack() {
     assert!(shorter >= 25, "{shorter}");
     assert!(as_long >= 15, "{as_long}");
     assert!(after >= 20, "{after}");
+}
+
+/// A case for replacing a sample, its result, and its result with an output that is long enough.
+struct Asked {
+    sample: u64,
+    room: usize,
+    frames: Vec<u8>,
+    module: Vec<u8>,
+    answer: Result<Replaced, Refusal>,
+    enough: Result<Replaced, Refusal>,
+    written: Vec<u8>,
+}
+
+fn replacements() -> Vec<Asked> {
+    let asked = replacement_cases().into_iter().map(|case| match case {
+        Case::Replacement {
+            sample,
+            room,
+            frames,
+            module,
+        } => {
+            let room = room.min(65_536) as usize;
+            let answer = replace_sample(&module, sample, &frames, &mut vec![0; room]);
+            let mut written = vec![0; module.len() + frames.len()];
+            let enough = replace_sample(&module, sample, &frames, &mut written);
+            written.truncate(enough.map_or(0, |replaced| replaced.length as usize));
+            Asked {
+                sample,
+                room,
+                frames,
+                module,
+                answer,
+                enough,
+                written,
+            }
+        }
+        other => panic!("{other:?}"),
+    });
+    asked.collect()
+}
+
+/// There are at least this many of the cases for which something holds.
+#[track_caller]
+fn at_least(least: usize, asked: &[Asked], holds: impl Fn(&Asked) -> bool) {
+    let count = asked.iter().filter(|asked| holds(asked)).count();
+    assert!(count >= least, "{count}");
+}
+
+#[test]
+fn the_replacements_have_every_kind_of_refusal() {
+    let asked = replacements();
+    let number = |asked: &Asked| asked.answer.err().map_or(0, |refusal| refusal.number);
+    let own = |asked: &Asked| check(&asked.module).is_err();
+    let odd = |asked: &Asked| asked.frames.len() % 2 == 1;
+    let missing = |asked: &Asked| {
+        let there = read(&asked.module).map_or(1, |read| read.info.samples);
+        !(1..=there).contains(&asked.sample)
+    };
+    // The module's own refusal comes before 18, 19 and 17; 18 before 19 and 17; 19 before 17.
+    for refusal in 2..=15 {
+        at_least(1, &asked, |asked| {
+            number(asked) == refusal && !missing(asked) && !odd(asked) && asked.room > 100
+        });
+        at_least(1, &asked, |asked| {
+            number(asked) == refusal && missing(asked) && odd(asked) && asked.room < 10
+        });
+    }
+    at_least(10, &asked, |asked| number(asked) == 18 && odd(asked));
+    at_least(10, &asked, |asked| number(asked) == 18 && !odd(asked));
+    at_least(10, &asked, |asked| number(asked) == 18 && asked.room == 0);
+    at_least(1, &asked, |asked| number(asked) == 18 && asked.room > 500);
+    at_least(5, &asked, |asked| number(asked) == 19 && asked.room < 10);
+    at_least(5, &asked, |asked| number(asked) == 19 && asked.room > 500);
+    at_least(20, &asked, |asked| number(asked) == 17);
+    // The numbers of the samples.
+    for sample in [0, 255, 256, 257, 65_537, (1 << 32) + 1, u64::MAX] {
+        at_least(2, &asked, |asked| asked.sample == sample && !own(asked));
+    }
+    for (past, refusal) in [(0, 0), (1, 18)] {
+        for samples in [1, 3, 255] {
+            at_least(1, &asked, |asked| {
+                let there = read(&asked.module).map_or(0, |read| read.info.samples);
+                let answer = asked.enough.err().map_or(0, |refusal| refusal.number);
+                there == samples && asked.sample == samples + past && answer == refusal
+            });
+        }
+    }
+    at_least(1, &asked, |asked| {
+        let samples = read(&asked.module).map(|read| read.info.samples);
+        samples == Ok(0) && asked.sample == 1 && number(asked) == 18
+    });
+}
+
+#[test]
+fn the_replacements_have_every_kind_of_result() {
+    let mut asked = replacements();
+    asked.retain(|asked| asked.enough.is_ok());
+    let needed = |asked: &Asked| asked.written.len();
+    let cleared = |asked: &Asked| asked.enough.map_or(0, |replaced| replaced.cleared);
+    assert!(asked.iter().all(|asked| check(&asked.written) == Ok(())));
+    // Outputs around the needed length.
+    at_least(15, &asked, |asked| asked.room == 0);
+    at_least(15, &asked, |asked| asked.room + 1 == needed(asked));
+    at_least(100, &asked, |asked| asked.room == needed(asked));
+    at_least(15, &asked, |asked| asked.room == needed(asked) + 1);
+    at_least(1, &asked, |asked| asked.room == 65_536);
+    // The result is shorter or longer than the module, as long, or the module itself; INST is before SMPL or after it.
+    let place = |asked: &Asked, name: &[u8; 4]| {
+        let chunks = read(&asked.module).expect("it is accepted").chunks;
+        chunks.iter().position(|chunk| chunk.name == *name)
+    };
+    for before in [true, false] {
+        let order = |asked: &Asked| (place(asked, b"INST") < place(asked, b"SMPL")) == before;
+        for some in [true, false] {
+            let of = |asked: &Asked| order(asked) && (cleared(asked) > 0) == some;
+            at_least(5, &asked, |asked| {
+                of(asked) && needed(asked) < asked.module.len()
+            });
+            at_least(5, &asked, |asked| {
+                of(asked) && needed(asked) > asked.module.len()
+            });
+        }
+        at_least(3, &asked, |asked| {
+            order(asked) && asked.written == asked.module
+        });
+        at_least(3, &asked, |asked| order(asked) && cleared(asked) > 1);
+    }
+    for count in [0, 1, 2, 3, 4, 255] {
+        at_least(1, &asked, |asked| cleared(asked) == count);
+    }
+    // The old width, and no or many new frames.
+    for frame_bytes in [1, 2, 4] {
+        let old = |asked: &Asked| {
+            let read = read(&asked.module).expect("it is accepted");
+            let old = *read.sample(asked.sample).expect("it exists");
+            (old.frame_bytes, old.frames)
+        };
+        at_least(20, &asked, |asked| old(asked).0 == frame_bytes);
+        at_least(4, &asked, |asked| old(asked) == (frame_bytes, 0));
+        at_least(4, &asked, |asked| {
+            old(asked).0 == frame_bytes && asked.frames.is_empty()
+        });
+    }
+    at_least(3, &asked, |asked| asked.frames.len() >= 512);
+}
+
+#[test]
+fn the_replacements_have_every_kind_of_loop() {
+    let mut asked = replacements();
+    asked.retain(|asked| asked.enough.is_ok());
+    // The loops of the instruments on the sample: the flags, the loop's length, its end, and the new frames.
+    let any = |asked: &Asked, holds: &dyn Fn(u64, u64, u64, u64) -> bool| {
+        let read = read(&asked.module).expect("it is accepted");
+        let count = asked.frames.len() as u64 / 2;
+        let mut on = read
+            .instruments
+            .iter()
+            .filter(|instrument| instrument.sample.value == asked.sample);
+        on.any(|on| {
+            let end = on.loop_start.value + on.loop_length.value;
+            holds(on.flags.value, on.loop_length.value, end, count)
+        })
+    };
+    for kind in [1, 2, 3] {
+        let looped = |flags, length| flags == kind && length > 0;
+        at_least(10, &asked, |asked| {
+            any(asked, &|flags, length, end, count| {
+                looped(flags, length) && end == count
+            })
+        });
+        at_least(10, &asked, |asked| {
+            any(asked, &|flags, length, end, count| {
+                looped(flags, length) && end == count + 1
+            })
+        });
+        at_least(3, &asked, |asked| {
+            any(asked, &|flags, length, end, count| {
+                flags == kind && length == 0 && end > count
+            })
+        });
+    }
+    at_least(5, &asked, |asked| {
+        any(asked, &|flags, _, end, _| {
+            flags == 0 && end > 0xFFFF_FFFF + 1
+        })
+    });
+    at_least(3, &asked, |asked| {
+        any(asked, &|flags, _, end, count| {
+            flags != 0 && end > 255 && end > count && end % 256 < count
+        })
+    });
 }

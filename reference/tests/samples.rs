@@ -2,14 +2,17 @@
 
 use reference::listing::listing;
 use reference::module::{check, read};
+use reference::records::{all_frames, instrument, sample, Sample};
 use reference::refusal::Refusal;
-use reference::tunes::files;
+use reference::replace::{replace_sample, Replaced};
+use reference::tunes::{files, frames_file};
 
 const SMALLEST: &[u8] = include_bytes!("../../samples/smallest.dbm");
 const CAROUSEL: &[u8] = include_bytes!("../../samples/carousel.dbm");
 const OLD: &[u8] = include_bytes!("../../samples/old.dbm");
 const SHORT_ORGAN: &[u8] = include_bytes!("../../samples/short-organ.dbm");
 const BROKEN_PATTERN: &[u8] = include_bytes!("../../samples/broken-pattern.dbm");
+const SHORT_ORGAN_FRAMES: &[u8] = include_bytes!("../../samples/short-organ.frames");
 
 #[test]
 fn the_files_are_those_that_are_made() {
@@ -26,6 +29,10 @@ fn the_files_are_those_that_are_made() {
         assert_eq!(name, made_name);
         assert!(bytes == made_bytes, "{name}");
     }
+    assert_eq!(
+        frames_file(),
+        ("short-organ.frames", SHORT_ORGAN_FRAMES.to_vec())
+    );
 }
 
 /// The table in the folder's README: file, contents, first line.
@@ -41,6 +48,10 @@ fn the_readme_has_the_first_line() {
         let first = text.lines().next().expect("a first line");
         assert!(row.ends_with(&format!(" | `{first}` |")), "{name}: {first}");
     }
+    let row = readme
+        .lines()
+        .find(|row| row.starts_with("| `short-organ.frames` | "));
+    assert!(row.is_some_and(|row| row.ends_with(" | 80 bytes |")));
 }
 
 #[test]
@@ -130,4 +141,55 @@ fn broken_pattern() {
         .collect();
     assert_eq!(different, [733]);
     assert_eq!((CAROUSEL[733], BROKEN_PATTERN[733]), (71, 72));
+}
+
+/// A wave of 16 frames, two and a half times. The high byte of a frame is the 8-bit one, and the low byte is 0.
+#[test]
+fn short_organ_frames() {
+    let wave = [
+        48, 36, 24, 12, 0, -12, -24, -36, -48, -36, -24, -12, 0, 12, 24, 36,
+    ]
+    .map(|frame: i16| 256 * frame);
+    let typed: Vec<i16> = wave.into_iter().cycle().take(40).collect();
+    let bytes: Vec<u8> = typed.into_iter().flat_map(i16::to_be_bytes).collect();
+    assert_eq!(SHORT_ORGAN_FRAMES, bytes);
+    assert_eq!(SHORT_ORGAN_FRAMES.len(), 80);
+    assert_eq!(SHORT_ORGAN_FRAMES[..8], [48, 0, 36, 0, 24, 0, 12, 0]);
+    assert_eq!(
+        SHORT_ORGAN_FRAMES[72..],
+        [0x00, 0, 0xF4, 0, 0xE8, 0, 0xDC, 0]
+    );
+}
+
+/// The short recording, put into the tune as 16 bits. The organ's loop of 16 + 48 does not fit 40 frames and is cleared.
+#[test]
+fn carousel_with_the_short_organ() {
+    let mut out = [0xAA; 1_170];
+    let replaced = replace_sample(CAROUSEL, 2, SHORT_ORGAN_FRAMES, &mut out);
+    let expected = Replaced {
+        length: 1_168,
+        cleared: 1,
+    };
+    assert_eq!(replaced, Ok(expected));
+    let (module, after) = out.split_at(1_168);
+    assert_eq!(after, [0xAA; 2]);
+    assert_eq!(check(module), Ok(()));
+    let short = Sample {
+        width: 16,
+        frames: 40,
+    };
+    assert_eq!(sample(module, 2), Ok(short));
+    let mut frames = [0; 80];
+    assert_eq!(all_frames(module, 2, &mut frames), Ok(80));
+    assert_eq!(frames, SHORT_ORGAN_FRAMES);
+    let organ = instrument(module, 2).unwrap();
+    assert_eq!(
+        (organ.loop_start, organ.loop_length, organ.flags),
+        (0, 0, 0)
+    );
+    assert_eq!((organ.sample, organ.panning), (2, -40));
+    assert_eq!(
+        listing(module),
+        "version 3.05\ninstruments 3\nsamples 3\nsongs 2\npatterns 3\ntracks 4\naccepted 1168\n"
+    );
 }

@@ -1,9 +1,11 @@
-//! Writes the sample modules into the folder that is the only argument.
+//! Writes the sample modules and the file of frames into the folder that is the only argument.
 
 #![forbid(unsafe_code)]
 
 use std::path::PathBuf;
 use std::process::ExitCode;
+
+use reference::tunes::{files, frames_file};
 
 fn main() -> ExitCode {
     let mut arguments = std::env::args_os().skip(1);
@@ -12,9 +14,9 @@ fn main() -> ExitCode {
         return ExitCode::from(2);
     };
     let folder = PathBuf::from(folder);
-    for (name, module) in reference::tunes::files() {
+    for (name, contents) in files().into_iter().chain([frames_file()]) {
         let path = folder.join(name);
-        if let Err(error) = std::fs::write(&path, module) {
+        if let Err(error) = std::fs::write(&path, contents) {
             eprintln!("{}: {error}", path.display());
             return ExitCode::FAILURE;
         }

@@ -56,7 +56,7 @@ pub(super) fn cases() -> Vec<Case> {
 }
 
 /// Every list has one block: a song of one entry, a looped instrument, a pattern of one empty row, a sample of two frames.
-fn small() -> Tune {
+pub(super) fn small() -> Tune {
     Tune {
         songs: vec![Song {
             name: vec![],

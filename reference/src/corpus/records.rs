@@ -165,7 +165,7 @@ const VOLUME: (i16, i16) = (0, 64);
 const PANNING: (i16, i16) = (-128, 128);
 
 /// Every list has several blocks.
-fn whole() -> Tune {
+pub(super) fn whole() -> Tune {
     Tune {
         version: 3,
         revision: 0x21,
