@@ -64,7 +64,7 @@ unfolding sizeOf
 song-sized patterns block r = r .size
 
 -- Instruments.
-loop-says : (flags length : ℕ) → (isLoop (loopKind flags length) ≡ true) ↔ ((1 ≤ length) × ((flags % 2 ≡ 1) ⊎ (flags / 2 % 2 ≡ 1)))
+pub loop-says : (flags length : ℕ) → (isLoop (loopKind flags length) ≡ true) ↔ ((1 ≤ length) × ((flags % 2 ≡ 1) ⊎ (flags / 2 % 2 ≡ 1)))
 loop-says flags length = go (eqb length 0) (bit0 flags) (bit1 flags) refl refl refl
   where
     go : (none first second : Bool) → eqb length 0 ≡ none → bit0 flags ≡ first → bit1 flags ≡ second

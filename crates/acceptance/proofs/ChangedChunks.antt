@@ -118,13 +118,13 @@ abbrev pub SameBut : ℕ → (List ℕ → List ℕ) → (List ℕ → List ℕ)
 SameBut identifier f g = (chunk : List ℕ) → IsChunk chunk → eqb (number32 chunk 0) identifier ≡ false → f chunk ≡ g chunk
 
 module _ (first last : List (List ℕ)) (part : List ℕ) {list : List (List ℕ)} (e : list ≡ first ++ (part ∷ last)) where
-  joined-length : length (joined list) ≡ length (joined first) + (length part + length (joined last))
+  pub joined-length : length (joined list) ≡ length (joined first) + (length part + length (joined last))
   joined-length =
       let rest = length-append part (joined last) in
       rw (e, joined-append first (part ∷ last)) (omega (arith, length-append (joined first) (part ++ joined last), rest))
 
 module _ {letters : List ℕ} (covers : Covered letters) {f g : List ℕ → List ℕ} (agree : SameBut (identifierOf covers) f g) where
-  others-same : {chunks : List (List ℕ)} → Every IsChunk chunks → (There chunks letters → ⊥) → map f chunks ≡ map g chunks
+  pub others-same : {chunks : List (List ℕ)} → Every IsChunk chunks → (There chunks letters → ⊥) → map f chunks ≡ map g chunks
   others-same none absent = refl
   others-same (also {x = chunk} {xs = chunks} c e) absent =
       let first = agree chunk c (ne-eqb _ _ (λ same. absent (chunk, among-front chunk chunks (chunk-named c covers .0 same)))) in

@@ -3,7 +3,7 @@
 -- sizes, and each block is at its place. A size is read only in bytes that every block of the kind has.
 use Prim.Native.Nat.{ℕ, zero, suc, _+_, _≤_, _<_}
 use mathlib.Core.Path.{_≡_, refl, sym, ap, _∙_}
-use mathlib.Core.List.{List, [], _∷_, _++_, append-assoc}
+use mathlib.Core.List.{List, [], _∷_, _++_, map, append-assoc}
 use native.Mathlib.Omega.{arith}
 use lib.ListN.{length, getD, take, drop, length-append, length-drop, take-append-drop}
 use lib.Seq.{length-take-le, take-at, take-append-add, take-append-le}
@@ -163,3 +163,15 @@ module _ (kind : BlockKind) {m : List ℕ} {P : ℕ → Type 0} {Q : List ℕ �
       let first = part-first block (joined blocks) p in
       let rest = blocks-places h blocks (part-rest block (joined blocks) p) e f in
       also (h at block first s x) (rw (sym (part-size kind first s)) at rest)
+
+-- What is made from the place of each block is what is made from each record, if the blocks are the bytes of the records.
+module _ (kind : BlockKind) {m : List ℕ} {A B : Type 0} (bytes : A → List ℕ) {Fits : A → Type 0}
+    (sized : (x : A) → Fits x → Sized kind (bytes x)) (made : ℕ → B) (is : A → B)
+    (each : (x : A) → Fits x → (at : ℕ) → PartAt m at (bytes x) → made at ≡ is x) where
+  pub places-made : (at : ℕ) {xs : List A} → Every Fits xs → PartAt m at (joined (map bytes xs))
+      → map made (placesFrom (sizeOf kind m) (length xs) at) ≡ map is xs
+  places-made at none p = refl
+  places-made at (also {x = x} {xs = xs} f e) p =
+      let here : PartAt m at (bytes x) = part-first (bytes x) (joined (map bytes xs)) p in
+      let rest = places-made (at + length (bytes x)) e (part-rest (bytes x) (joined (map bytes xs)) p) in
+      rw (part-size kind here (sized x f), each x f at here, rest)

@@ -1,6 +1,7 @@
 pub mod Spans
 pub mod Locating
 pub mod Ends
+pub mod Ahead
 pub mod Holding
 pub mod Cutting
 pub mod FillingChunks

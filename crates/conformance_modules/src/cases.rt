@@ -1,4 +1,6 @@
 // Running the cases, one after the other.
+use crate::replaced::Replacement;
+use crate::replaced::print_replaced_twice;
 use crate::shown::Asked;
 use crate::shown::print_records;
 use conformance_text::answers::print_outcome;
@@ -110,6 +112,30 @@ fn records_case(s: &[u8], out: &mut [u8], line: &mut [u8]) -> usize
     end
 }
 
+fn replacement_case(s: &[u8], out: &mut [u8], line: &mut [u8]) -> usize
+    ensures { λ r. ⌜ r ≤ length (now (s .entry)) ⌝ }
+{
+    if s.len() < 21 {
+        return 0;
+    }
+    let frames = four_bytes(s, 13);
+    if s.len() - 21 < frames {
+        return 0;
+    }
+    let start = 21 + frames;
+    let length = four_bytes(s, 17);
+    if s.len() - start < length {
+        return 0;
+    }
+    let end = start + length;
+    let a = Replacement {
+        sample: eight_bytes(s, 1),
+        room: four_bytes(s, 9),
+    };
+    print_replaced_twice(&s[start..end], a, &s[21..start], out, line);
+    end
+}
+
 fn case(s: &[u8], out: &mut [u8], line: &mut [u8]) -> usize
     ensures { λ r. ⌜ r ≤ length (now (s .entry)) ⌝ }
 {
@@ -122,6 +148,9 @@ fn case(s: &[u8], out: &mut [u8], line: &mut [u8]) -> usize
     }
     if kind == 5 {
         return records_case(s, out, line);
+    }
+    if kind == 6 {
+        return replacement_case(s, out, line);
     }
     0
 }

@@ -1,4 +1,5 @@
-// The C entry points of the module reader: the check of a module, every query about it, all its records, and its repacking. An answer
+// The C entry points of the module reader: the check of a module, every query about it, all its records, its repacking, and
+// the replacement of a sample. An answer
 // begins with the refusal's number (0: none) and place.
 use cells::Cell;
 use cells::note_numbers;
@@ -13,6 +14,7 @@ use refusal::Outcome;
 use refusal::Refusal;
 use refusal::Verdict;
 use refusal::outcome_of;
+use replace::ReplaceAnswer;
 use samples::FrameAnswer;
 use samples::FramesAnswer;
 use samples::SampleAnswer;
@@ -28,6 +30,7 @@ ghost use Rattle.packed_rows.specs.Answers.{cellNumbers};
 ghost use Rattle.packed_rows.specs.declared.CellAnswer.the-variants.{Found, Refused as CellRefused};
 ghost use Rattle.module.specs.Verdicts.{moduleVerdict};
 ghost use Rattle.repack.specs.Repacked.{repackAnswer, repackOutput};
+ghost use Rattle.replace.specs.Replaced.{replaceAnswer, replaceOutput};
 ghost use Rattle.samples.specs.Shown.{sampleAnswer, framesAnswer, frameAnswer, allFramesAnswer, allFramesOutput};
 ghost use Rattle.envelopes.specs.Shown.{countAnswer, envelopeAnswer};
 ghost use Rattle.envelopes.specs.declared.EnvelopeKind.the-variants.{Volume, Panning};
@@ -261,4 +264,18 @@ pub extern "C" fn dbm0_repack(m: &[u8], out: &mut [u8]) -> LengthAnswer
     ensures { λ r. ⌜ (r ≡ repackAnswer (now (m .entry)) (length (now (out .entry)))) × (now (out .exit) ≡ repackOutput (now (m .entry)) (now (out .entry))) ⌝ }
 {
     repack::repack(m, out)
+}
+
+// Replaces a sample of a module.
+#[no_mangle]
+pub extern "C" fn dbm0_replace_sample(
+    m: &[u8],
+    sample: usize,
+    new: &[u8],
+    out: &mut [u8],
+) -> ReplaceAnswer
+    ensures { λ r. ⌜ (r ≡ replaceAnswer (now (m .entry)) sample (now (new .entry)) (length (now (out .entry))))
+        × (now (out .exit) ≡ replaceOutput (now (m .entry)) sample (now (new .entry)) (now (out .entry))) ⌝ }
+{
+    replace::replace(m, sample, new, out)
 }

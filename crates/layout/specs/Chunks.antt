@@ -11,7 +11,7 @@ use Rattle.refusal.specs.declared.Reason.the-variants.{ChunkCut, Identifier, Re
 use Rattle.refusal.specs.declared.Refusal.{Refusal}
 use Rattle.refusal.specs.declared.Verdict.{Verdict}
 use Rattle.refusal.specs.declared.Verdict.the-variants.{Accepted, Refused}
-use Rattle.numbers.specs.Numbers.{byteAt, number16, number32}
+use Rattle.numbers.specs.Numbers.{byteAt, number16, number32, partOf, bytes32}
 
 -- M6: the identifiers of the covered chunks. An "identifier" is its four letters, as one number.
 abbrev pub nameIdentifier : ℕ
@@ -124,3 +124,12 @@ chunksFrom (suc steps) m before at =
 unfoldable pub chunks : List ℕ → Walk
 unfolding chunksFrom
 chunks m = chunksFrom (suc (length m)) m [] 8
+
+-- The chunks that were read; none if the walk was stopped.
+abbrev pub chunksRead : Walk → List ChunkHeader
+chunksRead (complete cs) = cs
+chunksRead (stopped r) = []
+
+-- M5: a chunk with other data: its identifier as it is stored, the length of the data, and the data.
+abbrev pub withContent : List ℕ → ChunkHeader → List ℕ → List ℕ
+withContent m c content = partOf m (c .at) 4 ++ (bytes32 (length content) ++ content)

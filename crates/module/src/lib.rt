@@ -13,7 +13,15 @@ ghost use mathlib.Core.Path.{_≡_};
 ghost use Rattle.refusal.specs.Numbers.{verdictNumbers, IsAnswer};
 ghost use Rattle.refusal.specs.Rules.{firstBroken};
 ghost use Rattle.layout.specs.Outlines.{outlineNumbers};
+ghost use Rattle.module.specs.Loops.{loopKind, isLoop};
 ghost use Rattle.module.specs.Verdicts.{contentRules, opened, moduleVerdict};
+
+// Whether an instrument with these flags and this loop length is looped.
+pub fn is_looped(flags: u16, length: u32) -> bool
+    ensures { λ r. ⌜ r ≡ isLoop (loopKind flags length) ⌝ }
+{
+    (length != 0) & ((flags % 2 == 1) | (flags / 2 % 2 == 1))
+}
 
 // Checks the content of the chunks: 11, then 12 and 13, then 14, then 15.
 fn check_content(m: &[u8], l: Layout) -> Verdict

@@ -1,4 +1,5 @@
 // The loop of an instrument: refusal 14.
+use crate::is_looped;
 use blocks::BlockKind;
 use blocks::block_at;
 use blocks::stored::instrument_flags;
@@ -13,14 +14,7 @@ use refusal::refuse;
 ghost use mathlib.Core.Path.{_≡_};
 ghost use Prim.Native.Nat.{_<_};
 ghost use Rattle.refusal.specs.Rules.{firstBroken};
-ghost use Rattle.module.specs.Loops.{loopKind, isLoop, framesOfSample, loopFits, instrumentLoopRules};
-
-// Whether an instrument with these flags and this loop length is looped.
-fn is_looped(flags: u16, length: u32) -> bool
-    ensures { λ r. ⌜ r ≡ isLoop (loopKind flags length) ⌝ }
-{
-    (length != 0) & ((flags % 2 == 1) | (flags / 2 % 2 == 1))
-}
+ghost use Rattle.module.specs.Loops.{framesOfSample, loopFits, instrumentLoopRules};
 
 // The number of frames of a sample; samples are counted from 1.
 fn frames(m: &[u8], chunk: ChunkSpan, sample: u16) -> u32

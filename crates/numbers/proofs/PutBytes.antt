@@ -3,6 +3,8 @@
 --     put-there   what the output holds if it is long enough
 --     put-length  its length is unchanged
 --     put-after   the output is written up to the place
+--     put-instead the output has as many other bytes there
+--     put-within  the place is within the front of the output
 --     put-both    two lists written one after the other are the same as both written at once
 --     put-each    so are several lists
 --     put-front   so are several lists from the front on
@@ -14,7 +16,7 @@ use mathlib.Core.Bool.{Bool, true, false}
 use native.Mathlib.Omega.{arith}
 use native.Mathlib.Nat.{add-zero}
 use lib.ListN.{length, take, drop, length-append, length-drop, take-append-drop}
-use lib.Seq.{take-at, drop-at, drop-drop, length-take-le, sets, sets-eq}
+use lib.Seq.{take-at, drop-at, take-append-le, drop-append-le, drop-drop, length-take-le, sets, sets-eq}
 use lib.Dec.{leb}
 use borrow.Author.Tests.{le-leb, lt-leb, leb-true, leb-false}
 use Rattle.numbers.specs.Numbers.{putAt}
@@ -59,6 +61,17 @@ module _ (front xs : List ℕ) (at : ℕ) (place : length front ≡ at) where
       put-there xs at (front ++ rest) inside
       ∙ ap (λ (l : List ℕ). l ++ (xs ++ drop (at + length xs) (front ++ rest))) (take-at front rest at place)
       ∙ ap (λ (l : List ℕ). front ++ (xs ++ l)) following
+
+  pub put-instead : (old rest : List ℕ) → length old ≡ length xs → putAt xs at (front ++ (old ++ rest)) ≡ front ++ (xs ++ rest)
+  put-instead old rest same =
+      put-after (old ++ rest) (omega (arith, length-append old rest)) ∙ ap (λ (l : List ℕ). front ++ (xs ++ l)) (drop-at old rest (length xs) same)
+
+module _ (xs : List ℕ) (at : ℕ) (front rest : List ℕ) (h : at + length xs ≤ length front) where
+  pub put-within : putAt xs at (front ++ rest) ≡ putAt xs at front ++ rest
+  put-within =
+      put-there xs at (front ++ rest) (omega (arith, length-append front rest))
+      ∙ rw (take-append-le at front rest (omega arith), drop-append-le (at + length xs) front rest h) (simp append-assoc)
+      ∙ ap (λ (l : List ℕ). l ++ rest) (sym (put-there xs at front h))
 
 module _ (xs ys : List ℕ) (at to : ℕ) (out : List ℕ) (e : at + length xs ≡ to) (h : to + length ys ≤ length out) where
   pub put-both : putAt ys to (putAt xs at out) ≡ putAt (xs ++ ys) at out

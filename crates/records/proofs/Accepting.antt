@@ -25,7 +25,7 @@ use Rattle.acceptance.proofs.PointsInUse.{value-fits}
 use Rattle.acceptance.proofs.OpenModules.{Opens, module-opens}
 use Rattle.records.specs.Records.{summaryRecord, recordAt, recordsOf, allRecords}
 use Rattle.records.specs.Steps.{recordsFrom, recordsOfThree, ValuesScale}
-use Rattle.records.proofs.Ahead.{every-any}
+use Rattle.acceptance.proofs.Ahead.{every-any}
 use Rattle.records.proofs.RecordLengths.{summary-length, record-length, equal-lengths, block-lengths}
 
 -- A panning envelope for which the rules hold.

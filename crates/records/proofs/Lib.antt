@@ -1,4 +1,3 @@
-pub mod Ahead
 pub mod StoredRecords
 pub mod Unsigned16
 pub mod Points

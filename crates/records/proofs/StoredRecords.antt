@@ -7,7 +7,8 @@ use native.Mathlib.Nat.{zero-add, suc-add}
 use lib.IntN.{ℤ}
 use Rattle.vocabulary.specs.Lists.{joined}
 use Rattle.numbers.specs.Numbers.{byteAt, Bytes, number16, number32, signed16, eachFrom, bytesFrom, bytes16, bytes32, unsigned16}
-use Rattle.numbers.proofs.Stored.{number16-stored, number32-stored}
+use Rattle.numbers.proofs.Stored.{number16-stored}
+use Rattle.numbers.proofs.Parts.{four-bytes}
 use Rattle.numbers.proofs.AllBytes.{number16-below}
 use Rattle.blocks.specs.StoredFields.{songLength, instrumentSample, instrumentVolume, instrumentRate, instrumentLoopStart}
 use Rattle.blocks.specs.StoredFields.{instrumentLoopLength, instrumentPanning, envelopeFlags, envelopeSections, envelopeFirstSustain}
@@ -38,18 +39,12 @@ module _ (m : List ℕ) (bytes : Bytes m) where
   pub two-bytes : (at : ℕ) → bytesFrom m at 2 ≡ bytes16 (number16 m at)
   two-bytes at = sym (number16-stored m bytes at)
 
-  four-bytes : (at : ℕ) → bytesFrom m at 4 ≡ bytes32 (number32 m at)
-  four-bytes at =
-      let third : at + 1 + 1 ≡ at + 2 = omega arith in
-      let fourth : at + 2 + 1 ≡ at + 3 = omega arith in
-      rw (third, fourth) (sym (number32-stored m bytes at))
-
   -- A number, and the bytes after it.
   pub next16 : (k at to : ℕ) → at + 2 ≡ to → bytesFrom m at (2 + k) ≡ bytes16 (number16 m at) ++ bytesFrom m to k
   next16 k at to e = bytes-split m 2 k at to e ∙ ap (λ (l : List ℕ). l ++ bytesFrom m to k) (two-bytes at)
 
   next32 : (k at to : ℕ) → at + 4 ≡ to → bytesFrom m at (4 + k) ≡ bytes32 (number32 m at) ++ bytesFrom m to k
-  next32 k at to e = bytes-split m 4 k at to e ∙ ap (λ (l : List ℕ). l ++ bytesFrom m to k) (four-bytes at)
+  next32 k at to e = bytes-split m 4 k at to e ∙ ap (λ (l : List ℕ). l ++ bytesFrom m to k) (four-bytes m bytes at)
 
   pub song-stored : (at : ℕ) → bytesFrom m at (46 + 2 * songLength m at) ≡ songRecord (shownSong m at) (playlistBytes m at)
   song-stored at =

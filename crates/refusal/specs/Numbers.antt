@@ -6,7 +6,7 @@ use lib.ListN.{replicate}
 use Rattle.refusal.specs.declared.Reason.{Reason}
 use Rattle.refusal.specs.declared.Reason.the-variants.{TooLong, NotAModule, Version, ChunkCut, Identifier, Repeated}
 use Rattle.refusal.specs.declared.Reason.the-variants.{BeforeInfo, Missing, FixedLength, InfoRange, Blocks, Reference}
-use Rattle.refusal.specs.declared.Reason.the-variants.{FieldRange, Loop, Stream, Sizes, Room, NotThere}
+use Rattle.refusal.specs.declared.Reason.the-variants.{FieldRange, Loop, Stream, Sizes, Room, NotThere, OddFrames}
 use Rattle.refusal.specs.declared.Refusal.{Refusal}
 use Rattle.refusal.specs.declared.Outcome.{Outcome}
 use Rattle.refusal.specs.declared.Verdict.{Verdict}
@@ -32,6 +32,7 @@ numberOf Stream = 15
 numberOf Sizes = 16
 numberOf Room = 17
 numberOf NotThere = 18
+numberOf OddFrames = 19
 
 -- A refusal: one number and one place. The "place" of document 01's table is a byte offset, a length or 0.
 abbrev pub refusal : Reason → ℕ → Refusal

@@ -42,6 +42,8 @@ pub enum Reason {
     Room,
     // No such song, entry, instrument, envelope, pattern, sample, frame, row or track.
     NotThere,
+    // The number of bytes of new frames is odd.
+    OddFrames,
 }
 
 // A refusal: document 01's number, and the place.
@@ -93,6 +95,7 @@ pub fn number(reason: Reason) -> u8
         Reason::Sizes => 16,
         Reason::Room => 17,
         Reason::NotThere => 18,
+        Reason::OddFrames => 19,
     }
 }
 

@@ -11,7 +11,7 @@ use Rattle.numbers.specs.Numbers.{partOf, bytes32}
 use Rattle.packed_rows.specs.Entries.{rowsFrom}
 use Rattle.packed_rows.specs.Stream.{readStream, entriesRead}
 use Rattle.packed_rows.specs.Packer.{packedStream}
-use Rattle.layout.specs.Chunks.{pattIdentifier, ChunkHeader, Walk, complete, stopped, chunks}
+use Rattle.layout.specs.Chunks.{pattIdentifier, ChunkHeader, chunks, chunksRead, withContent}
 use Rattle.layout.specs.declared.Layout.{Layout}
 use Rattle.layout.specs.declared.Outline.{Outline}
 use Rattle.layout.specs.declared.Outline.the-variants.{Found, Refused}
@@ -38,16 +38,11 @@ repackedPatterns m l = joined (map (repackedBlock m (l .tracks)) (patternBlocks 
 
 -- X2: the rewritten PATT: its identifier, the length of its data, and the data.
 abbrev pub repackedPatt : List ℕ → Layout → ChunkHeader → List ℕ
-repackedPatt m l c = partOf m (c .at) 4 ++ (bytes32 (length (repackedPatterns m l)) ++ repackedPatterns m l)
+repackedPatt m l c = withContent m c (repackedPatterns m l)
 
 -- X1: every other chunk, byte for byte: its header of 8 bytes, and its data.
 abbrev pub repackedChunkBytes : List ℕ → Layout → ChunkHeader → List ℕ
 repackedChunkBytes m l c = cond (eqb (c .identifier) pattIdentifier) (repackedPatt m l c) (partOf m (c .at) (8 + c .length))
-
--- The chunks that were read.
-abbrev pub chunksRead : Walk → List ChunkHeader
-chunksRead (complete cs) = cs
-chunksRead (stopped r) = []
 
 -- X1: the header, and the chunks in order.
 abbrev pub repackedModule : List ℕ → Layout → List ℕ

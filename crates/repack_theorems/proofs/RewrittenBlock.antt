@@ -1,12 +1,13 @@
 -- A pattern's block and its rewritten block, as lists of bytes. The rewritten block has the same number of rows, its stream is the
 -- packer's, it has the same rows of cells, it is no longer, and rewriting it again leaves it unchanged.
 use Prim.Native.Nat.{ℕ, _+_, _%_, _≤_}
-use mathlib.Core.Path.{_≡_, refl, sym, ap, _∙_}
-use mathlib.Core.List.{List, [], _∷_, _++_, map, append-assoc, append-nil}
+use mathlib.Core.Path.{_≡_, sym, ap, _∙_}
+use mathlib.Core.List.{List, [], _++_, map, append-assoc, append-nil}
 use native.Mathlib.Omega.{arith}
 use lib.ListN.{length, take, replicate, length-append}
 use lib.Seq.{take-at, length-take-le}
-use Rattle.vocabulary.specs.Lists.{joined, Every, none, also}
+use Rattle.vocabulary.specs.Lists.{joined, Every}
+use Rattle.vocabulary.proofs.MappedLists.{map-itself}
 use Rattle.refusal.specs.declared.Verdict.the-variants.{Accepted}
 use Rattle.numbers.specs.Numbers.{number16, number32, partOf, bytes32}
 use Rattle.packed_rows.specs.Packer.{packedStream}
@@ -15,7 +16,7 @@ use Rattle.blocks.specs.Sizes.{sizeOf, placesFrom}
 use Rattle.blocks.specs.declared.BlockKind.the-variants.{Pattern}
 use Rattle.module.specs.Streams.{streamVerdict}
 use Rattle.acceptance.proofs.Locating.{number16-front, number16-take, PartAt, number16-start, part-is, part-length, part-there, bytes32-number}
-use Rattle.acceptance.proofs.Cutting.{Sized, sized-least, part-first, part-rest, part-front, part-size}
+use Rattle.acceptance.proofs.Cutting.{Sized, sized-least, part-front, places-made}
 use Rattle.acceptance.proofs.BlockStreams.{stream-same}
 use Rattle.repack.specs.Repacked.{packed, repackedStream, repackedBlock}
 use Rattle.repack.proofs.Rewritten.{block-size, block-shorter}
@@ -46,11 +47,9 @@ rewritten-same {m} {block} {at} tracks p s =
 pub blocks-rewritten : {m : List ℕ} (tracks at : ℕ) (blocks : List (List ℕ)) → PartAt m at (joined blocks)
     → Every (Sized Pattern) blocks
     → map (repackedBlock m tracks) (placesFrom (sizeOf Pattern m) (length blocks) at) ≡ map (rewrittenBlock tracks) blocks
-blocks-rewritten tracks at [] p none = refl
-blocks-rewritten {m} tracks at (block ∷ blocks) p (also s e) =
-    let first : PartAt m at block = part-first block (joined blocks) p in
-    let ih = blocks-rewritten tracks (at + length block) blocks (part-rest block (joined blocks) p) e in
-    rw (part-size Pattern first s, rewritten-same tracks first s, ih)
+blocks-rewritten {m} tracks at blocks p e =
+    places-made Pattern {m = m} (λ block. block) {Fits = Sized Pattern} (λ block s. s) (repackedBlock m tracks) (rewrittenBlock tracks)
+    (λ block s place part. rewritten-same tracks part s) at e (rw (map-itself blocks) p)
 
 -- A block that is as long as its bytes say, and whose stream the check accepts.
 pub record SoundBlock (tracks : ℕ) (block : List ℕ) : Type 0 where

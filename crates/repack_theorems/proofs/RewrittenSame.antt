@@ -4,16 +4,15 @@ use mathlib.Core.Path.{_≡_, refl, sym, ap, _∙_}
 use mathlib.Core.Logic.{_↔_}
 use mathlib.Core.List.{List, [], _∷_, _++_, map, append-assoc}
 use native.Mathlib.Omega.{arith}
-use native.Mathlib.Nat.{add-assoc, add-zero}
+use native.Mathlib.Nat.{add-assoc}
 use lib.ListN.{length, getD, take, drop, replicate, length-append, length-drop, length-replicate, take-append-drop}
-use lib.Seq.{take-at, drop-at, drop-drop, take-all, length-take-le}
+use lib.Seq.{take-at, drop-at, take-all, length-take-le}
 use Rattle.vocabulary.specs.Lists.{joined, Every, none, also}
 use Rattle.vocabulary.proofs.EveryOne.{every-at, every-of}
 use Rattle.vocabulary.proofs.MappedLists.{map-stays}
 use Rattle.vocabulary.proofs.JoinedLists.{joined-shorter}
-use Rattle.numbers.specs.Numbers.{Bytes, number16, number32, partOf, bytes32}
-use Rattle.numbers.proofs.AllBytes.{bytes-drop, bytes32-bytes}
-use Rattle.numbers.proofs.Stored.{bytes32-again}
+use Rattle.numbers.specs.Numbers.{Bytes, number32, partOf, bytes32}
+use Rattle.numbers.proofs.Parts.{parts-of, four-again}
 use Rattle.layout.specs.Chunks.{pattIdentifier}
 use Rattle.layout.specs.declared.Layout.{Layout}
 use Rattle.layout.specs.declared.Outline.the-variants.{Found}
@@ -27,9 +26,8 @@ use Rattle.queries.specs.declared.Block.{Block}
 use Rattle.queries.specs.declared.Found.the-variants.{At}
 use Rattle.queries.proofs.Numbering.{counted-found}
 use Rattle.acceptance.specs.Rules.{Covered}
-use Rattle.acceptance.proofs.Locating.{PartAt, number32-at, number32-drop, part-length, part-there, part-is, part-of-part}
+use Rattle.acceptance.proofs.Locating.{PartAt, number32-at, part-length, part-there, part-is, part-of-part}
 use Rattle.acceptance.proofs.Cutting.{Sized, sized-least, block-there}
-use Rattle.acceptance.proofs.Identifiers.{number-letters}
 use Rattle.acceptance.proofs.ChangedChunks.{split-alone}
 use Rattle.acceptance.proofs.ChangedData.{withData, data-same-but}
 use Rattle.repack.specs.Repacked.{packed, repackedStream, repackedPatterns, repackedModule}
@@ -41,22 +39,6 @@ use Rattle.repack_theorems.proofs.RewrittenBlock.{filler-part, rewritte
 use Rattle.repack_theorems.proofs.RewrittenModule.{header, patt, pattThere, all-of, blocks, blocks-in, blocks-bytes, sound-blocks}
 use Rattle.repack_theorems.proofs.RewrittenModule.{rules, data-is, patt-bytes, patt-changed, patt-below, patt-size, repacked-size}
 use Rattle.repack_theorems.proofs.RewrittenModule.{repacked-bytes}
-
--- The 4 bytes at a place are those of their number.
-number-small : (xs : List ℕ) (at : ℕ) → Bytes xs → number32 xs at < 0x100000000
-unfolding number32 number16
-number-small xs at below = omega (arith, below at, below (at + 1), below (at + 2), below (at + 2 + 1))
-
-four-again : (xs : List ℕ) (at : ℕ) → Bytes xs → at + 4 ≤ length xs → bytes32 (number32 xs at) ≡ partOf xs at 4
-four-again xs at below fits =
-    let k : ℕ = number32 xs at in
-    let same : number32 (drop at xs) 0 ≡ number32 (bytes32 k) 0 = number32-drop at xs 0 ∙ ap (number32 xs) (add-zero at) ∙ sym (bytes32-again k) in
-    sym (number-letters (drop at xs) (bytes32 k) (omega (arith, length-drop at xs)) (λ i h. bytes-drop at xs below i)
-    (record { size = refl; below = λ i h. bytes32-bytes k (number-small xs at below) i }) same)
-
--- A list as a part and what follows it.
-parts-of : (xs : List ℕ) (a b : ℕ) → drop a xs ≡ partOf xs a b ++ drop (a + b) xs
-parts-of xs a b = sym (take-append-drop b (drop a xs)) ∙ ap (λ (rest : List ℕ). partOf xs a b ++ rest) (drop-drop b a xs)
 
 -- A pattern in the module and in its block.
 module _ {m block : List ℕ} {at : ℕ} (tracks : ℕ) (p : PartAt m at block) (s : Sized PatternBlock block) where
@@ -120,7 +102,7 @@ module _ (tracks : ℕ) (block : List ℕ) (b : SoundBlock tracks block) (below 
       let long : length stream ≡ number32 block 2 = ap length (sym (h .stream)) ∙ part-length block 6 (number32 block 2) (omega (arith, size)) in
       let parts : packed stream ≡ partOf block 2 4 ++ (partOf block 6 (number32 block 2) ++ fillerOf block 0) =
       ap (λ (n : ℕ). bytes32 n ++ (stream ++ replicate (n % 2) 0)) long
-      ∙ ap (λ (four : List ℕ). four ++ (stream ++ replicate (number32 block 2 % 2) 0)) (four-again block 2 below (omega (arith, size)))
+      ∙ ap (λ (four : List ℕ). four ++ (stream ++ replicate (number32 block 2 % 2) 0)) (four-again block below 2 (omega (arith, size)))
       ∙ ap (λ (rest : List ℕ). partOf block 2 4 ++ (rest ++ replicate (number32 block 2 % 2) 0)) (sym (h .stream))
       ∙ ap (λ (rest : List ℕ). partOf block 2 4 ++ (partOf block 6 (number32 block 2) ++ rest)) (sym (h .filler)) in
       ap (λ (rest : List ℕ). take 2 block ++ rest) parts ∙ sym block-parts
@@ -202,7 +184,7 @@ module _ (m : List ℕ) (bytes : Bytes m) (l : Layout) (o : opened m ≡ Found l
       let following : drop 8 chunk ≡ joined (blocks m bytes l o) = data-after in
       let number : length (repackedPatterns m l) ≡ number32 chunk 4 = omega (arith, ap length e, size, patt-bytes m bytes l o .size) in
       let four : bytes32 (length (repackedPatterns m l)) ≡ partOf chunk 4 4 =
-      ap bytes32 number ∙ four-again chunk 4 (patt-below m bytes l o) (omega (arith, size)) in
+      ap bytes32 number ∙ four-again chunk (patt-below m bytes l o) 4 (omega (arith, size)) in
       ap (λ (content : List ℕ). take 4 chunk ++ (bytes32 (length (repackedPatterns m l)) ++ content)) (e ∙ sym following)
       ∙ ap (λ (bytes : List ℕ). take 4 chunk ++ (bytes ++ drop 8 chunk)) four
       ∙ ap (λ (rest : List ℕ). take 4 chunk ++ rest) (sym (parts-of chunk 4 4))

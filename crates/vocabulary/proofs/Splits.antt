@@ -43,7 +43,7 @@ module _ {A : Type 0} where
       (s .one, record { before = s .front; after = s .back; splits = s .splits }, s .oneIs)
 
   -- Two splits of one list: at the same element, or one after the other.
-  two-splits : (before others : List A) {after rest : List A} {one two : A} → before ++ (one ∷ after) ≡ others ++ (two ∷ rest)
+  pub two-splits : (before others : List A) {after rest : List A} {one two : A} → before ++ (one ∷ after) ≡ others ++ (two ∷ rest)
       → (one ≡ two) ⊎ (((between : List A) × (after ≡ between ++ (two ∷ rest))) ⊎ ((between : List A) × (rest ≡ between ++ (one ∷ after))))
   two-splits [] [] e = inl (cc)
   two-splits [] (x ∷ others) e = inr (inl (others, cc))

@@ -6,7 +6,7 @@ use Rattle.records.specs.Records.{summaryRecord}
 use Rattle.records.specs.Steps.{recordsOfThree}
 use Rattle.records.proofs.RecordLengths.{summary-length}
 use Rattle.records.proofs.Accepting.{all-room, all-written}
-use Rattle.records.proofs.Ahead.{first-fits, second-inside, second-part, second-small, third-inside, third-part, third-small, three-written}
+use Rattle.acceptance.proofs.Ahead.{first-fits, second-inside, second-part, second-small, third-inside, third-part, third-small, three-written}
 use Rattle.records.proofs.write_all.Statement.{statement}
 use Rattle.records.proofs.write_all.Tie as tie
 

@@ -4,8 +4,8 @@ use Rattle.blocks.specs.Sizes.{sizeOf}
 use Rattle.blocks.proofs.Leading.{Leading, leading-first, leading-turn}
 use Rattle.records.specs.Records.{recordAt}
 use Rattle.records.specs.Steps.{ValuesScale}
-use Rattle.records.proofs.Ahead.{AheadBlocks, blocks-first, blocks-length, blocks-inside, blocks-each, blocks-small}
-use Rattle.records.proofs.Ahead.{blocks-part, blocks-turn, blocks-last}
+use Rattle.acceptance.proofs.Ahead.{AheadBlocks, blocks-first, blocks-length, blocks-inside, blocks-each, blocks-small}
+use Rattle.acceptance.proofs.Ahead.{blocks-part, blocks-turn, blocks-last}
 use Rattle.records.proofs.write_blocks.Statement.{statement}
 use Rattle.records.proofs.write_blocks.Tie as tie
 

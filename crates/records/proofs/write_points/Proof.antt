@@ -4,7 +4,7 @@ use mathlib.Core.Path.{_≡_, refl}
 use native.Mathlib.Omega.{arith}
 use Rattle.blocks.specs.Sizes.{placesFrom}
 use Rattle.records.specs.Steps.{pointRecord}
-use Rattle.records.proofs.Ahead.{AheadBlocks, every-any, blocks-first, blocks-length, blocks-inside, blocks-small, blocks-part, blocks-turn}
+use Rattle.acceptance.proofs.Ahead.{AheadBlocks, every-any, blocks-first, blocks-length, blocks-inside, blocks-small, blocks-part, blocks-turn}
 use Rattle.records.proofs.WritingRecords.{points-size, points-last}
 use Rattle.records.proofs.write_points.Statement.{statement}
 use Rattle.records.proofs.write_points.Tie as tie

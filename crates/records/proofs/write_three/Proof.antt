@@ -2,7 +2,7 @@ use borrow.Author.Needs.{needs}
 use native.Mathlib.Omega.{arith}
 use mathlib.Core.Path.{_∙_}
 use Rattle.records.specs.Records.{recordsOf}
-use Rattle.records.proofs.Ahead.{first-fits, second-inside, second-part, second-small, third-inside, third-part, third-small, three-written}
+use Rattle.acceptance.proofs.Ahead.{first-fits, second-inside, second-part, second-small, third-inside, third-part, third-small, three-written}
 use Rattle.records.proofs.write_three.Statement.{statement}
 use Rattle.records.proofs.write_three.Tie as tie
 

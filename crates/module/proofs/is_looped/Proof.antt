@@ -1,6 +1,6 @@
 use Rattle.module.proofs.Tests.{looped-test}
-use Rattle.module.proofs.loops.is_looped.Statement.{statement}
-use Rattle.module.proofs.loops.is_looped.Tie as tie
+use Rattle.module.proofs.is_looped.Statement.{statement}
+use Rattle.module.proofs.is_looped.Tie as tie
 
 returns : tie.Need-returns
 returns c = looped-test (c .args .flags) (c .args .length)

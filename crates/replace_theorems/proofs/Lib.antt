@@ -1,0 +1,10 @@
+pub mod ReplacedBlocks
+pub mod ReplacedModule
+pub mod ReplacedWellFormed
+pub mod NewFrames
+pub mod ShownLoops
+pub mod OwnFrames
+pub mod ClearedRecords
+pub mod ResultLength
+pub mod AnyModule
+pub mod Theorems
