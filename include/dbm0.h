@@ -1,7 +1,7 @@
 /*
  * dbm0.h: DBM0 modules. The check of a whole module, every query about one
  * (version, name, INFO, songs, instruments, envelopes, patterns, samples), all
- * its records by one call, and its repacking.
+ * its records by one call, its repacking, and replacing one of its samples.
  *
  * Link with libdbm0.a (x86-64, System V calling convention). The calls of
  * dbm0_pattern.h, which this header includes, are in libpattern.a. A program
@@ -16,15 +16,17 @@
  * What holds for every call:
  *
  * - Every pair of a pointer and a length is memory that the caller lends for
- *   the time of the call. A pointer may be NULL if its length is 0. The
- *   module and an output must not overlap. Only an output is written.
+ *   the time of the call. A pointer may be NULL if its length is 0. Inputs
+ *   may overlap each other, even be the same memory. An output must not
+ *   overlap an input. Only an output is written.
  * - The bytes and numbers can have any value: a call terminates for every
  *   input, reads nothing outside it, and no sum or product wraps.
  * - Every answer begins with number (0: no refusal) and place. On a refusal
  *   everything else in the answer is 0, and no byte of an output changes.
  * - A query gives the first of these that applies: the module's own refusal (1
  *   to 15, as dbm0_check_module), then 18, then 17 if an output is lent.
- *   Instruments, samples and tracks are counted from 1, everything else from 0.
+ *   dbm0_replace_sample gives more refusals between 18 and 17. Instruments,
+ *   samples and tracks are counted from 1, everything else from 0.
  * - A call that fills an output gives the needed length as the place of 17:
  *   call it with an output of length 0 to get the length. If nothing is needed
  *   (an empty playlist, a pattern of 0 rows, a sample of 0 frames), that call
@@ -54,7 +56,7 @@ extern "C" {
 #endif
 
 /* The version of this interface: major x 10000 + minor x 100 + patch. */
-#define DBM0_VERSION 10301
+#define DBM0_VERSION 10400
 
 /* The most bytes that a module may have. */
 #define DBM0_MODULE_MOST_BYTES 16777216
@@ -66,7 +68,8 @@ extern "C" {
  * The refusals of a module. Places are offsets in the module.
  */
 
-/* More than DBM0_MODULE_MOST_BYTES bytes. The place is 0. */
+/* More than DBM0_MODULE_MOST_BYTES bytes; of dbm0_replace_sample also its
+ * result. The place is 0. */
 #define DBM0_MODULE_TOO_LONG 1
 
 /* Under 8 bytes, or the first four are not "DBM0". The place is 0. */
@@ -122,6 +125,9 @@ extern "C" {
 /* There is no such song, entry, instrument, envelope, pattern, sample, frame,
  * row or track. The place is 0. */
 #define DBM0_MODULE_NOT_THERE 18
+
+/* The number of bytes of new frames is odd. The place is 0. */
+#define DBM0_MODULE_ODD_FRAMES 19
 
 /*
  * number: 0 if there is no refusal, else one of the numbers above.
@@ -489,6 +495,47 @@ dbm0_length_answer dbm0_records(
  */
 dbm0_length_answer dbm0_repack(
     const uint8_t *module, size_t module_length,
+    uint8_t *out, size_t out_length);
+
+/* length: how many bytes were written. cleared: the number of instruments whose
+ * loop was cleared. Both are 0 on a refusal. */
+typedef struct {
+    uint64_t number;
+    uint64_t place;
+    uint64_t length;
+    uint64_t cleared;
+} dbm0_replace_answer;
+
+/*
+ * Writes the module with a sample, counted from 1, replaced by 16-bit frames:
+ * frames_length bytes, two for each frame, signed and big-endian, as SMPL
+ * stores them. No bytes are a sample of 0 frames. Header and chunks are written
+ * in order and byte for byte, except:
+ *
+ * - The sample's block has flags 2, the number of the new frames, and the
+ *   frames. SMPL's own length is that of its new data.
+ * - Each instrument of that sample that is looped, and whose loop start + loop
+ *   length is more than the new number of frames, gets loop start, loop length
+ *   and flags 0. A loop that ends with the last frame fits. An instrument that
+ *   is not looped does not change.
+ *
+ * The output is a module that is accepted. All queries about it answer the
+ * same, except for the replaced sample, the cleared loops and the places of
+ * frames. A 16-bit sample that is replaced by its own frames gives the module
+ * itself.
+ *
+ * An output of module_length + frames_length bytes is always enough. The module
+ * and the frames may overlap, so that the frames can be a part of the module.
+ *
+ * Refusals, the first that applies: the module's own; 18 (no such sample); 19
+ * (frames_length is odd); 1 (the output would have more than
+ * DBM0_MODULE_MOST_BYTES bytes); 17. Time besides the check: grows with the
+ * samples before it and the instruments, and one copy of the output. No memory
+ * is needed.
+ */
+dbm0_replace_answer dbm0_replace_sample(
+    const uint8_t *module, size_t module_length, size_t sample,
+    const uint8_t *frames, size_t frames_length,
     uint8_t *out, size_t out_length);
 
 #ifdef __cplusplus

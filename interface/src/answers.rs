@@ -36,8 +36,8 @@ pub struct ModuleAnswer {
     pub place: u64,
 }
 
-/// The answer of a query that returns a record. The record is all zeros on a refusal. In C each record has its own struct, with number and
-/// place before its fields. No field needs a larger alignment than these two, so the layout is the same.
+/// The answer of a query that returns a record, and of `replace_sample`. The record is all zeros on a refusal. In C each record has its own
+/// struct, with number and place before its fields. No field needs a larger alignment than these two, so the layout is the same.
 #[repr(C)]
 #[derive(Clone, Copy, Debug, PartialEq, Eq)]
 pub struct RecordAnswer<Record> {
@@ -136,4 +136,12 @@ pub struct Sample {
 pub struct Frames {
     pub offset: u64,
     pub length: u64,
+}
+
+/// The length of the module that was written, and the number of instruments whose loop was cleared.
+#[repr(C)]
+#[derive(Clone, Copy, Debug, Default, PartialEq, Eq)]
+pub struct Replaced {
+    pub length: u64,
+    pub cleared: u64,
 }

@@ -4,8 +4,8 @@
 mod answers;
 
 pub use answers::{
-    Answer, Cell, Envelope, Frames, Info, Instrument, ModuleAnswer, Name, RecordAnswer, Sample,
-    Song, Version,
+    Answer, Cell, Envelope, Frames, Info, Instrument, ModuleAnswer, Name, RecordAnswer, Replaced,
+    Sample, Song, Version,
 };
 
 /// The version of the library's interface: `DBM0_VERSION` of include/dbm0.h.
@@ -110,6 +110,15 @@ extern "C" {
     ) -> Answer;
     fn dbm0_records(module: *const u8, length: usize, out: *mut u8, out_length: usize) -> Answer;
     fn dbm0_repack(module: *const u8, length: usize, out: *mut u8, out_length: usize) -> Answer;
+    fn dbm0_replace_sample(
+        module: *const u8,
+        length: usize,
+        sample: usize,
+        frames: *const u8,
+        frames_length: usize,
+        out: *mut u8,
+        out_length: usize,
+    ) -> RecordAnswer<Replaced>;
 }
 
 // All calls below are sound for the same reasons. Each pointer and length come from a slice that lives through the call, and an output is a
@@ -248,4 +257,90 @@ pub fn repack_null(out: &mut [u8]) -> Answer {
     let (start, length) = (out.as_mut_ptr(), out.len());
     // The header allows NULL if the length is 0.
     unsafe { dbm0_repack(std::ptr::null(), 0, start, length) }
+}
+
+pub fn replace_sample(
+    module: &[u8],
+    sample: usize,
+    frames: &[u8],
+    out: &mut [u8],
+) -> RecordAnswer<Replaced> {
+    let (start, length) = (out.as_mut_ptr(), out.len());
+    unsafe {
+        dbm0_replace_sample(
+            module.as_ptr(),
+            module.len(),
+            sample,
+            frames.as_ptr(),
+            frames.len(),
+            start,
+            length,
+        )
+    }
+}
+
+/// Replaces a sample in an output of no bytes at NULL.
+pub fn replace_sample_into_null(
+    module: &[u8],
+    sample: usize,
+    frames: &[u8],
+) -> RecordAnswer<Replaced> {
+    let (first_frame, frames_length) = (frames.as_ptr(), frames.len());
+    let null = std::ptr::null_mut();
+    // The header allows NULL if the length is 0.
+    unsafe {
+        dbm0_replace_sample(
+            module.as_ptr(),
+            module.len(),
+            sample,
+            first_frame,
+            frames_length,
+            null,
+            0,
+        )
+    }
+}
+
+/// Replaces a sample by frames of no bytes at NULL.
+pub fn replace_sample_by_null(
+    module: &[u8],
+    sample: usize,
+    out: &mut [u8],
+) -> RecordAnswer<Replaced> {
+    let (start, length) = (out.as_mut_ptr(), out.len());
+    let null = std::ptr::null();
+    // The header allows NULL if the length is 0.
+    unsafe {
+        dbm0_replace_sample(
+            module.as_ptr(),
+            module.len(),
+            sample,
+            null,
+            0,
+            start,
+            length,
+        )
+    }
+}
+
+/// Replaces a sample of a module of no bytes at NULL.
+pub fn replace_sample_of_null(
+    sample: usize,
+    frames: &[u8],
+    out: &mut [u8],
+) -> RecordAnswer<Replaced> {
+    let (start, length) = (out.as_mut_ptr(), out.len());
+    let (first_frame, frames_length) = (frames.as_ptr(), frames.len());
+    // The header allows NULL if the length is 0.
+    unsafe {
+        dbm0_replace_sample(
+            std::ptr::null(),
+            0,
+            sample,
+            first_frame,
+            frames_length,
+            start,
+            length,
+        )
+    }
 }

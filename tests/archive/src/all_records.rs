@@ -3,7 +3,7 @@
 use crate::compare::answer;
 use crate::queries::{self, Queries};
 use crate::writing::Call;
-use interface::Envelope;
+use interface::{Answer, Envelope};
 use reference::all_records::write;
 use reference::generate::Random;
 
@@ -22,6 +22,7 @@ pub const RECORDS: Call<'static> = Call {
 fn shown_one_by_one(
     call: &Call,
     module: &[u8],
+    _: Answer,
     written: &[u8],
     _: &mut Random,
 ) -> Result<(), String> {

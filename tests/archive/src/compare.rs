@@ -92,8 +92,8 @@ pub fn module_answer(result: Result<(), Refusal>) -> ModuleAnswer {
     }
 }
 
-/// Compares a case of the corpus. The archives have no call for a case that shows a cell. For records only the module is checked;
-/// `records::all` compares the queries.
+/// Compares a case of the corpus. The archives have no call for a case that shows a cell. For records and for samples to replace only the
+/// module is checked; `records::all` compares the queries, and replacing.rs compares the replaced samples.
 pub fn case(library: Library, case: &Case) -> Result<(), String> {
     let output_length = |room: u32| room.min(MOST_ROOM) as usize;
     match case {
@@ -111,7 +111,9 @@ pub fn case(library: Library, case: &Case) -> Result<(), String> {
             cells,
         } => self::cells(library, cells, *rows, *tracks, output_length(*room)),
         Case::Shown(_) => Ok(()),
-        Case::Module { module, .. } | Case::Records { module, .. } => self::module(library, module),
+        Case::Module { module, .. }
+        | Case::Records { module, .. }
+        | Case::Replacement { module, .. } => self::module(library, module),
     }
 }
 
@@ -186,11 +188,11 @@ pub fn module(library: Library, module: &[u8]) -> Result<(), String> {
 }
 
 /// Two calls with outputs of the same length return the same answer, and leave the same bytes in the output and on both sides of it.
-pub fn same_output(
+pub fn same_output<A: PartialEq + Debug>(
     call: &str,
     room: usize,
-    is: impl FnOnce(&mut GuardedOutput) -> Answer,
-    expected: impl FnOnce(&mut GuardedOutput) -> Answer,
+    is: impl FnOnce(&mut GuardedOutput) -> A,
+    expected: impl FnOnce(&mut GuardedOutput) -> A,
 ) -> Result<(), String> {
     let (mut is_output, mut expected_output) = (GuardedOutput::new(room), GuardedOutput::new(room));
     same_answer(call, is(&mut is_output), expected(&mut expected_output))?;

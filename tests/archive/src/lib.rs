@@ -9,6 +9,7 @@ pub mod modules;
 pub mod queries;
 pub mod records;
 pub mod repacking;
+pub mod replacing;
 pub mod seeds;
 pub mod stand_ins;
 pub mod writing;

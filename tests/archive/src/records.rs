@@ -19,7 +19,7 @@ pub fn all(library: &Queries, module: &[u8], random: &mut Random) -> Result<(), 
         library: &REFERENCE,
         module,
     };
-    compare(is, expected, random)?;
+    compare(is, expected, &Skipped::default(), random)?;
     if module != stored {
         return Err(with_module("the module is changed".to_string(), &stored));
     }
@@ -33,15 +33,34 @@ pub fn show_the_same(
     expected: &[u8],
     random: &mut Random,
 ) -> Result<(), String> {
-    let of = |module| Side { library, module };
-    compare(of(module), of(expected), random)
+    show_the_same_except(library, module, expected, &Skipped::default(), random)
 }
 
-fn compare(is: Side, expected: Side, random: &mut Random) -> Result<(), String> {
+/// The sample and the instruments that are not compared.
+#[derive(Default)]
+pub struct Skipped {
+    pub sample: Option<usize>,
+    pub instruments: Vec<usize>,
+}
+
+/// The same without the queries about one sample and some instruments.
+pub fn show_the_same_except(
+    library: &Queries,
+    module: &[u8],
+    expected: &[u8],
+    skipped: &Skipped,
+    random: &mut Random,
+) -> Result<(), String> {
+    let of = |module| Side { library, module };
+    compare(of(module), of(expected), skipped, random)
+}
+
+fn compare(is: Side, expected: Side, skipped: &Skipped, random: &mut Random) -> Result<(), String> {
     let module = expected.module;
     let mut comparison = QueryComparison {
         is,
         expected,
+        skipped,
         info: (expected.library.info)(module).record,
         many: if module.len() <= 2_000 { 16 } else { 3 },
         random,
@@ -59,6 +78,7 @@ struct Side<'a> {
 struct QueryComparison<'a> {
     is: Side<'a>,
     expected: Side<'a>,
+    skipped: &'a Skipped,
     /// All zeros if the module is refused.
     info: Info,
     /// If there are more items than this, only some are compared.
@@ -97,6 +117,9 @@ impl QueryComparison<'_> {
 
     fn instruments(&mut self) -> Result<(), String> {
         for instrument in self.numbers(1, usize::from(self.info.instruments)) {
+            if self.skipped.instruments.contains(&instrument) {
+                continue;
+            }
             self.same("instrument", &[instrument], |of| {
                 (of.library.instrument)(of.module, instrument)
             })?;
@@ -151,6 +174,9 @@ impl QueryComparison<'_> {
     fn samples(&mut self) -> Result<(), String> {
         let Side { library, module } = self.expected;
         for sample in self.numbers(1, usize::from(self.info.samples)) {
+            if self.skipped.sample == Some(sample) {
+                continue;
+            }
             self.same("sample", &[sample], |of| {
                 (of.library.sample)(of.module, sample)
             })?;

@@ -23,6 +23,7 @@ pub const REPACK: Call<'static> = Call {
 fn keeps_answers(
     call: &Call,
     module: &[u8],
+    _: Answer,
     repacked: &[u8],
     random: &mut Random,
 ) -> Result<(), String> {

@@ -4,19 +4,23 @@
 use crate::compare::GuardedOutput;
 use crate::modules;
 use crate::queries;
-use crate::writing::{Call, Fill};
-use interface::{Answer, OUTPUT_TOO_SHORT};
+use crate::writing::{Call, Fill, WritingAnswer};
+use interface::OUTPUT_TOO_SHORT;
 use reference::generate::Random;
 
-impl Call<'_> {
+impl<A: WritingAnswer> Call<'_, A> {
     /// The number of modules for which the stand-in differs from the reference, and the number for which `check_properties` fails.
-    pub fn differences(&self, library: Fill) -> (usize, usize) {
+    pub fn differences(&self, library: Fill<A>) -> (usize, usize) {
+        self.differences_on(&modules::some(200), library)
+    }
+
+    /// The same for these modules.
+    pub fn differences_on(&self, modules: &[Vec<u8>], library: Fill<A>) -> (usize, usize) {
         let call = Call {
             library,
             queries: &queries::REFERENCE,
             ..*self
         };
-        let modules = modules::some(200);
         let count = |fails: &dyn Fn(&[u8], &mut Random) -> bool| {
             let fails = |module: &&Vec<u8>| fails(module, &mut Random::new(1));
             modules.iter().filter(fails).count()
@@ -29,7 +33,7 @@ impl Call<'_> {
 
     /// The stand-in is detected by comparison with the reference, and also without it.
     #[track_caller]
-    pub fn notices(&self, library: Fill) {
+    pub fn notices(&self, library: Fill<A>) {
         let (differ, alone) = self.differences(library);
         assert!(differ >= 3 && alone >= 3, "only {differ} and {alone}");
     }
@@ -37,7 +41,7 @@ impl Call<'_> {
     /// The stand-in is detected only by comparison with the reference. Its output has the required properties but is not the expected one,
     /// or is wrong for an output of another length.
     #[track_caller]
-    pub fn notices_beside_the_reference(&self, library: Fill) {
+    pub fn notices_beside_the_reference(&self, library: Fill<A>) {
         let (differ, alone) = self.differences(library);
         assert!(differ >= 3, "only {differ}");
         assert_eq!(alone, 0);
@@ -47,24 +51,25 @@ impl Call<'_> {
     pub fn changed<'s>(
         &'s self,
         change: impl Fn(&[u8], &mut [u8]) + 's,
-    ) -> impl Fn(&[u8], &mut GuardedOutput) -> Answer + 's {
-        let call: &Call<'s> = self;
+    ) -> impl Fn(&[u8], &mut GuardedOutput) -> A + 's {
+        let call: &Call<'s, A> = self;
         move |module, output| {
-            let answer = (call.reference)(module, output);
+            let is = (call.reference)(module, output);
+            let answer = is.answer();
             if answer.number == 0 {
                 change(module, &mut output.slice()[..answer.length as usize]);
             }
-            answer
+            is
         }
     }
 
     /// The bytes of the reference with another answer. The answer is made from the correct one, the length of the output, and the length
     /// that is always enough for the module.
-    fn answering<'s>(
+    pub fn answering<'s>(
         &'s self,
-        change: impl Fn(Answer, usize, usize) -> Answer + 's,
-    ) -> impl Fn(&[u8], &mut GuardedOutput) -> Answer + 's {
-        let call: &Call<'s> = self;
+        change: impl Fn(A, usize, usize) -> A + 's,
+    ) -> impl Fn(&[u8], &mut GuardedOutput) -> A + 's {
+        let call: &Call<'s, A> = self;
         move |module, output| {
             let answer = (call.reference)(module, output);
             change(answer, output.slice().len(), (call.enough)(module.len()))
@@ -80,14 +85,14 @@ impl Call<'_> {
         self.notices(&|module, output| {
             (self.reference)(module, &mut GuardedOutput::new(output.slice().len()))
         });
-        self.notices(&|_, _| Answer::refused(2, 0));
+        self.notices(&|_, _| A::refused(2, 0));
     }
 
     /// The length that is always enough instead of the needed one: in the answer, and as a required length with either place.
     pub fn notices_another_needed_length(&self) {
         self.notices_beside_the_reference(&self.answering(|answer, _, enough| {
-            match answer.number == OUTPUT_TOO_SHORT {
-                true => Answer::refused(OUTPUT_TOO_SHORT, enough),
+            match answer.answer().number == OUTPUT_TOO_SHORT {
+                true => A::refused(OUTPUT_TOO_SHORT, enough),
                 false => answer,
             }
         }));
@@ -95,11 +100,11 @@ impl Call<'_> {
             self.notices_beside_the_reference(&|module, output| {
                 let enough = (self.enough)(module.len());
                 let needed = (self.reference)(module, &mut GuardedOutput::new(0));
-                if needed.number != OUTPUT_TOO_SHORT || output.slice().len() >= enough {
+                if needed.answer().number != OUTPUT_TOO_SHORT || output.slice().len() >= enough {
                     return (self.reference)(module, output);
                 }
                 match wrong_place {
-                    true => Answer::refused(OUTPUT_TOO_SHORT, enough),
+                    true => A::refused(OUTPUT_TOO_SHORT, enough),
                     false => needed,
                 }
             });
@@ -115,7 +120,7 @@ impl Call<'_> {
                     true => output.slice().last_mut(),
                     false => output.slice().first_mut(),
                 };
-                if let Some(byte) = byte.filter(|_| on(answer.number)) {
+                if let Some(byte) = byte.filter(|_| on(answer.answer().number)) {
                     *byte ^= 1;
                 }
                 answer
@@ -133,16 +138,17 @@ impl Call<'_> {
     pub fn notices_bytes_that_should_stay(&self) {
         self.notices(&|module, output| {
             let answer = (self.reference)(module, output);
-            if let Some(byte) = output.slice().get_mut(answer.length as usize) {
-                *byte ^= u8::from(answer.number == 0);
+            let length = answer.answer().length as usize;
+            if let Some(byte) = output.slice().get_mut(length) {
+                *byte ^= u8::from(answer.answer().number == 0);
             }
             answer
         });
-        let before: Fill = &|module, output| {
+        let before: Fill<A> = &|module, output| {
             output.bytes[63] ^= 1;
             (self.reference)(module, output)
         };
-        let after: Fill = &|module, output| {
+        let after: Fill<A> = &|module, output| {
             let end = 64 + output.slice().len();
             output.bytes[end] ^= 1;
             (self.reference)(module, output)
@@ -158,9 +164,9 @@ impl Call<'_> {
         for most in [1, 60, usize::MAX] {
             self.notices_beside_the_reference(&self.answering(move |answer, room, enough| {
                 let needed = enough.min(most);
-                match matches!(answer.number, 0 | OUTPUT_TOO_SHORT) || room >= needed {
+                match matches!(answer.answer().number, 0 | OUTPUT_TOO_SHORT) || room >= needed {
                     true => answer,
-                    false => Answer::refused(OUTPUT_TOO_SHORT, needed),
+                    false => A::refused(OUTPUT_TOO_SHORT, needed),
                 }
             }));
         }
@@ -168,9 +174,9 @@ impl Call<'_> {
 
     /// The returned length is wrong.
     pub fn notices_another_length(&self) {
-        self.notices(&self.answering(|answer, _, _| Answer {
-            length: answer.length - u64::from(answer.number == 0),
-            ..answer
+        self.notices(&self.answering(|is, _, _| {
+            let answer = is.answer();
+            is.with_length(answer.length - u64::from(answer.number == 0))
         }));
     }
 }

@@ -1,13 +1,15 @@
 //! Tests for a call that computes bytes from a module and writes them into an output. Each such call is one `Call` (repacking.rs,
-//! all_records.rs). The code here is common to all of them.
+//! all_records.rs, replacing.rs). The code here is common to all of them.
 //!
 //! A call is compared with the reference, with outputs of every length around the needed length and around the module's length. After a
 //! refusal the output is unchanged. After success only the written bytes differ. The memory on both sides of the output and the module are
 //! never changed. `tests_of_a_call!` defines the tests that each call has, on typed, generated and damaged modules.
 //! `tests_of_the_comparison!` in stand_ins.rs defines tests which show that a wrong library is detected. A new call needs a `Call`, two
-//! modules with their expected bytes, these two macros, and tests of its own for its special cases.
+//! modules with their expected bytes, these two macros, and tests of its own for its special cases. A call with further arguments has a
+//! `Call` for each choice of them, and uses `tests_on_modules!` with a function that chooses.
 
 use std::collections::BTreeSet;
+use std::fmt::Debug;
 
 use crate::compare::{rooms, same_answer, same_bytes, same_output, with_module, GuardedOutput};
 use crate::large::{filled_up, MOST};
@@ -17,27 +19,55 @@ use interface::{Answer, ModuleAnswer, OUTPUT_TOO_SHORT};
 use reference::draft::Tune;
 use reference::generate::Random;
 
-/// A call: it computes bytes from a module and writes them into the output. Further arguments are captured by the closure.
-pub type Fill<'a> = &'a dyn Fn(&[u8], &mut GuardedOutput) -> Answer;
+/// The answer of a call that fills an output: number, place and length, and for some calls more.
+pub trait WritingAnswer: Copy + Debug + PartialEq {
+    /// The number, the place and the length.
+    fn answer(self) -> Answer;
 
-/// The required properties of the bytes that a call writes, independent of the reference. The arguments are the module and the bytes.
-pub type Properties<'a> = &'a dyn Fn(&Call, &[u8], &[u8], &mut Random) -> Result<(), String>;
+    /// The same answer with another length.
+    fn with_length(self, length: u64) -> Self;
+
+    /// A refusal. Everything else in the answer is 0.
+    fn refused(number: u64, place: usize) -> Self;
+}
+
+impl WritingAnswer for Answer {
+    fn answer(self) -> Answer {
+        self
+    }
+
+    fn with_length(self, length: u64) -> Answer {
+        Answer { length, ..self }
+    }
+
+    fn refused(number: u64, place: usize) -> Answer {
+        Answer::refused(number, place)
+    }
+}
+
+/// A call: it computes bytes from a module and writes them into the output. Further arguments are captured by the closure.
+pub type Fill<'a, A = Answer> = &'a dyn Fn(&[u8], &mut GuardedOutput) -> A;
+
+/// The required properties of the bytes that a call writes, independent of the reference. The arguments are the module, the answer, and the
+/// bytes.
+pub type Properties<'a, A = Answer> =
+    &'a dyn Fn(&Call<A>, &[u8], A, &[u8], &mut Random) -> Result<(), String>;
 
 #[derive(Clone, Copy)]
-pub struct Call<'a> {
+pub struct Call<'a, A = Answer> {
     pub name: &'a str,
     /// The call of the library under comparison, and the queries of that library.
-    pub library: Fill<'a>,
+    pub library: Fill<'a, A>,
     pub queries: &'a Queries,
-    pub reference: Fill<'a>,
+    pub reference: Fill<'a, A>,
     /// The length of an output that is always enough for a module of this length.
     pub enough: &'a dyn Fn(usize) -> usize,
     /// The answer of a query that refuses exactly the modules that the call refuses.
     pub refusal: &'a dyn Fn(&Queries, &[u8]) -> ModuleAnswer,
-    pub properties: Properties<'a>,
+    pub properties: Properties<'a, A>,
 }
 
-impl Call<'_> {
+impl<A: WritingAnswer> Call<'_, A> {
     /// All checks of a call for one module. The error message has the difference, and the whole module if it is short.
     pub fn agrees(&self, module: &[u8], random: &mut Random) -> Result<(), String> {
         self.compare(module, random)?;
@@ -46,7 +76,7 @@ impl Call<'_> {
 
     /// The library agrees with the reference for outputs of several lengths.
     pub fn compare(&self, module: &[u8], random: &mut Random) -> Result<(), String> {
-        let needed = match (self.reference)(module, &mut GuardedOutput::new(0)) {
+        let needed = match (self.reference)(module, &mut GuardedOutput::new(0)).answer() {
             answer if answer.number == OUTPUT_TOO_SHORT => answer.place as usize,
             _ => module.len(),
         };
@@ -66,7 +96,7 @@ impl Call<'_> {
         &self,
         module: &[u8],
         room: usize,
-        expected: impl FnOnce(&mut GuardedOutput) -> Answer,
+        expected: impl FnOnce(&mut GuardedOutput) -> A,
     ) -> Result<(), String> {
         let stored = module.to_vec();
         let is = |output: &mut GuardedOutput| (self.library)(module, output);
@@ -85,41 +115,45 @@ impl Call<'_> {
             .written(module)
             .map_err(|what| with_module(what, module))?;
         match written {
-            Some(bytes) => (self.properties)(self, module, &bytes, random)
+            Some((answer, bytes)) => (self.properties)(self, module, answer, &bytes, random)
                 .map_err(|what| with_module(what, module)),
             None => Ok(()),
         }
     }
 
-    /// The written bytes, if the module is not refused.
-    fn written(&self, module: &[u8]) -> Result<Option<Vec<u8>>, String> {
+    /// The answer and the written bytes, if the call is not refused.
+    fn written(&self, module: &[u8]) -> Result<Option<(A, Vec<u8>)>, String> {
         let room = (self.enough)(module.len());
         let (mut output, mut expected_output) =
             (GuardedOutput::new(room), GuardedOutput::new(room));
-        let is = (self.library)(module, &mut output);
+        let answer = (self.library)(module, &mut output);
+        let length = answer.answer().length;
         let refusal = (self.refusal)(self.queries, module);
-        let expected = match refusal.number {
-            0 => Answer::written(is.length as usize),
-            number => Answer::refused(number, refusal.place as usize),
-        };
-        same_answer(self.name, is, expected)?;
-        let Some(bytes) = output.slice().get(..is.length as usize) else {
-            return Err(format!("{} bytes are written, of {room}", is.length));
+        match refusal.number {
+            0 => same_answer(self.name, answer.answer(), Answer::written(length as usize))?,
+            number => same_answer(
+                self.name,
+                answer,
+                A::refused(number, refusal.place as usize),
+            )?,
+        }
+        let Some(bytes) = output.slice().get(..length as usize) else {
+            return Err(format!("{length} bytes are written, of {room}"));
         };
         let bytes = bytes.to_vec();
         expected_output.slice()[..bytes.len()].copy_from_slice(&bytes);
         same_bytes(self.name, &output, &expected_output)?;
-        Ok((refusal.number == 0).then_some(bytes))
+        Ok((refusal.number == 0).then_some((answer, bytes)))
     }
 
-    /// The library writes these bytes, into outputs around their length and into one that is always enough. A shorter output is refused
-    /// with 17. The reference does the same.
+    /// The library answers this and writes these bytes, into outputs around their length and into one that is always enough. A shorter
+    /// output is refused with 17. The reference does the same.
     #[track_caller]
-    pub fn gives(&self, module: &[u8], bytes: &[u8]) {
+    pub fn answers(&self, module: &[u8], answer: A, bytes: &[u8]) {
         let (needed, enough) = (bytes.len(), (self.enough)(module.len()));
         let rooms = [0, needed - 1, needed, needed + 1, enough, enough + 1];
         for room in BTreeSet::from(rooms) {
-            self.check_output(module, room, |output| writing(bytes, output))
+            self.check_output(module, room, |output| answering(answer, bytes, output))
                 .unwrap();
         }
         for room in BTreeSet::from([needed + 3, enough]) {
@@ -132,9 +166,17 @@ impl Call<'_> {
     pub fn refuses(&self, module: &[u8], number: u64, place: usize) {
         let length = module.len();
         for room in [0, 1, length - 1, length, (self.enough)(length)] {
-            self.check_output(module, room, |_| Answer::refused(number, place))
+            self.check_output(module, room, |_| A::refused(number, place))
                 .unwrap();
         }
+    }
+}
+
+impl Call<'_> {
+    /// The library writes these bytes, as in `answers`.
+    #[track_caller]
+    pub fn gives(&self, module: &[u8], bytes: &[u8]) {
+        self.answers(module, Answer::written(bytes.len()), bytes);
     }
 
     /// For a module of the maximum length these bytes are written. With one more byte it is refused with 1, and nothing is written.
@@ -156,12 +198,17 @@ impl Call<'_> {
 
 /// A correct call whose result is these bytes.
 pub fn writing(bytes: &[u8], output: &mut GuardedOutput) -> Answer {
+    answering(Answer::written(bytes.len()), bytes, output)
+}
+
+/// The same with this answer on success.
+pub fn answering<A: WritingAnswer>(answer: A, bytes: &[u8], output: &mut GuardedOutput) -> A {
     match output.slice().get_mut(..bytes.len()) {
         Some(out) => {
             out.copy_from_slice(bytes);
-            Answer::written(bytes.len())
+            answer
         }
-        None => Answer::refused(OUTPUT_TOO_SHORT, bytes.len()),
+        None => A::refused(OUTPUT_TOO_SHORT, bytes.len()),
     }
 }
 
@@ -243,41 +290,59 @@ macro_rules! tests_of_a_call {
             $crate::writing::memory_of_no_bytes(module, bytes.len(), $into_null, $of_null);
         }
 
+        $crate::tests_on_modules! {
+            agrees: agrees,
+            cut: $cut,
+            valid modules: $valid,
+            damaged modules: $damaged,
+        }
+    };
+}
+
+/// The tests of a call on modules of the corpus, sample files, and generated and damaged modules. `agrees` tests the call on one module.
+#[macro_export]
+macro_rules! tests_on_modules {
+    (
+        agrees: $agrees:expr,
+        cut: $cut:expr,
+        valid modules: $valid:expr,
+        damaged modules: $damaged:expr,
+    ) => {
         #[test]
         fn the_corpus() {
-            $crate::modules::corpus(agrees, 1901);
+            $crate::modules::corpus($agrees, 1901);
         }
 
         #[test]
         fn the_sample_files() {
-            $crate::modules::sample_files(agrees);
+            $crate::modules::sample_files($agrees);
         }
 
         #[test]
         fn valid_modules() {
-            $crate::modules::valid(agrees, $valid, 3);
+            $crate::modules::valid($agrees, $valid, 3);
         }
 
         #[test]
         fn damaged_modules() {
-            $crate::modules::damaged_parts(agrees, $damaged, 3);
+            $crate::modules::damaged_parts($agrees, $damaged, 3);
         }
 
         #[test]
         fn damaged_bytes() {
-            $crate::modules::damaged_bytes(agrees, $damaged, 3);
+            $crate::modules::damaged_bytes($agrees, $damaged, 3);
         }
 
         #[test]
         fn every_cut() {
             for module in $cut {
-                $crate::modules::every_cut(&module, agrees);
+                $crate::modules::every_cut(&module, $agrees);
             }
         }
 
         #[test]
         fn any_bytes() {
-            $crate::modules::any_bytes(agrees, 10_000);
+            $crate::modules::any_bytes($agrees, 10_000);
         }
     };
 }
