@@ -7,6 +7,7 @@ use crate::fault::Fault;
 use crate::help::{self, Topic};
 use crate::input::STANDARD_STREAM;
 use crate::names;
+use crate::replace::Replacement;
 
 /// A parsed command.
 pub enum Command {
@@ -25,6 +26,10 @@ pub enum Command {
     },
     Repack {
         from: OsString,
+        to: OsString,
+    },
+    Replace {
+        replacement: Replacement,
         to: OsString,
     },
 }
@@ -50,6 +55,7 @@ pub fn parse(arguments: Vec<OsString>) -> Result<Command, Fault> {
         Some("report") => report(rest),
         Some("cells") => cells(rest),
         Some("repack") => repack(rest),
+        Some("replace") => replace(rest),
         _ => Err(Topic::Program.fault(format!("there is no command '{}'", names::file(&command)))),
     }
 }
@@ -154,10 +160,16 @@ fn check(arguments: Vec<OsString>) -> Result<Command, Fault> {
     if files.is_empty() {
         return Err(Topic::Check.fault("no file is named"));
     }
-    if files.iter().filter(|file| *file == STANDARD_STREAM).count() > 1 {
-        return Err(Topic::Check.fault("standard input can be read only once"));
-    }
+    read_once(Topic::Check, &files)?;
     Ok(Command::Check { files })
+}
+
+/// At most one of the files is standard input.
+fn read_once(topic: Topic, files: &[OsString]) -> Result<(), Fault> {
+    match files.iter().filter(|file| *file == STANDARD_STREAM).count() {
+        0 | 1 => Ok(()),
+        _ => Err(topic.fault("standard input can be read only once")),
+    }
 }
 
 fn report(arguments: Vec<OsString>) -> Result<Command, Fault> {
@@ -208,6 +220,32 @@ fn repack(arguments: Vec<OsString>) -> Result<Command, Fault> {
     }
 }
 
+fn replace(arguments: Vec<OsString>) -> Result<Command, Fault> {
+    let topic = Topic::Replace;
+    let parsed = ParsedArguments::new(topic, arguments, &[])?;
+    if parsed.help {
+        return Ok(Command::Help(topic));
+    }
+    let Ok([from, sample, frames, to]) = <[OsString; 4]>::try_from(parsed.positional) else {
+        return Err(topic.fault("replace takes IN, the number of a sample, FRAMES and OUT"));
+    };
+    let Some(sample) = sample.to_str().and_then(digits) else {
+        return Err(topic.fault(format!(
+            "'{}' is not the number of a sample",
+            names::file(&sample)
+        )));
+    };
+    let inputs = [from, frames];
+    read_once(topic, &inputs)?;
+    let [from, frames] = inputs;
+    let replacement = Replacement {
+        from,
+        sample: sample.to_string(),
+        frames,
+    };
+    Ok(Command::Replace { replacement, to })
+}
+
 /// The value of an option that is a range: `4`, `4-7` or `4-`.
 fn range(parsed: &ParsedArguments, option: &str) -> Result<Option<Range>, Fault> {
     let Some(value) = parsed.value(option) else {
@@ -239,8 +277,11 @@ fn read_range(text: &str) -> Option<Range> {
 
 /// A number in decimal digits. Nothing else is accepted.
 fn number(text: &str) -> Option<usize> {
-    match text.bytes().all(|byte| byte.is_ascii_digit()) {
-        true => text.parse().ok(),
-        false => None,
-    }
+    digits(text)?.parse().ok()
+}
+
+/// The text if it is a number in decimal digits, of any length.
+fn digits(text: &str) -> Option<&str> {
+    let is_number = !text.is_empty() && text.bytes().all(|byte| byte.is_ascii_digit());
+    is_number.then_some(text)
 }

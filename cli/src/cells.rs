@@ -6,8 +6,7 @@ use std::fmt::Write;
 use crate::args::Range;
 use crate::fault::{Fault, EXIT_OK};
 use crate::input;
-use crate::library::{self, Cell, Info, Refusal, NOTE_KEY_OFF, NOTE_NONE, NOTE_PITCH};
-use crate::names;
+use crate::library::{self, Cell, Info, Refusal, NOTE_KEY_OFF, NOTE_NONE, NOTE_PITCH, NOT_THERE};
 use crate::output::Output;
 
 /// The part of the module to print: one pattern, and all or some of its rows and tracks.
@@ -20,16 +19,13 @@ pub struct Selection {
 /// The number of bytes in a cell.
 const FIELDS: usize = 6;
 
-/// The refusal number for an item that does not exist.
-const NOT_THERE: u64 = 18;
-
 pub fn run(file: &OsStr, selection: &Selection, out: &mut Output) -> Result<u8, Fault> {
     let module = input::read(file)?;
     let refused = |refusal| Fault::refused(file, &module, refusal);
     let info = library::info(&module).map_err(refused)?;
     let rows =
         library::rows(&module, selection.pattern).map_err(|refusal| match refusal.number {
-            NOT_THERE => not_there(file, refusal, no_pattern(selection.pattern, info)),
+            NOT_THERE => Fault::argument(file, refusal, &no_pattern(selection.pattern, info)),
             _ => refused(refusal),
         })?;
     let bounds = Bounds::new(selection, usize::from(rows), usize::from(info.tracks));
@@ -98,17 +94,10 @@ fn check_cells_exist(
                 return Err(Fault::refused(file, module, refusal));
             }
             let words = no_cell(pattern, row, track, rows, info);
-            return Err(not_there(file, refusal, words));
+            return Err(Fault::argument(file, refusal, &words));
         }
     }
     Ok(())
-}
-
-/// An item that does not exist is an error in the arguments, since the module itself is accepted.
-fn not_there(file: &OsStr, refusal: Refusal, words: String) -> Fault {
-    let Refusal { number, place } = refusal;
-    let file = names::file(file);
-    Fault::failed(format!("{file}: refused {number} at {place}: {words}"))
 }
 
 fn no_pattern(pattern: usize, info: Info) -> String {

@@ -40,6 +40,7 @@ fn meaning(number: u64) -> &'static str {
         16 => "rows or tracks are out of range",
         17 => "the output is too short",
         18 => "there is no such thing in the module",
+        19 => "the new frames have an odd number of bytes",
         _ => "the library refuses it",
     }
 }

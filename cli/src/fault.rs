@@ -42,6 +42,13 @@ impl Fault {
         }
     }
 
+    /// The library accepts the module but refuses an argument, such as the number of an item that does not exist.
+    pub fn argument(file: &OsStr, refusal: Refusal, words: &str) -> Fault {
+        let Refusal { number, place } = refusal;
+        let file = names::file(file);
+        Fault::failed(format!("{file}: refused {number} at {place}: {words}"))
+    }
+
     /// Prints the line. An error while printing is ignored, since there is no other place to report it.
     pub fn print(&self) {
         let _ = writeln!(io::stderr(), "{}", self.line);

@@ -10,6 +10,7 @@ pub enum Topic {
     Report,
     Cells,
     Repack,
+    Replace,
 }
 
 /// The topic of a command.
@@ -19,6 +20,7 @@ pub fn topic(command: &str) -> Option<Topic> {
         "report" => Some(Topic::Report),
         "cells" => Some(Topic::Cells),
         "repack" => Some(Topic::Repack),
+        "replace" => Some(Topic::Replace),
         _ => None,
     }
 }
@@ -32,6 +34,7 @@ impl Topic {
             Topic::Report => "dbm0 report --help",
             Topic::Cells => "dbm0 cells --help",
             Topic::Repack => "dbm0 repack --help",
+            Topic::Replace => "dbm0 replace --help",
         };
         Fault::usage(what, help)
     }
@@ -43,20 +46,22 @@ impl Topic {
             Topic::Report => REPORT,
             Topic::Cells => CELLS,
             Topic::Repack => REPACK,
+            Topic::Replace => REPLACE,
         }
     }
 }
 
 const PROGRAM: &str = "\
-dbm0: checks, reports, shows and repacks DBM0 modules of up to 16777216 bytes
+dbm0: checks, reports, shows and repacks DBM0 modules of up to 16777216 bytes, and replaces their samples
 
 usage:
-  dbm0 check FILE..             say of each file whether it is accepted, or why it is refused
-  dbm0 report [--json] FILE     print what goes into the register
-  dbm0 cells FILE PATTERN       print a pattern as trackers show it
-  dbm0 repack IN OUT            write the module with its patterns packed as short as they can be
-  dbm0 COMMAND --help           say more about a command
-  dbm0 --version                print the version
+  dbm0 check FILE..                  say of each file whether it is accepted, or why it is refused
+  dbm0 report [--json] FILE          print what goes into the register
+  dbm0 cells FILE PATTERN            print a pattern as trackers show it
+  dbm0 repack IN OUT                 write the module with its patterns packed as short as they can be
+  dbm0 replace IN SAMPLE FRAMES OUT  write the module with a sample replaced by 16-bit frames
+  dbm0 COMMAND --help                say more about a command
+  dbm0 --version                     print the version
 
 A FILE of - is standard input, an OUT of - is standard output; a file that is named so is ./-.
 Behind -- all arguments are files, also those that begin with -.
@@ -130,4 +135,22 @@ exit status:
   0  OUT is written
   1  the module is refused and nothing is written; the line that check prints is on standard error
   2  IN cannot be read, OUT cannot be written (it is as it was), or the arguments are wrong
+";
+
+const REPLACE: &str = "\
+usage: dbm0 replace IN SAMPLE FRAMES OUT
+
+Writes the module of IN to OUT with one sample, counted from 1, replaced by the frames in the file FRAMES: signed 16-bit
+numbers, big-endian, and nothing else. The loop of an instrument that ends after the last new frame is cleared: loop
+start, loop length and flags become 0. All else stays byte for byte. Prints what changed:
+  OUT: sample 2: 64 frames of 8 bits became 40 of 16 bits; 1 loop cleared
+  OUT: instrument 2 \"organ\": forward loop 16 + 48 cleared
+The files may be the same. OUT is written as a whole or not at all: the old file is unchanged until the new one is
+complete. - is standard input for IN or FRAMES, and standard output for OUT.
+
+exit status:
+  0  OUT is written
+  1  the module is refused and nothing is written; the line that check prints is on standard error
+  2  there is no such sample, FRAMES has an odd number of bytes, the result would be too long, IN or FRAMES cannot be
+     read, OUT cannot be written (it is as it was), or the arguments are wrong
 ";

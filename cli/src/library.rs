@@ -1,11 +1,17 @@
 //! The proved library, libdbm0.a and libpattern.a, in the form that the program uses: a call returns a record or a refusal, and outputs are
 //! allocated as long as needed. The calls themselves are in the package `interface`.
 
-use interface::{Answer, RecordAnswer, OUTPUT_TOO_SHORT};
+use interface::{Answer, RecordAnswer, Replaced, OUTPUT_TOO_SHORT};
 
 pub use interface::{
     Cell, Info, LIBRARY_VERSION, MOST_BYTES, NOTE_KEY_OFF, NOTE_NONE, NOTE_PITCH, PATTERN_VERSION,
 };
+
+/// The refusal numbers that an accepted module can have: a result that is longer than a module can be, an item that does not exist, and new
+/// frames with an odd number of bytes.
+pub const TOO_LONG: u64 = 1;
+pub const NOT_THERE: u64 = 18;
+pub const ODD_FRAMES: u64 = 19;
 
 /// The number of a refusal, and its place.
 #[derive(Clone, Copy, Debug, PartialEq, Eq)]
@@ -58,6 +64,16 @@ pub fn records(module: &[u8]) -> Result<Vec<u8>, Refusal> {
 /// The repacked module. It is never longer than the module, so the first output is long enough.
 pub fn repack(module: &[u8]) -> Result<Vec<u8>, Refusal> {
     fill_output(module.len(), |out| interface::repack(module, out))
+}
+
+/// The module with a sample, counted from 1, replaced by 16-bit frames, and the number of loops that are cleared. At most the frames are
+/// added to the module, and the result is not longer than a module can be, so the output is long enough.
+pub fn replace(module: &[u8], sample: usize, frames: &[u8]) -> Result<(Vec<u8>, u64), Refusal> {
+    let mut out = vec![0; MOST_BYTES.min(module.len() + frames.len())];
+    let answer = interface::replace_sample(module, sample, frames, &mut out);
+    let Replaced { length, cleared } = to_record(answer)?;
+    out.truncate(length as usize);
+    Ok((out, cleared))
 }
 
 /// Checks a packed stream.

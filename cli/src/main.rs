@@ -1,4 +1,4 @@
-//! The inspector's command line: checks, reports, shows and repacks DBM0 modules.
+//! The inspector's command line: checks, reports, shows and repacks DBM0 modules, and replaces their samples.
 //!
 //! Every decision is made by the proved library (library.rs). The rest reads files, calls the library, and prints.
 
@@ -15,9 +15,11 @@ mod json;
 mod library;
 mod names;
 mod output;
+mod output_file;
 mod reader;
 mod records;
 mod repack;
+mod replace;
 mod report;
 mod signal;
 mod text;
@@ -61,6 +63,7 @@ fn run() -> Result<u8, Fault> {
         Command::Report { file, json } => report::run(&file, json, out)?,
         Command::Cells { file, selection } => cells::run(&file, &selection, out)?,
         Command::Repack { from, to } => repack::run(&from, &to, out)?,
+        Command::Replace { replacement, to } => replace::run(&replacement, &to, out)?,
     };
     out.flush()?;
     Ok(status)

@@ -25,8 +25,9 @@ pub fn run(file: &OsStr, as_json: bool, out: &mut Output) -> Result<u8, Fault> {
     Ok(EXIT_OK)
 }
 
-/// What the library writes is proved, so this error does not occur with the program's own archives. If it does, no report is printed.
-fn not_understood(file: &OsStr) -> Fault {
+/// What the library writes is proved, so this error does not occur with the program's own archives. If it does, nothing is printed and no
+/// file is written.
+pub fn not_understood(file: &OsStr) -> Fault {
     Fault::failed(format!(
         "{}: the records of the library are not as expected: build the program again with its own archives",
         names::file(file)
@@ -112,7 +113,7 @@ fn instrument_line(text: &mut String, number: usize, instrument: &Instrument) {
 }
 
 /// The kind, and start + length. If the loop is off but its stored numbers are not 0, they are printed too.
-fn loop_words(text: &mut String, instrument: &Instrument) {
+pub fn loop_words(text: &mut String, instrument: &Instrument) {
     let (start, length) = (instrument.loop_start, instrument.loop_length);
     match instrument.loop_kind() {
         Loop::Forward => put!(text; "forward loop ", start, " + ", length),

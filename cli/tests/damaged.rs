@@ -5,7 +5,7 @@ mod common;
 use std::collections::BTreeMap;
 use std::path::PathBuf;
 
-use common::{run, run_on, sample_bytes, text, Folder};
+use common::{run, run_on, sample, sample_bytes, text, Folder};
 use reference::generate::{self, Limits, Random};
 use reference::module;
 use reference::tunes;
@@ -168,6 +168,7 @@ fn any_bytes() {
 fn the_other_commands() {
     let folder = Folder::new();
     let out = folder.0.join("out.dbm");
+    let frames = sample("short-organ.frames");
     for seed in 1..=300 {
         let mut random = Random::new(9_000 + seed);
         let mut draft = generate::module(&mut random, &Limits::SMALL);
@@ -182,12 +183,13 @@ fn the_other_commands() {
             &["cells", "-", "0"],
             &["repack", "-", "-"],
             &["repack", "-", text(&out)],
+            &["replace", "-", "1", text(&frames), "-"],
         ] {
             let run = run_on(arguments, &module);
             if accepted {
-                // Pattern 0 may not exist.
-                let fine =
-                    run.status == Some(0) || arguments[0] == "cells" && run.status == Some(2);
+                // Pattern 0 or sample 1 may not exist.
+                let may_lack = matches!(arguments[0], "cells" | "replace");
+                let fine = run.status == Some(0) || may_lack && run.status == Some(2);
                 assert!(fine, "seed {seed}: {run:?}");
             } else {
                 run.is(1, "", &check.text());

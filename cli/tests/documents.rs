@@ -65,7 +65,7 @@ fn readme() {
 
 #[test]
 fn cli() {
-    holds_for("docs/CLI.md", 6);
+    holds_for("docs/CLI.md", 7);
 }
 
 /// The document of the schema has the name of every JSON field.

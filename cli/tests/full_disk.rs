@@ -1,23 +1,32 @@
-//! `dbm0 repack` on a full disk and on a read-only disk: nothing is lost, and no temporary file remains.
+//! `dbm0 repack` and `dbm0 replace` on a full disk and on a read-only disk: nothing is lost, and no temporary file remains.
 //!
 //! The disk is a small file system in memory, mounted in a name space of its own. If that is not allowed, the tests do not run and are
-//! counted as ignored. (The tests in repack.rs use a file size limit, which needs no privileges, and folders without permissions.)
+//! counted as ignored. (The tests in repack.rs and replace.rs use a file size limit, which needs no privileges, and folders without
+//! permissions.)
 
 mod common;
 
 use std::process::{Command, ExitCode};
 
-use common::{text, Folder, PROGRAM};
+use common::{Folder, PROGRAM};
 use reference::draft::{Sample, Tune};
 
-/// A shell script runs with `$program`, `$module` (40,000 bytes) and `$disk` (64 KiB in memory, in its own name space).
+/// A shell script runs with `$program`, `$command`, `$module` (40,000 bytes), `$frames` (those of its sample) and `$disk` (64 KiB in
+/// memory, in its own name space). Both commands write the module unchanged.
 const PREPARED: &str = r#"
-program=$0 module=$1 disk=$2
+program=$0 command=$1 module=$2 frames=$3 disk=$4
 mount -t tmpfs -o size=64k tmpfs "$disk" || exit 77
 complain() { echo "$*" >&2; exit 1; }
+# write IN OUT: runs the command.
+write() {
+    case $command in
+    repack) "$program" repack "$1" "$2" ;;
+    replace) "$program" replace "$1" 1 "$frames" "$2" ;;
+    esac
+}
 # refused OUT IN WORDS: the program ends with 2, says this in one line, and nothing on standard output.
 refused() {
-    said=$("$program" repack "$2" "$1" 2>&1 >"$disk/../printed"); status=$?
+    said=$(write "$2" "$1" 2>&1 >"$disk/../printed"); status=$?
     [ "$status" -eq 2 ] || complain "ended with $status: $said"
     [ ! -s "$disk/../printed" ] || complain "printed something"
     [ "$said" = "dbm0: $1: cannot be written, nothing was changed: $3" ] || complain "said: $said"
@@ -33,7 +42,7 @@ refused "$disk/tune.dbm" "$disk/tune.dbm" "$words"
 cmp "$module" "$disk/tune.dbm" || complain "the file was changed"
 [ "$(ls -A "$disk")" = tune.dbm ] || complain "there are other files: $(ls -A "$disk")"
 rm "$disk/tune.dbm"
-"$program" repack "$module" "$disk/new.dbm" >"$disk/../printed" || complain "not written though there is room"
+write "$module" "$disk/new.dbm" >"$disk/../printed" || complain "not written though there is room"
 cmp "$module" "$disk/new.dbm" || complain "another module was written"
 "#;
 
@@ -55,26 +64,29 @@ enum Outcome {
 }
 
 /// Root can mount a disk. Other users can if they may create a name space in which they are root.
-fn on_a_disk(script: &str) -> Outcome {
-    match unshared(&["--mount"], script) {
-        Outcome::NotRun(_) => unshared(&["--mount", "--map-root-user"], script),
+fn on_a_disk(command: &str, script: &str) -> Outcome {
+    match unshared(&["--mount"], command, script) {
+        Outcome::NotRun(_) => unshared(&["--mount", "--map-root-user"], command, script),
         outcome => outcome,
     }
 }
 
-fn unshared(options: &[&str], script: &str) -> Outcome {
+fn unshared(options: &[&str], command: &str, script: &str) -> Outcome {
     let folder = Folder::new();
+    let sample = [0x55; 40_000 - 66];
     let tune = Tune {
-        samples: vec![Sample::new(1, &[0x55; 40_000 - 66])],
+        samples: vec![Sample::new(2, &sample)],
         ..Tune::default()
     };
     let module = folder.file("module.dbm", &tune.bytes());
+    let frames = folder.file("frames", &sample);
     let disk = folder.0.join("disk");
     std::fs::create_dir(&disk).expect("a new folder");
     let whole = format!("{PREPARED}{script}exit 0\n");
     let run = Command::new("unshare")
         .args(options)
-        .args(["sh", "-c", &whole, PROGRAM, text(&module), text(&disk)])
+        .args(["sh", "-c", &whole, PROGRAM, command])
+        .args([&module, &frames, &disk])
         .output();
     let output = match run {
         Ok(output) => output,
@@ -90,11 +102,16 @@ fn unshared(options: &[&str], script: &str) -> Outcome {
 }
 
 fn main() -> ExitCode {
-    let tests = [("a_full_disk", FULL), ("a_read_only_disk", READ_ONLY)];
+    let tests = [
+        ("repack_on_a_full_disk", "repack", FULL),
+        ("repack_on_a_read_only_disk", "repack", READ_ONLY),
+        ("replace_on_a_full_disk", "replace", FULL),
+        ("replace_on_a_read_only_disk", "replace", READ_ONLY),
+    ];
     println!("\nrunning {} tests", tests.len());
     let (mut passed, mut failed, mut ignored) = (0, 0, 0);
-    for (name, script) in tests {
-        match on_a_disk(script) {
+    for (name, command, script) in tests {
+        match on_a_disk(command, script) {
             Outcome::Passed => {
                 passed += 1;
                 println!("test {name} ... ok");

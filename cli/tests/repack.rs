@@ -2,13 +2,16 @@
 
 mod common;
 
-use std::fs::{self, File, Permissions};
+use std::fs::{self, Permissions};
 use std::os::unix::fs::{symlink, MetadataExt, PermissionsExt};
 use std::os::unix::net::UnixListener;
 use std::path::Path;
-use std::process::{Command, Stdio};
+use std::process::Command;
 
-use common::{run, run_on, sample, sample_bytes, text, Folder, Run, PROGRAM};
+use common::{
+    as_nobody, full, holds, run, run_on, sample, sample_bytes, set_mode, text, through_shell,
+    Folder, Run, PROGRAM,
+};
 use reference::draft::{Pattern, Tune};
 use reference::generate::{module, Limits, Random};
 use reference::repack::repack;
@@ -30,15 +33,6 @@ fn repacked(module: &[u8]) -> Vec<u8> {
     let length = repack(module, &mut out).expect("an accepted module");
     out.truncate(length as usize);
     out
-}
-
-#[track_caller]
-fn holds(file: &Path, bytes: &[u8]) {
-    assert!(
-        fs::read(file).expect("the file is there") == bytes,
-        "{} holds something else",
-        text(file)
-    );
 }
 
 #[test]
@@ -280,16 +274,6 @@ fn temporary_names_that_are_taken() {
     }
 }
 
-/// Runs the program through a shell command in which `"$0"` is the program and `"$1"`, `"$2"` are IN and OUT.
-fn through_shell(command: &str, from: &Path, to: &Path) -> Run {
-    let output = Command::new("sh")
-        .args(["-c", command, PROGRAM, text(from), text(to)])
-        .stdin(Stdio::null())
-        .output()
-        .expect("sh runs");
-    Run::of(output)
-}
-
 /// A file that would exceed the process's file size limit: as on a full disk, nothing is lost and no other file remains.
 #[test]
 fn a_file_too_large() {
@@ -298,13 +282,13 @@ fn a_file_too_large() {
     let from = folder.file("in.dbm", &wasteful());
     let to = folder.file("out.dbm", b"stays");
     let limited = "ulimit -f 1; exec \"$0\" repack \"$1\" \"$2\"";
-    let run = through_shell(limited, &from, &to);
+    let run = through_shell(limited, &[&from, &to]);
     run.fails("out.dbm: cannot be written, nothing was changed: File too large: make room or choose another folder");
     holds(&to, b"stays");
-    through_shell(limited, &from, &folder.0.join("new.dbm"))
+    through_shell(limited, &[&from, &folder.0.join("new.dbm")])
         .fails("new.dbm: cannot be written, nothing was changed");
     // IN and OUT are the same file.
-    through_shell(limited, &from, &from).fails("in.dbm: cannot be written, nothing was changed");
+    through_shell(limited, &[&from, &from]).fails("in.dbm: cannot be written, nothing was changed");
     holds(&from, &wasteful());
     assert_eq!(folder.names(), ["in.dbm", "out.dbm"]);
 }
@@ -313,12 +297,6 @@ fn a_file_too_large() {
 #[test]
 fn standard_output_is_full() {
     let carousel = sample("carousel.dbm");
-    let full = || {
-        File::options()
-            .write(true)
-            .open("/dev/full")
-            .expect("it is there")
-    };
     let output = Command::new(PROGRAM)
         .args(["repack", text(&carousel), "-"])
         .stdout(full())
@@ -336,35 +314,6 @@ fn standard_output_is_full() {
     Run::of(output).fails("standard output: cannot be written");
     holds(&to, &sample_bytes("carousel.dbm"));
     assert_eq!(folder.names(), ["out.dbm"]);
-}
-
-/// Runs the program as a user without permissions if the tests run as root, since permissions do not restrict root.
-fn as_nobody(folder: &Folder, arguments: &[&str]) -> Run {
-    // The program may be in a folder that other users cannot read.
-    let program = folder.0.join("program");
-    if !program.exists() {
-        fs::copy(PROGRAM, &program).expect("copied");
-        fs::set_permissions(&program, Permissions::from_mode(0o755)).expect("set");
-    }
-    let become_nobody = "\
-import os, sys
-if os.getuid() == 0:
-    os.setgroups([])
-    os.setgid(65534)
-    os.setuid(65534)
-os.execv(sys.argv[1], sys.argv[1:])
-";
-    let output = Command::new("python3")
-        .args(["-c", become_nobody, text(&program)])
-        .args(arguments)
-        .stdin(Stdio::null())
-        .output()
-        .expect("python3 runs");
-    Run::of(output)
-}
-
-fn set_mode(path: &Path, mode: u32) {
-    fs::set_permissions(path, Permissions::from_mode(mode)).expect("set");
 }
 
 /// A folder without write permission, a file without write permission, and a file without read permission.

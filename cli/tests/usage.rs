@@ -3,12 +3,12 @@
 mod common;
 
 use std::ffi::OsStr;
-use std::fs::{self, File};
+use std::fs;
 use std::io::Read;
 use std::os::unix::ffi::OsStrExt;
 use std::process::{Command, Stdio};
 
-use common::{finish_child, run, run_on, sample, sample_bytes, text, Folder, Run, PROGRAM};
+use common::{finish_child, full, run, run_on, sample, sample_bytes, text, Folder, Run, PROGRAM};
 use reference::draft::{Pattern, Tune};
 
 #[test]
@@ -23,6 +23,7 @@ fn help() {
         "report [--json] FILE",
         "cells FILE PATTERN",
         "repack IN OUT",
+        "replace IN SAMPLE FRAMES OUT",
         "--version",
     ] {
         assert!(program.text().contains(word), "{word}");
@@ -30,7 +31,7 @@ fn help() {
     for arguments in [&["-h"][..], &["help"]] {
         run(arguments).is(0, &program.text(), "");
     }
-    for command in ["check", "report", "cells", "repack"] {
+    for command in ["check", "report", "cells", "repack", "replace"] {
         let shown = run(&[command, "--help"]);
         assert_eq!((shown.status, shown.err.as_str()), (Some(0), ""));
         assert!(
@@ -80,7 +81,7 @@ fn version() {
 
 #[test]
 fn wrong_arguments() {
-    let expected: [(&[&str], &str); 22] = [
+    let expected: [(&[&str], &str); 27] = [
         (&[], "no command is named: see 'dbm0 --help'"),
         (&[""], "there is no command '': see 'dbm0 --help'"),
         (&["chek"], "there is no command 'chek': see 'dbm0 --help'"),
@@ -127,6 +128,26 @@ fn wrong_arguments() {
             &["repack", "a", "b", "c"],
             "repack takes two files, IN and OUT",
         ),
+        (
+            &["replace", "a", "1", "b"],
+            "replace takes IN, the number of a sample, FRAMES and OUT: see 'dbm0 replace --help'",
+        ),
+        (
+            &["replace", "a", "1", "b", "c", "d"],
+            "replace takes IN, the number of a sample, FRAMES and OUT",
+        ),
+        (
+            &["replace", "a", "b", "1", "c"],
+            "'b' is not the number of a sample: see 'dbm0 replace --help'",
+        ),
+        (
+            &["replace", "-", "1", "-", "a"],
+            "standard input can be read only once: see 'dbm0 replace --help'",
+        ),
+        (
+            &["replace", "a", "1", "b", "--json"],
+            "there is no option '--json'",
+        ),
     ];
     for (arguments, words) in expected {
         run(arguments).fails(words);
@@ -144,14 +165,21 @@ fn arguments_of_any_bytes() {
         b"\x1b[2J",
         b"-",
     ];
-    for command in ["check", "report", "cells", "repack", "help", "\u{fc}"] {
+    for command in [
+        &["check"][..],
+        &["report"],
+        &["cells"],
+        &["repack"],
+        &["replace", "-", "1"],
+        &["replace", "--", "-"],
+        &["help"],
+        &["\u{fc}"],
+    ] {
         for one in wild {
             for other in wild {
-                let run = run(&[
-                    OsStr::new(command),
-                    OsStr::from_bytes(one),
-                    OsStr::from_bytes(other),
-                ]);
+                let mut arguments: Vec<&OsStr> = command.iter().map(OsStr::new).collect();
+                arguments.extend([one, other].map(OsStr::from_bytes));
+                let run = run(&arguments);
                 // Standard input is empty, which is not a module.
                 assert!(matches!(run.status, Some(1 | 2)), "{run:?}");
                 assert!(!run.err.contains('\x1b'), "{run:?}");
@@ -253,13 +281,9 @@ fn standard_output_is_full() {
         &["--help"],
         &["--version"],
     ] {
-        let full = File::options()
-            .write(true)
-            .open("/dev/full")
-            .expect("it is there");
         let output = Command::new(PROGRAM)
             .args(arguments)
-            .stdout(full)
+            .stdout(full())
             .output()
             .expect("the program runs");
         Run::of(output).fails("standard output: cannot be written: No space left on device: make room or send it elsewhere");
@@ -310,6 +334,7 @@ fn an_input_without_end() {
         &["report", "/dev/zero"][..],
         &["cells", "/dev/zero", "0"],
         &["repack", "/dev/zero", "-"],
+        &["replace", "/dev/zero", "1", "/dev/zero", "-"],
     ] {
         run(command).is(1, "", &format!("/dev/zero: {words}"));
     }

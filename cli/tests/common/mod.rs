@@ -3,8 +3,9 @@
 #![allow(dead_code)]
 
 use std::ffi::OsStr;
-use std::fs;
+use std::fs::{self, File, Permissions};
 use std::io::{Read, Write};
+use std::os::unix::fs::PermissionsExt;
 use std::path::{Path, PathBuf};
 use std::process::{Child, Command, ExitStatus, Output, Stdio};
 use std::sync::atomic::{AtomicU32, Ordering};
@@ -207,4 +208,62 @@ pub fn escaped(name: &[u8]) -> String {
             false => format!("\\x{byte:02x}"),
         })
         .collect()
+}
+
+/// The file has exactly these bytes.
+#[track_caller]
+pub fn holds(file: &Path, bytes: &[u8]) {
+    assert!(
+        fs::read(file).expect("the file is there") == bytes,
+        "{} holds something else",
+        text(file)
+    );
+}
+
+/// Runs the program through a shell command in which `"$0"` is the program and `"$1"`, `"$2"` and so on are these files.
+pub fn through_shell(command: &str, files: &[&Path]) -> Run {
+    let output = Command::new("sh")
+        .args(["-c", command, PROGRAM])
+        .args(files)
+        .stdin(Stdio::null())
+        .output()
+        .expect("sh runs");
+    Run::of(output)
+}
+
+/// Runs the program as a user without permissions if the tests run as root, since permissions do not restrict root.
+pub fn as_nobody(folder: &Folder, arguments: &[&str]) -> Run {
+    // The program may be in a folder that other users cannot read.
+    let program = folder.0.join("program");
+    if !program.exists() {
+        fs::copy(PROGRAM, &program).expect("copied");
+        fs::set_permissions(&program, Permissions::from_mode(0o755)).expect("set");
+    }
+    let become_nobody = "\
+import os, sys
+if os.getuid() == 0:
+    os.setgroups([])
+    os.setgid(65534)
+    os.setuid(65534)
+os.execv(sys.argv[1], sys.argv[1:])
+";
+    let output = Command::new("python3")
+        .args(["-c", become_nobody, text(&program)])
+        .args(arguments)
+        .stdin(Stdio::null())
+        .output()
+        .expect("python3 runs");
+    Run::of(output)
+}
+
+pub fn set_mode(path: &Path, mode: u32) {
+    fs::set_permissions(path, Permissions::from_mode(mode)).expect("set");
+}
+
+/// A disk without room.
+pub fn full() -> File {
+    File::options()
+        .write(true)
+        .open("/dev/full")
+        .expect("it is there")
 }
