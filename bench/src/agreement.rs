@@ -1,14 +1,15 @@
 //! Compares all implementations before the measurement: their answers and their outputs must be the same, byte for byte.
 
 use std::collections::BTreeSet;
+use std::fmt::Debug;
 
 use reference::chunks::MOST_BYTES;
-use reference::draft::{Chunk, Draft, Tune};
+use reference::draft::{Chunk, Draft, Sample, Tune};
 use reference::generate::{self, Limits};
 
 use crate::corpus::{self, Corpus, Pattern, Random};
 use crate::implementations::{Answer, Implementation, Verdict, IMPLEMENTATIONS};
-use crate::modules::Module;
+use crate::modules::{Module, Replacement};
 
 /// The bytes after the needed length, which must not change.
 const SPARE: usize = 16;
@@ -110,13 +111,16 @@ fn damage(stream: &[u8], random: &mut Random) -> Vec<u8> {
 }
 
 /// The answer of a call, and the output of this length after it, including the bytes after it.
-fn into(length: usize, fill: impl FnOnce(&mut [u8]) -> Answer) -> (Answer, Vec<u8>) {
+fn into<A>(length: usize, fill: impl FnOnce(&mut [u8]) -> A) -> (A, Vec<u8>) {
     let mut out = vec![UNTOUCHED; length + SPARE];
     let answer = fill(&mut out[..length]);
     (answer, out)
 }
 
-fn same(what: &str, call: impl Fn(&Implementation) -> (Answer, Vec<u8>)) -> Result<usize, String> {
+fn same<A: PartialEq + Debug>(
+    what: &str,
+    call: impl Fn(&Implementation) -> (A, Vec<u8>),
+) -> Result<usize, String> {
     let first = call(&IMPLEMENTATIONS[0]);
     for other in &IMPLEMENTATIONS[1..] {
         let second = call(other);
@@ -240,6 +244,49 @@ fn same_repacked(what: &str, module: &[u8], random: &mut Random) -> Result<usize
     Ok(calls)
 }
 
+/// Returns the number of compared calls that replace a sample, or the first difference. The outputs are empty, too short, exactly long
+/// enough and longer. Each refusal that is not the module's own must occur in the answers.
+pub fn compare_replaced(modules: &[Module]) -> Result<usize, String> {
+    let mut compared = Compared::default();
+    let mut random = Random(11);
+    let mut faults = generate::Random::new(12);
+    for module in modules {
+        if let Some(Replacement { sample, frames }) = &module.replacement {
+            compared.same_replaced(module.name, &module.bytes, *sample, frames, &mut random)?;
+        }
+        compared.same_drawn(module.name, &module.bytes, &mut random)?;
+        for turn in 0..DAMAGED_MODULES / 10 {
+            let what = format!("{}, damaged, turn {turn}", module.name);
+            let damaged = damaged_draft(&module.draft, &mut faults);
+            compared.same_drawn(&what, &damaged, &mut random)?;
+        }
+    }
+    for most in [Limits::SMALL, Limits::USUAL] {
+        for turn in 0..SMALL_MODULES {
+            let what = format!("small module, turn {turn}");
+            let draft = generate::module(&mut faults, &most);
+            compared.same_drawn(&what, &draft.bytes(), &mut random)?;
+            let damaged = damaged_draft(&draft, &mut faults);
+            compared.same_drawn(&what, &damaged, &mut random)?;
+        }
+    }
+    let tune = Tune {
+        samples: vec![Sample::new(1, &[5; 100])],
+        ..Tune::default()
+    };
+    let longest = filled_up(tune.draft());
+    for length in [98, 100, 102] {
+        compared.same_replaced("longest module", &longest, 1, &vec![7; length], &mut random)?;
+    }
+    match [0, 1, 17, 18, 19]
+        .into_iter()
+        .find(|number| !compared.numbers.contains(number))
+    {
+        Some(number) => Err(format!("no replacement is answered with {number}")),
+        None => Ok(compared.calls),
+    }
+}
+
 /// The number of calls so far, and the numbers in their answers.
 #[derive(Default)]
 struct Compared {
@@ -264,6 +311,43 @@ impl Compared {
         }
         self.calls += verdicts.len();
         self.numbers.insert(first.number);
+        Ok(())
+    }
+
+    /// A random sample, which may not exist, is replaced by random frames, which may have an odd number of bytes.
+    fn same_drawn(&mut self, what: &str, module: &[u8], random: &mut Random) -> Result<(), String> {
+        let sample = random.below(5) as usize;
+        let length = 2 * random.below(30) + u64::from(random.below(8) == 0);
+        let frames: Vec<u8> = (0..length).map(|_| random.number() as u8).collect();
+        self.same_replaced(what, module, sample, &frames, random)
+    }
+
+    fn same_replaced(
+        &mut self,
+        what: &str,
+        module: &[u8],
+        sample: usize,
+        frames: &[u8],
+        random: &mut Random,
+    ) -> Result<(), String> {
+        let asked = (IMPLEMENTATIONS[0].replace_sample)(module, sample, frames, &mut []);
+        let enough = module.len() + frames.len();
+        let needed = match asked.number {
+            17 => asked.place as usize,
+            _ => enough,
+        };
+        let short = random.below(needed as u64 + 1) as usize;
+        for room in [0, short, needed.saturating_sub(1), needed, enough + 1] {
+            self.calls += same(what, |one| {
+                into(room, |out| {
+                    (one.replace_sample)(module, sample, frames, out)
+                })
+            })?;
+        }
+        let (answer, _) = into(enough, |out| {
+            (IMPLEMENTATIONS[0].replace_sample)(module, sample, frames, out)
+        });
+        self.numbers.extend([asked.number, answer.number]);
         Ok(())
     }
 }
@@ -292,7 +376,11 @@ fn damaged_bytes(module: &[u8], random: &mut Random) -> Vec<u8> {
 
 /// An accepted module of the maximum length.
 fn longest_module() -> Vec<u8> {
-    let mut draft = Tune::default().draft();
+    filled_up(Tune::default().draft())
+}
+
+/// The draft with another chunk, so that the module has the maximum length.
+fn filled_up(mut draft: Draft) -> Vec<u8> {
     let left = MOST_BYTES as usize - draft.bytes().len() - 8;
     draft.chunks.push(Chunk::new(b"ZZZZ", vec![0; left]));
     draft.bytes()

@@ -1,15 +1,18 @@
 //! The four implementations under one interface.
 
-use reference::{module, pattern, repack};
+use interface::{RecordAnswer, Replaced};
+use reference::{module, pattern, repack, replace};
 
-/// The answer of a call on a pattern and of repacking a module, and the answer of the check of a module. The C implementations use the same
-/// two.
+/// The answer of a call on a pattern and of repacking a module, the answer of the check of a module, and the answer of replacing a sample.
+/// The C implementations use the same three.
 pub use interface::{Answer, ModuleAnswer as Verdict};
+pub type ReplaceAnswer = RecordAnswer<Replaced>;
 
 pub type Check = fn(&[u8], u64, u64) -> Answer;
 pub type Fill = fn(&[u8], u64, u64, &mut [u8]) -> Answer;
 pub type CheckModule = fn(&[u8]) -> Verdict;
 pub type RepackModule = fn(&[u8], &mut [u8]) -> Answer;
+pub type ReplaceSample = fn(&[u8], usize, &[u8], &mut [u8]) -> ReplaceAnswer;
 
 pub struct Implementation {
     pub name: &'static str,
@@ -18,6 +21,7 @@ pub struct Implementation {
     pub pack: Fill,
     pub check_module: CheckModule,
     pub repack_module: RepackModule,
+    pub replace_sample: ReplaceSample,
 }
 
 pub const OURS: usize = 0;
@@ -33,6 +37,7 @@ pub const IMPLEMENTATIONS: [Implementation; COUNT] = [
         pack: interface::pack_pattern,
         check_module: interface::check_module,
         repack_module: interface::repack,
+        replace_sample: interface::replace_sample,
     },
     Implementation {
         name: "plain C",
@@ -41,6 +46,7 @@ pub const IMPLEMENTATIONS: [Implementation; COUNT] = [
         pack: plain::pack,
         check_module: plain::check_module,
         repack_module: plain::repack_module,
+        replace_sample: plain::replace_sample,
     },
     Implementation {
         name: "expert C",
@@ -49,6 +55,7 @@ pub const IMPLEMENTATIONS: [Implementation; COUNT] = [
         pack: expert::pack,
         check_module: expert::check_module,
         repack_module: expert::repack_module,
+        replace_sample: expert::replace_sample,
     },
     Implementation {
         name: "Rust",
@@ -57,14 +64,15 @@ pub const IMPLEMENTATIONS: [Implementation; COUNT] = [
         pack: rust_pack,
         check_module: rust_check_module,
         repack_module: rust_repack_module,
+        replace_sample: rust_replace_sample,
     },
 ];
 
-/// Safe wrappers of five C functions. A slice is passed as a pointer and a length, and the C functions read and write only there.
+/// Safe wrappers of six C functions. A slice is passed as a pointer and a length, and the C functions read and write only there.
 macro_rules! over_c {
-    ($name:ident, $check:ident, $unpack:ident, $pack:ident, $check_module:ident, $repack_module:ident) => {
+    ($name:ident, $check:ident, $unpack:ident, $pack:ident, $check_module:ident, $repack_module:ident, $replace_sample:ident) => {
         mod $name {
-            use super::{Answer, Verdict};
+            use super::{Answer, ReplaceAnswer, Verdict};
 
             unsafe extern "C" {
                 fn $check(stream: *const u8, length: usize, rows: u64, tracks: u64) -> Answer;
@@ -91,6 +99,15 @@ macro_rules! over_c {
                     out: *mut u8,
                     out_length: usize,
                 ) -> Answer;
+                fn $replace_sample(
+                    module: *const u8,
+                    length: usize,
+                    sample: usize,
+                    frames: *const u8,
+                    frames_length: usize,
+                    out: *mut u8,
+                    out_length: usize,
+                ) -> ReplaceAnswer;
             }
 
             pub fn check(stream: &[u8], rows: u64, tracks: u64) -> Answer {
@@ -137,6 +154,26 @@ macro_rules! over_c {
                     $repack_module(module.as_ptr(), module.len(), out.as_mut_ptr(), out.len())
                 }
             }
+
+            pub fn replace_sample(
+                module: &[u8],
+                sample: usize,
+                frames: &[u8],
+                out: &mut [u8],
+            ) -> ReplaceAnswer {
+                // SAFETY: each pointer and length are those of one slice, and the output overlaps neither of the others.
+                unsafe {
+                    $replace_sample(
+                        module.as_ptr(),
+                        module.len(),
+                        sample,
+                        frames.as_ptr(),
+                        frames.len(),
+                        out.as_mut_ptr(),
+                        out.len(),
+                    )
+                }
+            }
         }
     };
 }
@@ -147,7 +184,8 @@ over_c!(
     plain_unpack_pattern,
     plain_pack_pattern,
     plain_check_module,
-    plain_repack_module
+    plain_repack_module,
+    plain_replace_sample
 );
 over_c!(
     expert,
@@ -155,7 +193,8 @@ over_c!(
     expert_unpack_pattern,
     expert_pack_pattern,
     expert_check_module,
-    expert_repack_module
+    expert_repack_module,
+    expert_replace_sample
 );
 
 fn answer(result: Result<u64, pattern::Refusal>) -> Answer {
@@ -192,4 +231,22 @@ fn rust_check_module(module: &[u8]) -> Verdict {
 
 fn rust_repack_module(module: &[u8], out: &mut [u8]) -> Answer {
     answer(repack::repack(module, out))
+}
+
+fn rust_replace_sample(
+    module: &[u8],
+    sample: usize,
+    frames: &[u8],
+    out: &mut [u8],
+) -> ReplaceAnswer {
+    let (number, place, record) = match replace::replace_sample(module, sample as u64, frames, out)
+    {
+        Ok(replace::Replaced { length, cleared }) => (0, 0, Replaced { length, cleared }),
+        Err(refusal) => (refusal.number, refusal.place, Replaced::default()),
+    };
+    ReplaceAnswer {
+        number,
+        place,
+        record,
+    }
 }

@@ -1,5 +1,5 @@
-//! Measures check, unpack and pack of packed rows, and the check and the repacking of whole modules: the proved libraries through their C
-//! interface, two C implementations and plain Rust.
+//! Measures check, unpack and pack of packed rows, and the check, the repacking and the replacing of a sample of whole modules: the proved
+//! libraries through their C interface, two C implementations and plain Rust.
 
 mod agreement;
 mod corpus;
@@ -35,6 +35,8 @@ fn main() -> ExitCode {
     print_table("Whole modules, µs per module", &measured.modules);
     println!();
     print_table("Whole modules repacked, µs per module", &measured.repacked);
+    println!();
+    print_table("A sample replaced, µs per module", &measured.replaced);
     ExitCode::SUCCESS
 }
 
@@ -44,7 +46,9 @@ fn agree(corpora: &[Corpus], modules: &[Module]) -> Result<(), String> {
     let calls = agreement::compare_modules(modules)?;
     println!("Agreement: {calls} calls on modules, small and damaged ones among them: all four give the same number and place, and each of the numbers 0 to 15 was given.");
     let calls = agreement::compare_repacked(modules)?;
-    println!("Agreement: {calls} calls that repack modules, small and damaged ones and short outputs among them: all four give the same answers and bytes.\n");
+    println!("Agreement: {calls} calls that repack modules, small and damaged ones and short outputs among them: all four give the same answers and bytes.");
+    let calls = agreement::compare_replaced(modules)?;
+    println!("Agreement: {calls} calls that replace a sample, small and damaged modules and short outputs among them: all four give the same answers and bytes, and each of the numbers 0, 1, 17, 18 and 19 was given.\n");
     Ok(())
 }
 
@@ -80,15 +84,16 @@ fn describe(corpora: &[Corpus], modules: &[Module], rounds: usize) {
     println!(
         "
 ours      libpattern.a and libdbm0.a through their C interface
-plain C   c/plain.c, c/module.c and c/repack.c, gcc -O3 for baseline x86-64 ({})
-expert C  c/expert.c, c/module.c and c/repack.c, the same compiler and flags
+plain C   c/plain.c, c/module.c, c/repack.c and c/replace.c, gcc -O3 for baseline x86-64 ({})
+expert C  c/expert.c, c/module.c, c/repack.c and c/replace.c, the same compiler and flags
 Rust      the crate `reference`, release build ({})
 
 One process, {rounds} rounds. A round takes each corpus and function in turn, and there each implementation over the whole
 corpus, in a random order; then each module in turn, and there each implementation, in a random order: first the checks, then
-the modules of the corpora repacked. Times are CPU time of the process (CLOCK_PROCESS_CPUTIME_ID).
-Same inputs for all. Outputs are shared, one buffer of just the needed length for each pattern or module, warmed by one round
-that does not count and not cleared between calls: an unpacker clears the cells itself, as a part of its work.
+the modules of the corpora repacked, then a sample replaced in these and in the module of samples. Times are CPU time of the
+process (CLOCK_PROCESS_CPUTIME_ID). Same inputs for all. Outputs are shared, one buffer of just the needed length for each
+pattern or module, warmed by one round that does not count and not cleared between calls: an unpacker clears the cells itself,
+as a part of its work.
 ",
         env!("BENCH_GCC"),
         env!("BENCH_RUSTC")

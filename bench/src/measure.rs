@@ -4,7 +4,7 @@ use std::hint::black_box;
 
 use crate::corpus::{Corpus, Pattern, Random};
 use crate::implementations::{Answer, Implementation, COUNT, IMPLEMENTATIONS, OURS};
-use crate::modules::Module;
+use crate::modules::{Module, Replacement};
 
 #[derive(Clone, Copy)]
 pub enum Function {
@@ -60,11 +60,12 @@ impl Line {
     }
 }
 
-/// Nanoseconds per cell for the patterns, microseconds per module for the check and the repacking of modules.
+/// Nanoseconds per cell for the patterns, microseconds per module for the check and the repacking of modules and the replacing of a sample.
 pub struct Measured {
     pub patterns: Vec<Line>,
     pub modules: Vec<Line>,
     pub repacked: Vec<Line>,
+    pub replaced: Vec<Line>,
 }
 
 /// The outputs of a corpus: one buffer of exactly the needed length for each pattern, used by every implementation.
@@ -96,6 +97,18 @@ pub fn measure(corpora: &[Corpus], modules: &[Module], rounds: usize) -> Measure
     let mut repacked_lines: Vec<Line> = repacked
         .iter()
         .map(|module| Line::new(module.name, "repack", rounds))
+        .collect();
+    let replaced: Vec<(&Module, &Replacement)> = modules
+        .iter()
+        .filter_map(|module| Some((module, module.replacement.as_ref()?)))
+        .collect();
+    let mut replaced_outputs: Vec<Vec<u8>> = replaced
+        .iter()
+        .map(|(module, replacement)| replaced_room(module, replacement))
+        .collect();
+    let mut replaced_lines: Vec<Line> = replaced
+        .iter()
+        .map(|(module, _)| Line::new(module.name, "replace", rounds))
         .collect();
 
     let mut random = Random(6);
@@ -129,11 +142,21 @@ pub fn measure(corpora: &[Corpus], modules: &[Module], rounds: usize) -> Measure
                 }
             }
         }
+        let outputs = replaced.iter().zip(&mut replaced_outputs);
+        for (((module, replacement), out), line) in outputs.zip(&mut replaced_lines) {
+            for which in shuffled(&mut random) {
+                let time = replace_pass(module, replacement, out, &IMPLEMENTATIONS[which]);
+                if round > 0 {
+                    line.times[which].0.push(time / 1e3);
+                }
+            }
+        }
     }
     let all = lines
         .iter_mut()
         .chain(&mut module_lines)
-        .chain(&mut repacked_lines);
+        .chain(&mut repacked_lines)
+        .chain(&mut replaced_lines);
     for line in all {
         for times in &mut line.times {
             times.0.sort_by(f64::total_cmp);
@@ -143,6 +166,7 @@ pub fn measure(corpora: &[Corpus], modules: &[Module], rounds: usize) -> Measure
         patterns: lines,
         modules: module_lines,
         repacked: repacked_lines,
+        replaced: replaced_lines,
     }
 }
 
@@ -229,6 +253,34 @@ fn repack_pass(module: &Module, out: &mut [u8], implementation: &Implementation)
     let answer = (implementation.repack_module)(black_box(&module.bytes), black_box(out));
     let time = cpu_time() - start;
     assert_eq!(answer.number, 0, "a module is refused");
+    time
+}
+
+/// An output of exactly the needed length for the module with the sample replaced.
+fn replaced_room(module: &Module, replacement: &Replacement) -> Vec<u8> {
+    let Replacement { sample, frames } = replacement;
+    let answer = (IMPLEMENTATIONS[OURS].replace_sample)(&module.bytes, *sample, frames, &mut []);
+    assert_eq!(answer.number, 17, "no room is too short");
+    vec![0; answer.place as usize]
+}
+
+/// The nanoseconds of one implementation for replacing a sample.
+fn replace_pass(
+    module: &Module,
+    replacement: &Replacement,
+    out: &mut [u8],
+    implementation: &Implementation,
+) -> f64 {
+    let Replacement { sample, frames } = replacement;
+    let start = cpu_time();
+    let answer =
+        (implementation.replace_sample)(black_box(&module.bytes), *sample, frames, black_box(out));
+    let time = cpu_time() - start;
+    assert_eq!(answer.number, 0, "a module is refused");
+    assert_eq!(
+        answer.record.cleared, 1,
+        "another number of loops is cleared"
+    );
     time
 }
 

@@ -1,4 +1,4 @@
-//! The modules whose check and repacking are measured. They are the same on every run.
+//! The modules whose check, repacking and replacing of a sample are measured. They are the same on every run.
 
 use reference::chunks::{Name, COVERED};
 use reference::draft::{Chunk, Draft, Envelope, Instrument, Pattern, Sample, Song, Tune};
@@ -15,6 +15,14 @@ pub struct Module {
     pub repeats: usize,
     /// Whether its patterns are those of a corpus. Then repacking it is measured too.
     pub of_corpus: bool,
+    /// The sample that is replaced, if that is measured too.
+    pub replacement: Option<Replacement>,
+}
+
+/// The number of a sample, and its new frames.
+pub struct Replacement {
+    pub sample: usize,
+    pub frames: Vec<u8>,
 }
 
 impl Module {
@@ -26,7 +34,16 @@ impl Module {
             draft,
             repeats: 1,
             of_corpus: false,
+            replacement: None,
         }
+    }
+}
+
+/// The sample in the middle gets frames with a quarter of its bytes, so that the loop over its second half is cleared.
+fn replacement(samples: usize, sample_bytes: usize) -> Replacement {
+    Replacement {
+        sample: samples / 2,
+        frames: vec![3; sample_bytes / 4],
     }
 }
 
@@ -83,6 +100,7 @@ fn of_corpus(corpus: &Corpus) -> Module {
     );
     Module {
         of_corpus: true,
+        replacement: Some(replacement(SMALL_SAMPLES, SMALL_SAMPLE_BYTES)),
         ..Module::new(corpus.name, holds, tune.draft())
     }
 }
@@ -189,6 +207,7 @@ fn samples() -> Module {
         format!("{MOST_SAMPLES} samples of {LARGE_SAMPLE_BYTES} bytes, {MOST_SAMPLES} looped instruments; {LARGE_SAMPLES_REPEATS} times in a row");
     Module {
         repeats: LARGE_SAMPLES_REPEATS,
+        replacement: Some(replacement(MOST_SAMPLES, LARGE_SAMPLE_BYTES)),
         ..Module::new("samples", holds, tune.draft())
     }
 }
