@@ -60,7 +60,7 @@ fn holds_for(document: &str, expected_examples: usize) {
 
 #[test]
 fn readme() {
-    holds_for("README.md", 1);
+    holds_for("README.md", 4);
 }
 
 #[test]

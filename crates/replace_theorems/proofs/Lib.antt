@@ -7,4 +7,5 @@ pub mod OwnFrames
 pub mod ClearedRecords
 pub mod ResultLength
 pub mod AnyModule
+pub mod WorkedReplacements
 pub mod Theorems

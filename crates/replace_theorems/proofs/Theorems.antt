@@ -1,4 +1,4 @@
--- The theorem about replacing a sample.
+-- The theorems about replacing a sample.
 --
 -- 20. For every well-formed description and every list of frames that fit 16 bits: replacing a sample in the encoding of the description,
 --     by the frames stored as 2 bytes each, gives the encoding of the same description with that sample replaced (`replacedDescription`).
@@ -16,19 +16,25 @@
 --     accepts it, every loop that is shown lies within its sample, and the answer's number of cleared instruments is the number of
 --     instruments that are then shown differently.
 --
+-- 27. Some thirty calls on small modules, computed as one table: which refusal is given, at which place, which of two comes first, the
+--     length, the number of cleared instruments, and what the output then holds. Number 1 is given for every result that is too long.
+--
 -- The result is `sampleReplaced`, the number of cleared instruments is `clearedCount`, the answer is `replaceAnswer` and the check is
 -- `moduleVerdict`. The contracts cite these, and also the answers in `Shows`, `LoopsInside` and `Differing`.
-use Prim.Native.Nat.{ℕ, _+_, _-_, _%_, _≤_}
+use Prim.Native.Nat.{ℕ, _+_, _-_, _%_, _≤_, _<_}
 use mathlib.Core.Path.{_≡_, sym, ap, subst, _∙_}
 use mathlib.Core.List.{List, map}
+use mathlib.Core.Bool.{true}
 use lib.ListN.{length, getD}
 use Rattle.vocabulary.specs.Lists.{joined, Every}
 use Rattle.refusal.specs.declared.Verdict.the-variants.{Accepted}
 use Rattle.numbers.specs.Numbers.{Bytes, eachFrom, bytes16}
 use Rattle.layout.specs.declared.Layout.{Layout}
 use Rattle.layout.specs.declared.Outline.the-variants.{Found}
+use Rattle.blocks.specs.declared.RecordKind.the-variants.{Sample}
 use Rattle.module.specs.Verdicts.{opened, moduleVerdict}
-use Rattle.replace.specs.Replaced.{newFrames, clearedCount, replaceAnswer, sampleReplaced}
+use Rattle.queries.specs.Finding.{there}
+use Rattle.replace.specs.Replaced.{newFrames, replacedModule, clearedCount, replaceAnswer, sampleReplaced}
 use Rattle.samples.specs.Shown.{sampleAnswer, framesPart}
 use Rattle.summary.specs.Shown.{infoAnswer}
 use Rattle.instruments.specs.Shown.{instrumentAnswer}
@@ -46,6 +52,8 @@ use Rattle.replace_theorems.proofs.ShownLoops as ShownLoops
 use Rattle.replace_theorems.proofs.NewFrames as NewFrames
 use Rattle.replace_theorems.proofs.ResultLength as ResultLength
 use Rattle.replace_theorems.proofs.AnyModule as AnyModule
+use Rattle.replace_theorems.proofs.WorkedReplacements as WorkedReplacements
+use Rattle.replace_theorems.proofs.WorkedReplacements.{WorkedReplacement, workedReplacements}
 
 -- Theorem 20.
 module _ (d : Description) (w : WellFormed d) (sample : ℕ) where
@@ -120,3 +128,12 @@ module _ (m : List ℕ) (bytes : Bytes m) (sample : ℕ) (new : List ℕ) (newBy
       (eachFrom (instrumentAnswer (sampleReplaced m sample new)) 1 (infoAnswer m .instruments))
       (replaceAnswer m sample new room .cleared)
   result-cleared-differ = AnyModule.replaced-result m bytes sample new newBytes room answered .cleared
+
+-- Theorem 27.
+pub replacements-agree : map (λ (w : WorkedReplacement). w .found) workedReplacements ≡ map (λ (w : WorkedReplacement). w .said) workedReplacements
+replacements-agree = WorkedReplacements.replacements-agree
+
+pub result-too-long : (m : List ℕ) (l : Layout) (sample : ℕ) (new : List ℕ) (room : ℕ) → opened m ≡ Found l
+    → there m l Sample sample ≡ true → length new % 2 ≡ 0 → 16777216 < length (replacedModule m l sample new)
+    → replaceAnswer m sample new room ≡ record { outcome = record { number = 1; place = 0 }; length = 0; cleared = 0 }
+result-too-long = WorkedReplacements.result-too-long
