@@ -86,7 +86,7 @@ fn instrument(text: &mut String, index: usize, instrument: &Instrument) {
         Loop::PingPong => "ping-pong",
     };
     put!(text; "{\"number\": ", index + 1, ", \"name\": ");
-    name(text, instrument.name);
+    name(text, &instrument.name);
     put!(text; ", \"sample\": ", instrument.sample, ", \"volume\": ", instrument.volume);
     put!(text; ", \"panning\": ", instrument.panning, ", \"rate\": ", instrument.rate);
     put!(text; ", \"flags\": ", instrument.flags, ", \"loop\": {\"kind\": \"", kind);

@@ -53,17 +53,24 @@ pub fn cell(module: &[u8], pattern: usize, row: usize, track: usize) -> Result<C
 
 /// All cells of a pattern, six bytes each. `expected` is the number of cells.
 pub fn cells(module: &[u8], pattern: usize, expected: usize) -> Result<Vec<u8>, Refusal> {
-    fill_output(6 * expected, |out| interface::cells(module, pattern, out))
+    filled(6 * expected, |out| interface::cells(module, pattern, out))
 }
 
 /// All records of the module. The summary has 60 bytes and no record is longer than its block, so the first output is long enough.
 pub fn records(module: &[u8]) -> Result<Vec<u8>, Refusal> {
-    fill_output(module.len() + 60, |out| interface::records(module, out))
+    filled(module.len() + 60, |out| interface::records(module, out))
+}
+
+/// The same in memory that can be used for another module afterwards.
+pub fn records_in<'m>(memory: &'m mut Vec<u8>, module: &[u8]) -> Result<&'m [u8], Refusal> {
+    let room = module.len() + 60;
+    let length = fill_output(memory, room, |out| interface::records(module, out))?;
+    Ok(&memory[..length])
 }
 
 /// The repacked module. It is never longer than the module, so the first output is long enough.
 pub fn repack(module: &[u8]) -> Result<Vec<u8>, Refusal> {
-    fill_output(module.len(), |out| interface::repack(module, out))
+    filled(module.len(), |out| interface::repack(module, out))
 }
 
 /// The module with a sample, counted from 1, replaced by 16-bit frames, and the number of loops that are cleared. At most the frames are
@@ -82,15 +89,28 @@ pub fn check_pattern(stream: &[u8], rows: u64, tracks: u64) -> Result<(), Refusa
     to_result(answer.number, answer.place, ())
 }
 
-/// The bytes that a call writes. If the first output is too short, the call is repeated with the length that it reports.
-fn fill_output(room: usize, call: impl Fn(&mut [u8]) -> Answer) -> Result<Vec<u8>, Refusal> {
-    let mut out = vec![0; room];
-    let mut answer = call(&mut out);
-    if answer.number == OUTPUT_TOO_SHORT {
-        out = vec![0; answer.place as usize];
-        answer = call(&mut out);
-    }
-    let written = to_result(answer.number, answer.place, answer.length)?;
-    out.truncate(written as usize);
+/// The bytes that a call writes.
+fn filled(room: usize, call: impl Fn(&mut [u8]) -> Answer) -> Result<Vec<u8>, Refusal> {
+    let mut out = Vec::new();
+    let length = fill_output(&mut out, room, call)?;
+    out.truncate(length);
     Ok(out)
+}
+
+/// Makes the output at least as long as `room`, and returns how many bytes the call writes to it. If it is too short, the call is repeated
+/// with the length that it reports.
+fn fill_output(
+    out: &mut Vec<u8>,
+    room: usize,
+    call: impl Fn(&mut [u8]) -> Answer,
+) -> Result<usize, Refusal> {
+    if out.len() < room {
+        *out = vec![0; room];
+    }
+    let mut answer = call(out);
+    if answer.number == OUTPUT_TOO_SHORT {
+        *out = vec![0; answer.place as usize];
+        answer = call(out);
+    }
+    to_result(answer.number, answer.place, answer.length as usize)
 }

@@ -5,6 +5,9 @@ use crate::library::Info;
 /// The number of points of an envelope, used or not.
 const POINTS: usize = 32;
 
+/// The bytes of an envelope: 8, and 4 for each point.
+const ENVELOPE_BYTES: usize = 8 + 4 * POINTS;
+
 #[derive(Debug, PartialEq, Eq)]
 pub struct Report<'r> {
     pub version: u8,
@@ -12,7 +15,7 @@ pub struct Report<'r> {
     pub name: &'r [u8; 44],
     pub info: Info,
     pub songs: Vec<Song<'r>>,
-    pub instruments: Vec<Instrument<'r>>,
+    pub instruments: Vec<Instrument>,
     /// The rows of each pattern.
     pub patterns: Vec<u16>,
     pub samples: Vec<Sample>,
@@ -28,8 +31,8 @@ pub struct Song<'r> {
 }
 
 #[derive(Debug, PartialEq, Eq)]
-pub struct Instrument<'r> {
-    pub name: &'r [u8; 30],
+pub struct Instrument {
+    pub name: [u8; 30],
     pub sample: u16,
     pub volume: u16,
     pub rate: u32,
@@ -77,6 +80,22 @@ impl<'r> Report<'r> {
     /// Parses the records. None if they end too early or too late, which the library never does.
     pub fn of(records: &'r [u8]) -> Option<Report<'r>> {
         let reader = &mut RecordReader(records);
+        let (mut report, [volume, panning]) = Report::front(reader)?;
+        report.volume_envelopes = reader.list(volume, Envelope::read)?;
+        report.panning_envelopes = reader.list(panning, Envelope::read)?;
+        reader.0.is_empty().then_some(report)
+    }
+
+    /// The same, but only the length of the envelopes is compared, and the report has none.
+    pub fn without_envelopes(records: &'r [u8]) -> Option<Report<'r>> {
+        let reader = &mut RecordReader(records);
+        let (report, [volume, panning]) = Report::front(reader)?;
+        let envelopes = usize::from(volume) + usize::from(panning);
+        (reader.0.len() == envelopes * ENVELOPE_BYTES).then_some(report)
+    }
+
+    /// Parses the records before the envelopes. Also returns how many volume and how many panning envelopes follow.
+    fn front(reader: &mut RecordReader<'r>) -> Option<(Report<'r>, [u16; 2])> {
         let [version, revision] = *reader.array()?;
         let name = reader.array()?;
         let info = Info {
@@ -86,7 +105,7 @@ impl<'r> Report<'r> {
             patterns: reader.u16()?,
             tracks: reader.u16()?,
         };
-        let (volume, panning) = (reader.u16()?, reader.u16()?);
+        let envelopes = [reader.u16()?, reader.u16()?];
         let report = Report {
             version,
             revision,
@@ -96,10 +115,10 @@ impl<'r> Report<'r> {
             instruments: reader.list(info.instruments, Instrument::read)?,
             patterns: reader.list(info.patterns, RecordReader::u16)?,
             samples: reader.list(info.samples, Sample::read)?,
-            volume_envelopes: reader.list(volume, Envelope::read)?,
-            panning_envelopes: reader.list(panning, Envelope::read)?,
+            volume_envelopes: Vec::new(),
+            panning_envelopes: Vec::new(),
         };
-        reader.0.is_empty().then_some(report)
+        Some((report, envelopes))
     }
 }
 
@@ -123,10 +142,10 @@ impl<'r> Song<'r> {
     }
 }
 
-impl<'r> Instrument<'r> {
-    fn read(reader: &mut RecordReader<'r>) -> Option<Instrument<'r>> {
+impl Instrument {
+    fn read(reader: &mut RecordReader) -> Option<Instrument> {
         Some(Instrument {
-            name: reader.array()?,
+            name: *reader.array()?,
             sample: reader.u16()?,
             volume: reader.u16()?,
             rate: reader.u32()?,
@@ -233,6 +252,13 @@ mod tests {
     use reference::all_records::write;
     use reference::generate::{module, Limits, Random};
 
+    /// Whether the records are parsed, which does not depend on whether the envelopes are.
+    fn is_whole(records: &[u8]) -> bool {
+        let parsed = Report::of(records).is_some();
+        assert_eq!(Report::without_envelopes(records).is_some(), parsed);
+        parsed
+    }
+
     /// Records that are cut, or have an extra byte, are not parsed.
     #[test]
     fn only_whole_records() {
@@ -240,13 +266,13 @@ mod tests {
             let module = module(&mut Random::new(seed), &Limits::SMALL).bytes();
             let mut records = vec![0; module.len() + 60];
             let length = write(&module, &mut records).expect("an accepted module") as usize;
-            assert!(Report::of(&records[..length]).is_some());
+            assert!(is_whole(&records[..length]));
             for cut in 0..length {
-                assert!(Report::of(&records[..cut]).is_none(), "{cut} of {length}");
+                assert!(!is_whole(&records[..cut]), "{cut} of {length}");
             }
             records.truncate(length);
             records.push(0);
-            assert!(Report::of(&records).is_none());
+            assert!(!is_whole(&records));
         }
     }
 }

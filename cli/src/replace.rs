@@ -8,7 +8,7 @@ use crate::library::{self, Refusal, MOST_BYTES, NOT_THERE, ODD_FRAMES, TOO_LONG}
 use crate::names::Quoted;
 use crate::output::Output;
 use crate::output_file;
-use crate::records::{Instrument, Report};
+use crate::records::{Instrument, Report, Sample};
 use crate::report::{loop_words, not_understood};
 use crate::text::{put, Many};
 
@@ -64,13 +64,30 @@ fn no_sample(sample: &str, module: &[u8]) -> String {
     format!("there is no sample {sample}: {there}")
 }
 
+/// What is shown of a module: the sample, and all instruments.
+struct Shown {
+    sample: Sample,
+    instruments: Vec<Instrument>,
+}
+
+impl Shown {
+    fn of(records: &[u8], sample: usize) -> Option<Shown> {
+        let report = Report::without_envelopes(records)?;
+        let mut samples = report.samples.into_iter();
+        Some(Shown {
+            sample: samples.nth(sample.checked_sub(1)?)?,
+            instruments: report.instruments,
+        })
+    }
+}
+
 /// A line for the sample and one for each loop that was cleared. None if the records of the library are not as expected.
 fn summary(module: &[u8], sample: usize, replaced: &[u8], cleared: u64) -> Option<Vec<String>> {
-    let before = library::records(module).ok()?;
-    let after = library::records(replaced).ok()?;
-    let (before, after) = (Report::of(&before)?, Report::of(&after)?);
-    let index = sample.checked_sub(1)?;
-    let (old, new) = (before.samples.get(index)?, after.samples.get(index)?);
+    // The records of both modules use the same memory, one after the other.
+    let mut memory = Vec::new();
+    let before = Shown::of(library::records_in(&mut memory, module).ok()?, sample)?;
+    let after = Shown::of(library::records_in(&mut memory, replaced).ok()?, sample)?;
+    let (old, new) = (before.sample, after.sample);
     let mut line = String::new();
     put!(&mut line; "sample ", sample, ": ", Many(old.frames, "frame"), " of ", old.width, " bits became ");
     put!(&mut line; new.frames, " of ", new.width, " bits; ", Many(cleared, "loop"), " cleared");
@@ -86,7 +103,7 @@ fn summary(module: &[u8], sample: usize, replaced: &[u8], cleared: u64) -> Optio
 
 fn cleared_line(number: usize, instrument: &Instrument) -> String {
     let mut line = String::new();
-    put!(&mut line; "instrument ", number, " ", Quoted(instrument.name), ": ");
+    put!(&mut line; "instrument ", number, " ", Quoted(&instrument.name), ": ");
     loop_words(&mut line, instrument);
     put!(&mut line; " cleared");
     line

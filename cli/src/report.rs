@@ -101,7 +101,7 @@ fn song_line(text: &mut String, number: usize, song: &Song) {
 }
 
 fn instrument_line(text: &mut String, number: usize, instrument: &Instrument) {
-    put!(text; "instrument ", number, " ", Quoted(instrument.name), ": ");
+    put!(text; "instrument ", number, " ", Quoted(&instrument.name), ": ");
     match instrument.sample {
         0 => put!(text; "no sample"),
         sample => put!(text; "sample ", sample),

@@ -1,6 +1,5 @@
-// The C entry points of the module reader: the check of a module, every query about it, all its records, its repacking, and
-// the replacement of a sample. An answer
-// begins with the refusal's number (0: none) and place.
+// The C entry points of the module reader: the check of a module, every query about it, all its records, its repacking, and the replacement
+// of a sample. An answer begins with the refusal's number (0: none) and place.
 use cells::Cell;
 use cells::note_numbers;
 use envelopes::CountAnswer;

@@ -1,4 +1,4 @@
--- FORMAT.md, E1 to E5 (document 02, K1, "Replacing a sample"): the module with the block of one sample replaced, and with the loops cleared
+-- FORMAT.md, E1 to E6 (document 02, K1, "Replacing a sample"): the module with the block of one sample replaced, and with the loops cleared
 -- that no longer fit it. `new` is the new frames as bytes, 2 for each frame.
 use Prim.Native.Nat.{ℕ, _+_, _-_, _/_, _%_}
 use mathlib.Core.List.{List, [], _∷_, _++_, map}
