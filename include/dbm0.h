@@ -68,8 +68,8 @@ extern "C" {
  * The refusals of a module. Places are offsets in the module.
  */
 
-/* More than DBM0_MODULE_MOST_BYTES bytes; of dbm0_replace_sample also its
- * result. The place is 0. */
+/* The module, or the result of dbm0_replace_sample, has more than
+ * DBM0_MODULE_MOST_BYTES bytes. The place is 0. */
 #define DBM0_MODULE_TOO_LONG 1
 
 /* Under 8 bytes, or the first four are not "DBM0". The place is 0. */

@@ -83,6 +83,24 @@ pub after-least : (size : ℕ → ℕ) (n at : ℕ) → at ≤ placeAfter size n
 after-least size zero at = omega arith
 after-least size (suc n) at = omega (arith, after-least size n (at + size at))
 
+-- Each block ends no later than the end of all blocks.
+pub after-next : (size : ℕ → ℕ) (n i at : ℕ) → i < n → placeAfter size i at + size (placeAfter size i at) ≤ placeAfter size n at
+after-next size zero i at h = absurd (omega arith)
+after-next size (suc n) zero at h = after-least size n (at + size at)
+after-next size (suc n) (suc i) at h = after-next size n i (at + size at) (omega arith)
+
+-- There are as many places as blocks.
+pub places-count : (size : ℕ → ℕ) (n at : ℕ) → length (placesFrom size n at) ≡ n
+places-count size zero at = refl
+places-count size (suc n) at = ap suc (places-count size n (at + size at))
+
+-- Lists that are as long as the blocks, one for each block, end where the blocks end.
+pub places-length : (f : ℕ → List ℕ) (size : ℕ → ℕ) (n at : ℕ) → Every (λ place. length (f place) ≡ size place) (placesFrom size n at)
+    → at + length (joined (map f (placesFrom size n at))) ≡ placeAfter size n at
+places-length f size zero at none = omega arith
+places-length f size (suc n) at (also same each) =
+    omega (arith, length-append (f at) (joined (map f (placesFrom size n (at + size at)))), same, places-length f size n (at + size at) each)
+
 pub after-first : (size : ℕ → ℕ) (n at first : ℕ) → size at ≡ first → placeAfter size (suc n) at ≡ placeAfter size n (at + first)
 after-first size n at first e = ap (λ (k : ℕ). placeAfter size n (at + k)) e
 

@@ -3,14 +3,15 @@
 -- description is well formed if the new content of the mandatory chunks fits. Its bytes are those of the changed chunks.
 use Prim.Native.Nat.{ℕ, _≤_}
 use mathlib.Core.Path.{_≡_, refl, sym, ap, subst, _∙_}
-use mathlib.Core.List.{List, [], _∷_, _++_, map, map-map}
+use mathlib.Core.List.{List, _++_, map, map-map}
 use mathlib.Core.Bool.{Bool, true, false}
 use native.Mathlib.Omega.{arith}
 use lib.ListN.{length, length-append}
 use lib.Dec.{eqb}
-use Rattle.vocabulary.specs.Lists.{joined, Every, none, also}
+use Rattle.vocabulary.specs.Lists.{joined, Every}
 use Rattle.vocabulary.proofs.EveryOne.{every-of}
 use Rattle.vocabulary.proofs.MappedLists.{map-split, map-same}
+use Rattle.vocabulary.proofs.JoinedLists.{each-inside}
 use Rattle.vocabulary.proofs.Splits.{within-mapped, mapped-within, no-two-mapped}
 use Rattle.numbers.specs.Numbers.{bytes32}
 use Rattle.acceptance.specs.Rules.{NeedsInfo, VolumeFits, PanningValueFits}
@@ -101,15 +102,10 @@ module _ (f : Chunk → Chunk) where
         (new, subst (λ (l : List Chunk). In l (INFO new)) (sym (s .frontIs)) (subst (In (map f (s .front))) is (in-changed there)))
 
 -- M5: in a module that is short enough the length of every chunk's data fits 4 bytes.
-contents-inside : (chunks : List Chunk) → Every (λ c. length (chunkData c) ≤ length (joined (map chunkBytes chunks))) chunks
-contents-inside [] = none
-contents-inside (c ∷ chunks) =
-    let all = length-append (chunkBytes c) (joined (map chunkBytes chunks)) in
-    let one = length-append (chunkLetters c) (bytes32 (length (chunkData c)) ++ chunkData c) in
-    also {x = c} (omega arith) (every-of (λ e h. omega arith) (contents-inside chunks))
-
 lengths-fit : (d : Description) → length (encoded d) ≤ 16777216 → Every (λ c. Fits32 (length (chunkData c))) (d .chunks)
-lengths-fit d limit = every-of (λ c h. omega (arith, limit)) (contents-inside (d .chunks))
+lengths-fit d limit =
+    every-of (λ c h. omega (arith, limit, length-append (chunkLetters c) (bytes32 (length (chunkData c)) ++ chunkData c)))
+    (each-inside chunkBytes (d .chunks))
 
 -- A description with its chunks changed.
 abbrev pub changedDescription : (Chunk → Chunk) → Description → Description

@@ -1,6 +1,6 @@
 -- The encoding of a well-formed description is accepted: the rules of a module hold for it, with its header and the encodings of its
 -- chunks.
-use Prim.Native.Nat.{ℕ, _≤_, _<_}
+use Prim.Native.Nat.{ℕ, _+_, _≤_, _<_}
 use mathlib.Core.Path.{_≡_, refl, sym, ap, subst, _∙_}
 use mathlib.Core.Logic.{_⊎_, inl, inr}
 use mathlib.Core.List.{List, [], _∷_, _++_, map, append-assoc}
@@ -19,10 +19,14 @@ use Rattle.numbers.proofs.AllBytes.{bytes-nil, bytes-cons, bytes-append, bytes-
 use Rattle.numbers.specs.Numbers.{byteAt, Bytes, number32, bytes32}
 use Rattle.packed_rows.specs.Theorems.{every}
 use Rattle.packed_rows.proofs.Reading.{and-true}
+use Rattle.layout.specs.declared.ChunkSpan.{ChunkSpan}
 use Rattle.module.specs.Verdicts.{moduleVerdict}
 use Rattle.acceptance.specs.Rules.{IsChunk, Covered, NeedsInfo, Among, AtMostOnce, AfterInfo, InfoRules, Filled}
 use Rattle.acceptance.specs.Rules.{EnvelopesRules, VolumeFits, PanningValueFits, Content, ChunkRules, Rules}
-use Rattle.acceptance.proofs.Locating.{byteAt-front, bytes32-number}
+use Rattle.acceptance.proofs.Spans.{Found}
+use Rattle.acceptance.proofs.Locating.{PartAt, byteAt-front, bytes32-number}
+use Rattle.acceptance.proofs.Cutting.{part-rest}
+use Rattle.acceptance.proofs.ChunkHalf.{span-part}
 use Rattle.acceptance.proofs.Holding.{leb-says, and-says}
 use Rattle.acceptance.proofs.Identifiers.{identifierOf}
 use Rattle.acceptance.proofs.Acceptance.{accepted-exactly}
@@ -82,6 +86,18 @@ module _ (c : Chunk) (letters : Capitals (chunkLetters c)) where
 -- A chunk of the description is among the encodings. Its identifier has four letters; for a covered chunk this is computed.
 pub in-among : (chunks : List Chunk) (c : Chunk) → In chunks c → length (chunkLetters c) ≡ 4 → Among (map chunkBytes chunks) (chunkLetters c) (chunkBytes c)
 in-among chunks c i four = within-among (within-mapped chunkBytes (in-within i)) (take-at (chunkLetters c) _ 4 four)
+
+-- Its data are 8 bytes after its place.
+pub content-there : {m : List ℕ} {span : ChunkSpan} (chunks : List Chunk) (c : Chunk) → In chunks c → length (chunkLetters c) ≡ 4
+    → Found m (map chunkBytes chunks) (chunkLetters c) span
+    → PartAt m (span .at + 8) (chunkData c)
+content-there {m} {span} chunks c i four found =
+    let number : List ℕ = bytes32 (length (chunkData c)) in
+    let eight : length (chunkLetters c ++ number) ≡ 8 = omega (arith, length-append (chunkLetters c) number, four) in
+    let whole : PartAt m (span .at) (chunkBytes c) = span-part (found .holds (chunkBytes c) (in-among chunks c i four)) in
+    let parts : PartAt m (span .at) ((chunkLetters c ++ number) ++ chunkData c) =
+    subst (PartAt m (span .at)) (sym (append-assoc (chunkLetters c) number (chunkData c))) whole in
+    rw eight at (part-rest (chunkLetters c ++ number) (chunkData c) parts)
 
 module _ (d : Description) (w : WellFormed d) where
   -- M5: the identifier of each chunk is four letters.

@@ -16,8 +16,7 @@ use Rattle.blocks.specs.declared.BlockKind.the-variants.{Pattern as PatternBloc
 use Rattle.acceptance.specs.Rules.{IsChunk, Covered}
 use Rattle.acceptance.proofs.Spans.{LayoutOf}
 use Rattle.acceptance.proofs.Locating.{PartAt}
-use Rattle.acceptance.proofs.Cutting.{Sized, part-rest}
-use Rattle.acceptance.proofs.ChunkHalf.{span-part}
+use Rattle.acceptance.proofs.Cutting.{Sized}
 use Rattle.acceptance.proofs.ChangedData.{withData}
 use Rattle.acceptance.proofs.BlockStreams.{pattern-sized}
 use Rattle.repack.specs.Repacked.{repackedBlock, repackedPatterns, repacked}
@@ -30,7 +29,7 @@ use Rattle.format.specs.Encoding.{patternBytes, chunkBytes, headerBytes,
 use Rattle.format.specs.WellFormed.{In, WellFormed}
 use Rattle.format.specs.Repacked.{repackedPattern, repackedChunk, repackedDescription}
 use Rattle.format.proofs.EncodedBlocks.{pattern-rules}
-use Rattle.format.proofs.EncodedModule.{in-among, encoded-bytes, encoded-chunks, encoded-accepted}
+use Rattle.format.proofs.EncodedModule.{content-there, encoded-bytes, encoded-chunks, encoded-accepted}
 use Rattle.format.proofs.Placed.{encoded-opens, info-numbers}
 use Rattle.format.proofs.ChunksIn.{in-every, in-once}
 use Rattle.format.proofs.ChunkKinds.{ChunkKind, patterns, not-covered}
@@ -71,9 +70,7 @@ module _ (d : Description) (w : WellFormed d) where
   -- X3: PATT's rewritten data are the repacked patterns.
   module _ (l : Layout) (layout : LayoutOf (encoded d) (headerBytes d) (map chunkBytes (d .chunks)) l) where
     patterns-there : PartAt (encoded d) (l .spans .patt .at + 8) (joined (map patternBytes (w .patterns)))
-    patterns-there =
-        part-rest (pattLetters ++ bytes32 (length (joined (map patternBytes (w .patterns))))) (joined (map patternBytes (w .patterns)))
-        (span-part (layout .patt .holds (chunkBytes (PATT (w .patterns))) (in-among (d .chunks) (PATT (w .patterns)) (w .patternsThere) refl)))
+    patterns-there = content-there (d .chunks) (PATT (w .patterns)) (w .patternsThere) refl (layout .patt)
 
     blocks-sized : Every (Sized PatternBlock) (map patternBytes (w .patterns))
     blocks-sized =

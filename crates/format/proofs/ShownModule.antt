@@ -2,13 +2,12 @@
 use Prim.Native.Nat.{ℕ, _+_}
 use mathlib.Core.Path.{_≡_, refl, sym, ap, subst, _∙_}
 use mathlib.Core.Logic.{inl, inr}
-use mathlib.Core.List.{List, _++_, map}
+use mathlib.Core.List.{List, map}
 use mathlib.Core.Bool.{Bool, true, false, cond}
 use lib.ListN.{length, replicate}
-use Rattle.vocabulary.specs.Letters.{nameLetters}
 use Rattle.refusal.specs.Numbers.{noRefusal}
 use Rattle.refusal.specs.Lengths.{refusedLength}
-use Rattle.numbers.specs.Numbers.{byteAt, number16, partOf, bytesFrom, bytes32}
+use Rattle.numbers.specs.Numbers.{byteAt, number16, partOf, bytesFrom}
 use Rattle.packed_rows.specs.Answers.{cellOf, unpackAnswer as streamAnswer, unpackOutput as streamOutput}
 use Rattle.packed_rows.specs.declared.CellAnswer.the-variants.{Refused}
 use Rattle.layout.specs.declared.Layout.{Layout}
@@ -18,8 +17,6 @@ use Rattle.module.specs.Verdicts.{opened}
 use Rattle.queries.specs.Finding.{answerFound, outputFound}
 use Rattle.acceptance.proofs.Spans.{LayoutOf}
 use Rattle.acceptance.proofs.Locating.{PartAt}
-use Rattle.acceptance.proofs.Cutting.{part-rest}
-use Rattle.acceptance.proofs.ChunkHalf.{span-part}
 use Rattle.acceptance.proofs.BlockStreams.{TracksFit}
 use Rattle.samples.specs.Shown.{sampleIf, framesIf, frameIf, allFramesSize, allFrames}
 use Rattle.envelopes.specs.Shown.{recordKind, countIf, countAnswer, noEnvelope, shownEnvelope, envelopeIf, envelopeAnswer}
@@ -37,7 +34,7 @@ use Rattle.format.specs.Shown.{describedEntry, playlistLength, playlistW
 use Rattle.format.specs.Shown.{Envelopes, describedCount, emptyEnvelope, describedEnvelope, emptyPattern, ofPattern}
 use Rattle.format.specs.Shown.{describedRows, describedCell, cellsLength, cellsWritten, describedSample, storedFrames}
 use Rattle.format.specs.Shown.{describedFrame, framesLength, framesWritten, ShowsFrames, Shows}
-use Rattle.format.proofs.EncodedModule.{in-among}
+use Rattle.format.proofs.EncodedModule.{in-among, content-there}
 use Rattle.format.proofs.Placed.{Listed, by-number, encoded-opens, info-numbers}
 use Rattle.format.proofs.PlacedModule.{ValuesFit, songs-listed, instruments-listed, info-same, patterns-listed}
 use Rattle.format.proofs.PlacedModule.{samples-listed, name-missing, envelopes-listed}
@@ -68,7 +65,7 @@ module _ (d : Description) (w : WellFormed d) {l : Layout} (opens : opened (enco
   name-shown : (name : List ℕ) → HasName (d .chunks) name → nameAnswer (encoded d) ≡ describedName name
   name-shown name (inl i) =
       let holds = layout .name .holds (chunkBytes (NAME name)) (in-among (d .chunks) (NAME name) i refl) in
-      let part : PartAt (encoded d) (l .spans .name .at + 8) name = part-rest (nameLetters ++ bytes32 (length name)) name (span-part holds) in
+      let part : PartAt (encoded d) (l .spans .name .at + 8) name = content-there (d .chunks) (NAME name) i refl (layout .name) in
       name-by true (holds .there) ∙ ap describedName (bytes-at part 44 (w .name name i .0))
   name-shown name (inr (e, lacks)) = name-by false (name-missing d w layout lacks) ∙ ap describedName (sym e)
 

@@ -3,7 +3,7 @@
 --     put-there   what the output holds if it is long enough
 --     put-length  its length is unchanged
 --     put-after   the output is written up to the place
---     put-instead the output has as many other bytes there
+--     put-instead bytes of the output are overwritten with as many others
 --     put-within  the place is within the front of the output
 --     put-both    two lists written one after the other are the same as both written at once
 --     put-each    so are several lists

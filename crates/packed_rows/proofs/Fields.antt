@@ -57,10 +57,16 @@ stored-none zero values out to h = rw add-zero (take-append-drop to out)
 stored-none (suc n) values out to h =
     stored-other (bits n 0) values out to (omega arith) ∙ stored-none n values out (to + 1) (omega arith)
 
+-- The number of fields that are named: in two lists of names, and at most.
 pub count-both : (ns ms : List Bool) → count (ns ++ ms) ≡ count ns + count ms
 count-both [] ms = sym (zero-add (count ms))
 count-both (true ∷ ns) ms = omega (arith, count-both ns ms)
 count-both (false ∷ ns) ms = count-both ns ms
+
+pub count-most : (ns : List Bool) → count ns ≤ length ns
+count-most [] = omega arith
+count-most (true ∷ ns) = omega (arith, count-most ns)
+count-most (false ∷ ns) = omega (arith, count-most ns)
 
 -- The fields of a cell: the first four, and then the last two if the rest of the mask names any.
 abbrev pub high : ℕ → ℕ

@@ -1,34 +1,26 @@
 -- The table of entry lengths has at each sound mask the length of an entry with that mask.
-use Prim.Native.Nat.{ℕ, zero, suc, _+_, _/_, _%_, _<_, _≤_}
+use Prim.Native.Nat.{ℕ, zero, suc, _+_, _<_, _≤_}
 use mathlib.Core.Path.{_≡_, ap, _∙_}
-use mathlib.Core.List.{List, _∷_}
+use mathlib.Core.List.{List}
 use mathlib.Core.Bool.{Bool, true, false, cond}
 use native.Mathlib.Omega.{arith}
 use native.Mathlib.Nat.{add-zero, add-suc, suc-add}
-use lib.Dec.{eqb}
 use lib.ListN.{getD}
 use borrow.Author.Tests.{le-ltb}
-use Rattle.packed_rows.specs.Entries.{bits, count, soundMask, fieldsNamed}
+use Rattle.packed_rows.specs.Entries.{bits, soundMask, fieldsNamed}
 use Rattle.packed_rows.specs.Steps.{entryLength, lengthsFrom, entryLengths}
+use Rattle.packed_rows.proofs.Fields.{count-most}
 
 pub lengths-at : (n mask k : ℕ) → k < n → getD (lengthsFrom n mask) k 0 ≡ entryLength (mask + k)
 lengths-at zero mask k h = absurd (omega arith)
 lengths-at (suc n) mask zero h = rw (add-zero mask)
 lengths-at (suc n) mask (suc k) h = lengths-at n (suc mask) k (omega arith) ∙ rw (suc-add mask k, add-suc mask k)
 
-pub count-most : (n m : ℕ) → count (bits n m) ≤ n
-count-most zero m = omega arith
-count-most (suc n) m = go (eqb (m % 2) 1) (count-most n (m / 2))
-  where
-    go : (b : Bool) → count (bits n (m / 2)) ≤ n → count (b ∷ bits n (m / 2)) ≤ suc n
-    go true h = omega arith
-    go false h = omega arith
-
 pub entry-length-most : (mask : ℕ) → entryLength mask < 9
 entry-length-most mask = go (soundMask mask)
   where
     go : (b : Bool) → cond b (2 + fieldsNamed mask) 0 < 9
-    go true = omega (arith, count-most 6 mask)
+    go true = omega (arith, count-most (bits 6 mask))
     go false = omega arith
 
 -- The table read at a sound mask; and the length of a mask that is not sound.

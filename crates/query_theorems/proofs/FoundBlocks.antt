@@ -4,12 +4,10 @@
 use Prim.Native.Nat.{ℕ, zero, suc, _+_, _-_, _≤_, _<_}
 use mathlib.Core.Path.{_≡_, refl, sym, ap, _∙_}
 use mathlib.Core.List.{List}
-use mathlib.Core.Bool.{Bool, true, false, cond}
+use mathlib.Core.Bool.{Bool, true, false}
 use native.Mathlib.Omega.{arith}
-use lib.Dec.{ltb}
+use lib.Dec.{leb, ltb}
 use borrow.Author.Tests.{ltb-true, ltb-false}
-use Rattle.refusal.specs.Numbers.{refusal}
-use Rattle.refusal.specs.declared.Reason.the-variants.{NotThere}
 use Rattle.refusal.specs.declared.Refusal.{Refusal}
 use Rattle.layout.specs.declared.ChunkSpan.{ChunkSpan}
 use Rattle.layout.specs.declared.Layout.{Layout}
@@ -27,9 +25,9 @@ use Rattle.module.specs.Verdicts.{opened}
 use Rattle.queries.specs.Finding.{firstOf, there, blockOf, foundIn, foundIf, found}
 use Rattle.queries.specs.declared.Block.{Block}
 use Rattle.queries.specs.declared.Found.the-variants.{At, Refused}
-use Rattle.queries.proofs.Numbering.{counted-found}
+use Rattle.queries.proofs.Numbering.{counted-found, found-there}
 use Rattle.acceptance.proofs.Holding.{and-says, leb-says, ltb-says}
-use Rattle.acceptance.proofs.Cutting.{after-least}
+use Rattle.acceptance.proofs.Cutting.{after-least, after-next}
 use Rattle.acceptance.proofs.ContentRules.{kind-fills}
 use Rattle.acceptance.proofs.WholeChunks.{WholeAt, SpansWhole}
 use Rattle.acceptance.proofs.OpenModules.{Opens, module-opens}
@@ -42,17 +40,14 @@ pub record Numbered (m : List ℕ) (l : Layout) (kind : RecordKind) (number : �
   pub block : b ≡ blockOf m l kind number
 
 found-in : (m : List ℕ) (l : Layout) (kind : RecordKind) (number : ℕ) (b : Block) → foundIn m l kind number ≡ At b → Numbered m l kind number b
-found-in m l kind number b = go (there m l kind number) refl
-  where
-    go : (t : Bool) → there m l kind number ≡ t → cond t (At (blockOf m l kind number)) (Refused (refusal NotThere 0)) ≡ At b → Numbered m l kind number b
-    go true h e =
-        let says = and-says _ _ .0 h in
-        record {
-          first = leb-says (firstOf kind) number .0 (says .0);
-          counted = ltb-says (number - firstOf kind) (countOf m l kind) .0 (says .1);
-          block = cc;
-        }
-    go false h e = let z : _≡_ {A = ℕ} 0 1 = cc in absurd (omega arith)
+found-in m l kind number b e =
+    let (is-there, block) = found-there m l kind number b e in
+    let says = and-says (leb (firstOf kind) number) (ltb (number - firstOf kind) (countOf m l kind)) .0 is-there in
+    record {
+      first = leb-says (firstOf kind) number .0 (says .0);
+      counted = ltb-says (number - firstOf kind) (countOf m l kind) .0 (says .1);
+      block = block;
+    }
 
 module _ (m : List ℕ) (kind : RecordKind) (number : ℕ) (b : Block) where
   pub found-opened : found m kind number ≡ At b → (l : Layout) × (opened m ≡ Opened l)
@@ -81,12 +76,6 @@ module _ {m : List ℕ} {l : Layout} where
   kind-whole c Sample i h = c .smpl
   kind-whole c VolumeEnvelope i h = c .venv (count-there m (l .spans .venv) i h)
   kind-whole c PanningEnvelope i h = c .penv (count-there m (l .spans .penv) i h)
-
--- Each block ends no later than the end of all blocks.
-after-next : (size : ℕ → ℕ) (n i start : ℕ) → i < n → placeAfter size i start + size (placeAfter size i start) ≤ placeAfter size n start
-after-next size zero i start h = absurd (omega arith)
-after-next size (suc n) zero start h = after-least size n (start + size start)
-after-next size (suc n) (suc i) start h = after-next size n i (start + size start) (omega arith)
 
 first-after : (kind : BlockKind) (span : ChunkSpan) → span .at + 8 ≤ firstBlock kind span
 first-after SongBlock span = omega arith

@@ -15,6 +15,8 @@ use Rattle.blocks.specs.Sizes.{sizeOf, placesFrom, placeAfter}
 use Rattle.blocks.specs.declared.BlockKind.the-variants.{Song as SongBlock}
 use Rattle.blocks.specs.declared.RecordKind.{RecordKind}
 use Rattle.blocks.specs.declared.RecordKind.the-variants.{Song, Instrument, Pattern, Sample, VolumeEnvelope, PanningEnvelope}
+use Rattle.acceptance.proofs.Cutting.{places-length}
+use Rattle.acceptance.proofs.Ahead.{every-any}
 use Rattle.summary.specs.Shown.{nameOf, shownInfo}
 use Rattle.records.specs.Records.{infoRecord, countsRecord, summaryRecord, recordAt}
 
@@ -57,6 +59,4 @@ equal-lengths f size w each (suc n) at =
 -- Records that are as long as their blocks.
 pub block-lengths : (f : ℕ → List ℕ) (size : ℕ → ℕ) → ((at : ℕ) → length (f at) ≡ size at) → (n at : ℕ)
     → at + length (joined (map f (placesFrom size n at))) ≡ placeAfter size n at
-block-lengths f size each zero at = omega arith
-block-lengths f size each (suc n) at =
-    omega (arith, length-append (f at) (joined (map f (placesFrom size n (at + size at)))), each at, block-lengths f size each n (at + size at))
+block-lengths f size each n at = places-length f size n at (every-any each (placesFrom size n at))

@@ -1,6 +1,6 @@
 -- What acceptance of a module provides for the code that replaces a sample: the blocks are inside their chunks, and the result is the module
 -- with the sample's block replaced and INST's new data put at their place.
-use Prim.Native.Nat.{ℕ, zero, suc, _+_, _-_, _≤_, _<_}
+use Prim.Native.Nat.{ℕ, _+_, _-_, _≤_, _<_}
 use mathlib.Core.Path.{_≡_, sym, ap, _∙_}
 use mathlib.Core.List.{List, _++_, map}
 use mathlib.Core.Bool.{true}
@@ -17,7 +17,7 @@ use Rattle.numbers.proofs.PutBytes.{put-there, put-length, put-within}
 use Rattle.layout.specs.declared.ChunkSpan.{ChunkSpan}
 use Rattle.layout.specs.declared.Layout.{Layout}
 use Rattle.layout.specs.declared.Outline.the-variants.{Found}
-use Rattle.blocks.specs.Sizes.{sizeOf, placeAfter, blockAt}
+use Rattle.blocks.specs.Sizes.{sizeOf, blockAt}
 use Rattle.blocks.specs.Filling.{dataEnd}
 use Rattle.blocks.specs.declared.BlockKind.the-variants.{Sample as SampleBlock}
 use Rattle.blocks.specs.declared.RecordKind.the-variants.{Sample}
@@ -25,24 +25,17 @@ use Rattle.module.specs.Verdicts.{opened}
 use Rattle.queries.specs.Finding.{there}
 use Rattle.acceptance.specs.Rules.{Covered}
 use Rattle.acceptance.proofs.Holding.{and-says}
-use Rattle.acceptance.proofs.Cutting.{after-least}
+use Rattle.acceptance.proofs.Cutting.{after-least, after-next}
 use Rattle.acceptance.proofs.ChunkHalf.{Outlined, outline-chunks}
-use Rattle.acceptance.proofs.ChangedData.{dataChanged, data-at}
-use Rattle.acceptance.proofs.Ends.{mid-end, put-end}
+use Rattle.acceptance.proofs.ChangedData.{data-at}
+use Rattle.acceptance.proofs.Ends.{mid-end, put-end, written-length}
 use Rattle.acceptance.proofs.OpenModules.{Opens, module-opens}
-use Rattle.layout.specs.Chunks.{smplIdentifier}
 use Rattle.replace.specs.Replaced.{newFrames, newBlock, replacedSamples, rewrittenInstruments, replacedModule}
 use Rattle.replace.specs.Steps.{contentLength, frontWith, blockReplaced, SampleIn, InstrumentsIn, placeAfterwards}
-use Rattle.replace.proofs.ReplacedChunks.{module-replaced}
+use Rattle.replace.proofs.ReplacedChunks.{smplChanged, module-replaced}
 use Rattle.replace.proofs.ReplacedBytes.{block-set, spliced-is, smpl-before, both-put, both-fits, place-is}
 use Rattle.replace.proofs.WritingInstruments.{instruments-length, instruments-inside}
 use Rattle.replace.proofs.WritingSample.{replaced-length}
-
--- A block ends before the place after all blocks.
-block-ends : (size : ℕ → ℕ) (i n at : ℕ) → i < n → placeAfter size i at + size (placeAfter size i at) ≤ placeAfter size n at
-block-ends size i zero at h = absurd (omega arith)
-block-ends size zero (suc n) at h = after-least size n (at + size at)
-block-ends size (suc i) (suc n) at h = block-ends size i n (at + size at) (omega arith)
 
 module _ (m : List ℕ) (bytes : Bytes m) (l : Layout) (o : opened m ≡ Found l) where
   opens : Opens m l
@@ -77,7 +70,7 @@ module _ (m : List ℕ) (bytes : Bytes m) (l : Layout) (o : opened m ≡ Found l
       starts = after-least (sizeOf SampleBlock m) (sample - 1) (smpl .at + 8);
       ends = omega (
         arith,
-        block-ends (sizeOf SampleBlock m) (sample - 1) (l .samples) (smpl .at + 8) index,
+        after-next (sizeOf SampleBlock m) (l .samples) (sample - 1) (smpl .at + 8) index,
         opens .content .blocks .samples,
       );
       inside = opens .spans .smpl .inside;
@@ -126,7 +119,7 @@ module _ (m : List ℕ) (bytes : Bytes m) (l : Layout) (o : opened m ≡ Found l
             sample-in .inside,
           )
 
-      samples-replaced : outlined .header ++ joined (map (dataChanged smplIdentifier samples (λ chunk. chunk)) (outlined .chunks)) ≡ blockReplaced m smpl at new
+      samples-replaced : outlined .header ++ joined (map (smplChanged samples) (outlined .chunks)) ≡ blockReplaced m smpl at new
       samples-replaced =
           let eight : smpl .at + 8 ≡ smpl .at + 4 + 4 = omega arith in
           let size : length samples ≡ contentLength m smpl at new = omega (arith, samples-length, sample-in .starts, sample-in .ends) in
@@ -156,7 +149,7 @@ module _ (m : List ℕ) (bytes : Bytes m) (l : Layout) (o : opened m ≡ Found l
 
       place-same : length
           (outlined .header
-          ++ joined (map (dataChanged smplIdentifier samples (λ chunk. chunk)) (outlined .mandatory .inst .1 .before))) + 8
+          ++ joined (map (smplChanged samples) (outlined .mandatory .inst .1 .before))) + 8
           ≡ place
       place-same =
           place-is (outlined .rules) (outlined .layout .inst) (outlined .layout .smpl) (outlined .mandatory .inst .1) (outlined .mandatory .smpl .1)
@@ -175,7 +168,7 @@ module _ (m : List ℕ) (bytes : Bytes m) (l : Layout) (o : opened m ≡ Found l
           ∙ ap
           (λ (k : ℕ).
           putAt instruments k
-          (outlined .header ++ joined (map (dataChanged smplIdentifier samples (λ chunk. chunk)) (outlined .chunks))))
+          (outlined .header ++ joined (map (smplChanged samples) (outlined .chunks))))
           place-same
           ∙ ap (putAt instruments place) samples-replaced
 
@@ -197,15 +190,7 @@ module _ (m : List ℕ) (bytes : Bytes m) (l : Layout) (o : opened m ≡ Found l
       module _ (out₀ : List ℕ) (room : length (replacedModule m l sample new) ≤ length out₀) {out₁ : List ℕ}
           (e₁ : out₁ ≡ blockReplaced m smpl at new ++ drop (length (blockReplaced m smpl at new)) out₀) where
         written-size : length out₁ ≡ length out₀
-        written-size =
-            omega (
-              arith,
-              ap length e₁,
-              length-append (blockReplaced m smpl at new) (drop (length (blockReplaced m smpl at new)) out₀),
-              length-drop (length (blockReplaced m smpl at new)) out₀,
-              result-size,
-              room,
-            )
+        written-size = written-length (blockReplaced m smpl at new) out₀ out₁ e₁ (omega (arith, result-size, room))
 
         pub place-inside : {start : ℕ} → start ≡ place → start ≤ length out₁
         place-inside e = omega (arith, e, instruments-fit, written-size, result-size, room)

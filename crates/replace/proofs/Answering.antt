@@ -3,8 +3,7 @@ use Prim.Native.Nat.{ℕ, _-_, _%_, _≤_, _<_}
 use mathlib.Core.Path.{_≡_, refl, sym, ap, _∙_}
 use mathlib.Core.Logic.{_≢_}
 use mathlib.Core.List.{List, _++_}
-use mathlib.Core.Bool.{Bool, true, false, cond}
-use native.Mathlib.Omega.{arith}
+use mathlib.Core.Bool.{true, false}
 use lib.ListN.{length, drop}
 use lib.Dec.{eqb}
 use borrow.Author.Tests.{eq-eqb, ne-eqb, le-leb, lt-leb}
@@ -23,10 +22,11 @@ use Rattle.blocks.specs.Sizes.{blockAt}
 use Rattle.blocks.specs.declared.BlockKind.the-variants.{Sample as SampleBlock}
 use Rattle.blocks.specs.declared.RecordKind.the-variants.{Sample}
 use Rattle.module.specs.Verdicts.{opened}
-use Rattle.queries.specs.Finding.{there, blockOf, foundIn, placeIn}
+use Rattle.queries.specs.Finding.{there, foundIn}
 use Rattle.queries.specs.declared.Block.{Block}
 use Rattle.queries.specs.declared.Found.{Found as FoundBlock}
 use Rattle.queries.specs.declared.Found.the-variants.{At, Refused as NotFound}
+use Rattle.queries.proofs.Numbering.{found-there, not-there}
 use Rattle.replace.specs.Replaced.{newFrames, replacedModule, clearedCount, replaceRules, refusedReplace, replaceIf, replaceAnswer}
 use Rattle.replace.specs.Replaced.{replaceOutputIf, replaceOutput}
 use Rattle.replace.specs.declared.ReplaceAnswer.{ReplaceAnswer}
@@ -81,25 +81,13 @@ module _ (m : List ℕ) (l : Layout) (sample : ℕ) (new out : List ℕ) where
 
 -- A sample that was found, and one that was not.
 module _ (m : List ℕ) (l : Layout) (sample : ℕ) where
-  abbrev foundIf : Bool → FoundBlock
-  foundIf b = cond b (At (blockOf m l Sample sample)) (NotFound (refusal NotThere 0))
-
   pub sample-found : {f : FoundBlock} {b : Block} → f ≡ foundIn m l Sample sample → f ≡ At b
       → (there m l Sample sample ≡ true) × (b .at ≡ blockAt m SampleBlock (l .spans .smpl) (sample - 1))
-  sample-found {f} {b} e g = go (there m l Sample sample) refl (sym e ∙ g)
-    where
-      go : (t : Bool) → there m l Sample sample ≡ t → foundIf t ≡ At b
-          → (there m l Sample sample ≡ true) × (b .at ≡ blockAt m SampleBlock (l .spans .smpl) (sample - 1))
-      go true t h = (t, sym (ap placeIn h))
-      go false t h = let z : _≡_ {A = ℕ} 0 1 = cc in absurd (omega arith)
+  sample-found {f} {b} e g = let (t, is) = found-there m l Sample sample b (sym e ∙ g) in (t, ap (λ (block : Block). block .at) is)
 
   pub sample-lacking : {f : FoundBlock} {r : Refusal} → f ≡ foundIn m l Sample sample → f ≡ NotFound r
       → (there m l Sample sample ≡ false) × (r ≡ refusal NotThere 0)
-  sample-lacking {f} {r} e g = go (there m l Sample sample) refl (sym e ∙ g)
-    where
-      go : (t : Bool) → there m l Sample sample ≡ t → foundIf t ≡ NotFound r → (there m l Sample sample ≡ false) × (r ≡ refusal NotThere 0)
-      go true t h = let z : _≡_ {A = ℕ} 0 1 = cc in absurd (omega arith)
-      go false t h = (t, cc)
+  sample-lacking {f} {r} e g = not-there m l Sample sample r (sym e ∙ g)
 
 -- The answer by the opened module.
 module _ (m : List ℕ) (sample : ℕ) (new out : List ℕ) where

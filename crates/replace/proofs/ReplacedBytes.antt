@@ -28,9 +28,9 @@ use Rattle.acceptance.proofs.Spans.{Found}
 use Rattle.acceptance.proofs.Identifiers.{chunk-named}
 use Rattle.acceptance.proofs.Recorded.{every-among, There}
 use Rattle.acceptance.proofs.ChangedChunks.{SameBut, joined-length, others-same, split-changed, alone-length, stays-as}
-use Rattle.acceptance.proofs.ChangedData.{withData, dataChanged, no-change, data-change, data-same-but, data-there, data-size}
+use Rattle.acceptance.proofs.ChangedData.{withData, no-change, data-change, data-same-but, data-there, data-size}
 use Rattle.replace.specs.Steps.{placeAfterwards}
-use Rattle.replace.proofs.ReplacedChunks.{instChanged, bothChanged}
+use Rattle.replace.proofs.ReplacedChunks.{smplChanged, instChanged, bothChanged}
 
 -- Blocks with one of them replaced, between the bytes before the first and the bytes after the last.
 module _ (m : List ℕ) (size : ℕ → ℕ) where
@@ -83,7 +83,7 @@ module _ (m content block : List ℕ) (at end first next : ℕ) (starts : at + 4
       sides : (a b c d : List ℕ) → a ++ (b ++ (c ++ d)) ≡ (a ++ (b ++ c)) ++ d
       sides a b c d = simp append-assoc
 
--- New data put in a chunk instead of as many: the chunk with these data.
+-- A chunk's data overwritten with new data of the same length: the result is the chunk with the new data.
 module _ (front chunk rest content : List ℕ) (at : ℕ) (place : length front + 8 ≡ at) (c : IsChunk chunk) (below : Bytes chunk)
     (same : length content ≡ number32 chunk 4) where
   chunk-put : putAt content at (front ++ (chunk ++ rest)) ≡ front ++ (withData content chunk ++ rest)
@@ -110,16 +110,12 @@ module _ (front chunk rest content : List ℕ) (at : ℕ) (place : length front 
       back a b c d e = simp append-assoc
 
 -- INST and SMPL of a module: which comes first.
-pub data Order (inst smpl : ChunkSpan) (before after : List (List ℕ)) : Type 0 where
+data Order (inst smpl : ChunkSpan) (before after : List (List ℕ)) : Type 0 where
   instFirst : dataEnd inst ≤ smpl .at → (There before smplLetters → ⊥) → Order inst smpl before after
   smplFirst : dataEnd smpl ≤ inst .at → (There after smplLetters → ⊥) → Order inst smpl before after
 
 module _ {m header : List ℕ} {all : List (List ℕ)} (rules : ChunkRules m header all) {inst smpl : ChunkSpan} (i : Found m all instLetters inst)
     (s : Found m all smplLetters smpl) {c d : List ℕ} (a : Among all instLetters c) (b : Among all smplLetters d) where
-  sizes : (before after : List (List ℕ)) (chunk : List ℕ) → all ≡ before ++ (chunk ∷ after)
-      → length (joined all) ≡ length (joined before) + (length chunk + length (joined after))
-  sizes before after chunk e = joined-length before after chunk e
-
   inst-first : (between : List (List ℕ)) → a .after ≡ between ++ (d ∷ b .after) → Order inst smpl (a .before) (a .after)
   inst-first between e = instFirst
       (omega (
@@ -127,8 +123,8 @@ module _ {m header : List ℕ} {all : List (List ℕ)} (rules : ChunkRules m hea
         i .begins c a,
         s .begins d b,
         i .holds c a .size,
-        sizes (a .before) (a .after) c (a .splits),
-        sizes (b .before) (b .after) d (b .splits),
+        joined-length (a .before) (a .after) c (a .splits),
+        joined-length (b .before) (b .after) d (b .splits),
         joined-length between (b .after) d e,
       ))
       (λ (other, o). rules .once smplLetters Covered.smpl (o .before) (o .after ++ (c ∷ between)) (b .after) other d
@@ -141,14 +137,14 @@ module _ {m header : List ℕ} {all : List (List ℕ)} (rules : ChunkRules m hea
         i .begins c a,
         s .begins d b,
         s .holds d b .size,
-        sizes (a .before) (a .after) c (a .splits),
-        sizes (b .before) (b .after) d (b .splits),
+        joined-length (a .before) (a .after) c (a .splits),
+        joined-length (b .before) (b .after) d (b .splits),
         joined-length between (a .after) c e,
       ))
       (λ (other, o). rules .once smplLetters Covered.smpl (b .before) (between ++ (c ∷ o .before)) (o .after) d other
       (b .splits ∙ rw (e, o .splits) (simp append-assoc)) (b .named) (o .named))
 
-  pub in-order : Order inst smpl (a .before) (a .after)
+  in-order : Order inst smpl (a .before) (a .after)
   in-order = go (two-splits (a .before) (b .before) (sym (a .splits) ∙ b .splits))
     where
       go : (c ≡ d)
@@ -172,26 +168,23 @@ module _ {m header : List ℕ} {all : List (List ℕ)} (rules : ChunkRules m hea
 
   -- The new data of SMPL and of INST.
   module _ (samples instruments : List ℕ) (below : Bytes c) (same : length instruments ≡ inst .length) where
-    abbrev smplChanged : List ℕ → List ℕ
-    smplChanged = dataChanged smplIdentifier samples (λ chunk. chunk)
-
     abbrev both : List ℕ → List ℕ
     both = bothChanged samples instruments
 
     abbrev front : List ℕ
-    front = header ++ joined (map smplChanged (a .before))
+    front = header ++ joined (map (smplChanged samples) (a .before))
 
     abbrev rest : List ℕ
-    rest = joined (map smplChanged (a .after))
+    rest = joined (map (smplChanged samples) (a .after))
 
     whole : IsChunk c
     whole = every-among (rules .whole) a
 
-    agree : SameBut instIdentifier both smplChanged
+    agree : SameBut instIdentifier both (smplChanged samples)
     agree chunk w e = rw e refl
 
     -- INST does not change with SMPL, and gets its new data.
-    inst-stays : smplChanged c ≡ c
+    inst-stays : smplChanged samples c ≡ c
     inst-stays = stays-as (data-change smplIdentifier samples (λ chunk. chunk) no-change) (rules .whole) Covered.inst refl a
 
     inst-given : both c ≡ withData instruments c
@@ -202,25 +195,29 @@ module _ {m header : List ℕ} {all : List (List ℕ)} (rules : ChunkRules m hea
         not-smpl : eqb (number32 c 0) smplIdentifier ≡ false
         not-smpl = rw (chunk-named whole Covered.inst .1 (a .named)) refl
 
-    smpl-replaced : header ++ joined (map smplChanged all) ≡ front ++ (c ++ rest)
+    smpl-replaced : header ++ joined (map (smplChanged samples) all) ≡ front ++ (c ++ rest)
     smpl-replaced =
-        ap (λ (l : List (List ℕ)). header ++ joined (map smplChanged l)) (a .splits)
-        ∙ rw (map-append smplChanged (a .before) (c ∷ a .after), joined-append (map smplChanged (a .before)) (smplChanged c ∷ map smplChanged (a .after)))
-        (rw inst-stays (sym (append-assoc header (joined (map smplChanged (a .before))) (c ++ rest))))
+        ap (λ (l : List (List ℕ)). header ++ joined (map (smplChanged samples) l)) (a .splits)
+        ∙ rw (
+          map-append (smplChanged samples) (a .before) (c ∷ a .after),
+          joined-append (map (smplChanged samples) (a .before))
+              (smplChanged samples c ∷ map (smplChanged samples) (a .after)),
+        )
+        (rw inst-stays (sym (append-assoc header (joined (map (smplChanged samples) (a .before))) (c ++ rest))))
 
     both-replaced : header ++ joined (map both all) ≡ front ++ (withData instruments c ++ rest)
     both-replaced =
-        rw (split-changed Covered.inst agree rules a, joined-append (map smplChanged (a .before)) (both c ∷ map smplChanged (a .after)))
-        (rw inst-given (sym (append-assoc header (joined (map smplChanged (a .before))) (withData instruments c ++ rest))))
+        rw (split-changed Covered.inst agree rules a, joined-append (map (smplChanged samples) (a .before)) (both c ∷ map (smplChanged samples) (a .after)))
+        (rw inst-given (sym (append-assoc header (joined (map (smplChanged samples) (a .before))) (withData instruments c ++ rest))))
 
-    pub both-put : header ++ joined (map both all) ≡ putAt instruments (length front + 8) (header ++ joined (map smplChanged all))
+    pub both-put : header ++ joined (map both all) ≡ putAt instruments (length front + 8) (header ++ joined (map (smplChanged samples) all))
     both-put =
         let number : length instruments ≡ number32 c 4 = omega (arith, same, i .holds c a .size, whole .size) in
         both-replaced
         ∙ sym (chunk-put front c rest instruments (length front + 8) refl whole below number)
         ∙ ap (putAt instruments (length front + 8)) (sym smpl-replaced)
 
-    pub both-fits : length front + 8 + length instruments ≤ length (header ++ joined (map smplChanged all))
+    pub both-fits : length front + 8 + length instruments ≤ length (header ++ joined (map (smplChanged samples) all))
     both-fits =
         omega (arith, ap length smpl-replaced, length-append front (c ++ rest), length-append c rest, same, i .holds c a .size)
 
@@ -228,10 +225,10 @@ module _ {m header : List ℕ} {all : List (List ℕ)} (rules : ChunkRules m hea
     parts-whole : Every IsChunk (a .before) × Every IsChunk (c ∷ a .after)
     parts-whole = every-append (a .before) (c ∷ a .after) .0 (rw (a .splits) at (rules .whole))
 
-    alone : SameBut smplIdentifier smplChanged (λ chunk. chunk)
+    alone : SameBut smplIdentifier (smplChanged samples) (λ chunk. chunk)
     alone = data-same-but smplIdentifier samples (λ chunk. chunk)
 
-    smpl-size : length (smplChanged d) ≡ 8 + length samples
+    smpl-size : length (smplChanged samples d) ≡ 8 + length samples
     smpl-size =
         let w = every-among (rules .whole) b in
         ap length (data-there Covered.smpl samples (λ chunk. chunk) w (b .named)) ∙ data-size samples d w
@@ -239,23 +236,23 @@ module _ {m header : List ℕ} {all : List (List ℕ)} (rules : ChunkRules m hea
     pub place-is : (old new : ℕ) → old ≤ smpl .length → length samples + old ≡ smpl .length + new → length front + 8 ≡ placeAfterwards inst smpl old new
     place-is old new fits grown = go in-order
       where
-        total : length (header ++ joined (map smplChanged all)) + length d ≡ length m + length (smplChanged d)
+        total : length (header ++ joined (map (smplChanged samples) all)) + length d ≡ length m + length (smplChanged samples d)
         total = alone-length Covered.smpl alone rules b
 
         lengths : length (front ++ (c ++ rest)) ≡ length front + (length c + length rest)
         lengths = omega (arith, length-append front (c ++ rest), length-append c rest)
 
-        fronts : length front ≡ 8 + length (joined (map smplChanged (a .before)))
-        fronts = length-append header (joined (map smplChanged (a .before))) ∙ rw (rules .headerSize) refl
+        fronts : length front ≡ 8 + length (joined (map (smplChanged samples) (a .before)))
+        fronts = length-append header (joined (map (smplChanged samples) (a .before))) ∙ rw (rules .headerSize) refl
 
         go : Order inst smpl (a .before) (a .after) → length front + 8 ≡ placeAfterwards inst smpl old new
         go (instFirst ends absent) =
-            let stays : map smplChanged (a .before) ≡ a .before =
+            let stays : map (smplChanged samples) (a .before) ≡ a .before =
             others-same Covered.smpl alone (parts-whole .0) absent ∙ map-itself (a .before) in
             rw (lt-ltb (inst .at) (smpl .at) (omega (arith, ends)))
             (omega (arith, fronts, ap (λ (l : List (List ℕ)). length (joined l)) stays, i .begins c a))
         go (smplFirst ends absent) =
-            let stays : map smplChanged (a .after) ≡ a .after =
+            let stays : map (smplChanged samples) (a .after) ≡ a .after =
             others-same Covered.smpl alone (every-rest (parts-whole .1)) absent ∙ map-itself (a .after) in
             rw (le-ltb (inst .at) (smpl .at) (omega (arith, ends)))
             (omega (
@@ -270,6 +267,6 @@ module _ {m header : List ℕ} {all : List (List ℕ)} (rules : ChunkRules m hea
               ap length (rules .bytes),
               length-append header (joined all),
               rules .headerSize,
-              sizes (a .before) (a .after) c (a .splits),
+              joined-length (a .before) (a .after) c (a .splits),
               grown,
             ))

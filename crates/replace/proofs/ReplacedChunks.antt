@@ -12,7 +12,10 @@ use Rattle.acceptance.proofs.ChangedChunks.{Change, chunks-read, module-changed
 use Rattle.acceptance.proofs.ChangedData.{dataChanged, no-change, data-change, data-read, chunk-read}
 use Rattle.replace.specs.Replaced.{newFrames, replacedSamples, rewrittenInstruments, replacedChunkBytes, replacedModule}
 
--- A chunk of the result: INST gets other data and every other chunk is unchanged; and the same with other data for SMPL.
+-- A chunk of the result: SMPL or INST gets other data and every other chunk is unchanged; and with other data for both.
+abbrev pub smplChanged : List ℕ → List ℕ → List ℕ
+smplChanged samples = dataChanged smplIdentifier samples (λ chunk. chunk)
+
 abbrev pub instChanged : List ℕ → List ℕ → List ℕ
 instChanged instruments = dataChanged instIdentifier instruments (λ chunk. chunk)
 

@@ -4,18 +4,21 @@ use mathlib.Core.Path.{_≡_, refl, sym, ap, _∙_}
 use mathlib.Core.List.{List, [], _∷_, _++_, map, append-assoc}
 use mathlib.Core.Bool.{Bool, true, false, cond}
 use native.Mathlib.Omega.{arith}
-use lib.ListN.{length, take, drop, replicate, length-append}
+use lib.ListN.{length, take, drop, replicate, length-append, length-map}
 use borrow.Rule.Slice.PartMut.{midOf, putMid}
-use Rattle.vocabulary.specs.Lists.{joined, Every, none, also}
+use Rattle.vocabulary.specs.Lists.{joined, Every}
+use Rattle.vocabulary.proofs.EveryOne.{every-of}
 use Rattle.numbers.specs.Numbers.{partOf, bytes16, bytes32, putAt}
 use Rattle.numbers.proofs.Parts.{part-split}
 use Rattle.numbers.proofs.PutBytes.{put-both, put-instead}
 use Rattle.packed_rows.specs.Entries.{count}
+use Rattle.packed_rows.proofs.Fields.{count-both, count-most}
 use Rattle.layout.specs.declared.ChunkSpan.{ChunkSpan}
 use Rattle.blocks.specs.Sizes.{sizeOf, placesFrom, placeAfter, firstBlock}
 use Rattle.blocks.specs.declared.BlockKind.the-variants.{Instrument}
+use Rattle.acceptance.proofs.Holding.{every-place}
 use Rattle.acceptance.proofs.Locating.{part-length}
-use Rattle.acceptance.proofs.Cutting.{after-least}
+use Rattle.acceptance.proofs.Cutting.{after-next, places-count, places-length}
 use Rattle.acceptance.proofs.Ends.{copied}
 use Rattle.acceptance.proofs.Ahead.{AheadBlocks, blocks-first, blocks-each, blocks-turn, blocks-last}
 use Rattle.replace.specs.Replaced.{loopCleared, rewrittenInstrument}
@@ -117,19 +120,14 @@ module _ (test : ℕ → Bool) (size : ℕ → ℕ) where
 
   counted-next : (n at : ℕ) → 0 < n → counted n at ≡ count (test at ∷ []) + counted (n - 1) (at + size at)
   counted-next zero at some = absurd (omega arith)
-  counted-next (suc n) at some = let less : suc n - 1 ≡ n = omega arith in rw less (go (test at) (map test (placesFrom size n (at + size at))))
-    where
-      go : (b : Bool) (bs : List Bool) → count (b ∷ bs) ≡ count (b ∷ []) + count bs
-      go true bs = omega arith
-      go false bs = omega arith
+  counted-next (suc n) at some =
+      let less : suc n - 1 ≡ n = omega arith in
+      rw less (count-both (test at ∷ []) (map test (placesFrom size n (at + size at))))
 
   counted-most : (n at : ℕ) → counted n at ≤ n
-  counted-most zero at = omega arith
-  counted-most (suc n) at = go (test at) (map test (placesFrom size n (at + size at))) (counted-most n (at + size at))
-    where
-      go : (b : Bool) (bs : List Bool) → count bs ≤ n → count (b ∷ bs) ≤ suc n
-      go true bs h = omega arith
-      go false bs h = omega arith
+  counted-most n at =
+      let places : List ℕ = placesFrom size n at in
+      omega (arith, count-most (map test places), length-map places test, places-count size n at)
 
 -- The loop over the instruments: the blocks before are written and counted.
 pub record Clearing (m : List ℕ) (sample frames n start : ℕ) (out₀ out : List ℕ) (at to cleared left : ℕ) : Type 0 where
@@ -193,22 +191,14 @@ instrument-block m at = refl
 -- The new data of INST are as long as the blocks.
 pub instruments-length : (m : List ℕ) (sample frames n at : ℕ) → Every (λ place. place + 50 ≤ length m) (placesFrom (sizeOf Instrument m) n at)
     → at + length (joined (map (rewrittenInstrument m sample frames) (placesFrom (sizeOf Instrument m) n at))) ≡ placeAfter (sizeOf Instrument m) n at
-instruments-length m sample frames zero at none = omega arith
-instruments-length m sample frames (suc n) at (also inside each) =
-    omega (
-      arith,
-      length-append (rewrittenInstrument m sample frames at)
-          (joined
-          (map (rewrittenInstrument m sample frames) (placesFrom (sizeOf Instrument m) n (at + sizeOf Instrument m at)))),
-      instrument-size m sample frames at inside,
-      instrument-block m at,
-      instruments-length m sample frames n (at + sizeOf Instrument m at) each,
-    )
+instruments-length m sample frames n at each =
+    places-length (rewrittenInstrument m sample frames) (sizeOf Instrument m) n at
+    (every-of (λ place inside. instrument-size m sample frames place inside ∙ sym (instrument-block m place)) each)
 
 -- Blocks that end inside the module are inside it.
 pub instruments-inside : (m : List ℕ) (n at : ℕ) → placeAfter (sizeOf Instrument m) n at ≤ length m
     → Every (λ place. place + 50 ≤ length m) (placesFrom (sizeOf Instrument m) n at)
-instruments-inside m zero at h = none
-instruments-inside m (suc n) at h =
-    also {x = at} (omega (arith, after-least (sizeOf Instrument m) n (at + sizeOf Instrument m at), instrument-block m at))
-    (instruments-inside m n (at + sizeOf Instrument m at) h)
+instruments-inside m n at h =
+    let size : ℕ → ℕ = sizeOf Instrument m in
+    every-place (λ (place : ℕ). place + 50 ≤ length m) size n at .1
+    (λ i less. omega (arith, h, after-next size n i at less, instrument-block m (placeAfter size i at)))

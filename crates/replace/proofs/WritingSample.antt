@@ -31,9 +31,6 @@ module _ (new out : List ℕ) (room : length (newBlock new) ≤ length out) wher
     pub head-length : length out₂ ≡ length out
     head-length = omega (arith, ap length head-written, length-append head (drop 8 out), length-drop 8 out)
 
-    pub frames-part : length new ≤ length (midOf 8 (length out₂ - 8) out₂)
-    frames-part = omega (arith, head-length, ap length (mid-end 8 out₂), length-drop 8 out₂)
-
     pub block-written : {mid : List ℕ} → mid ≡ take (length new) new ++ drop (length new) (midOf 8 (length out₂ - 8) out₂)
         → (8 + length new ≡ length (newBlock new)) × (putMid 8 (length out₂ - 8) out₂ mid ≡ newBlock new ++ drop (8 + length new) out)
     block-written {mid} e₃ = let long : length (head ++ new) ≡ 8 + length new = omega arith in (

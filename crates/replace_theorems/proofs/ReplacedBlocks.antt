@@ -1,11 +1,11 @@
 -- The blocks of instruments and samples in a module, each where the encoding of its record is: what replacing a sample makes from the
 -- block at each place is the encoding of the new record.
-use Prim.Native.Nat.{ℕ, zero, suc, _+_, _*_, _/_}
+use Prim.Native.Nat.{ℕ, _+_, _*_, _/_}
 use mathlib.Core.Path.{_≡_, refl, sym, ap, _∙_}
-use mathlib.Core.List.{List, [], _∷_, _++_, map, append-assoc}
+use mathlib.Core.List.{List, _++_, map, append-assoc}
 use mathlib.Core.Bool.{Bool, true, false, cond}
 use native.Mathlib.Omega.{arith}
-use lib.ListN.{length, set, replicate, length-append}
+use lib.ListN.{length, replicate, length-append}
 use Rattle.vocabulary.specs.Lists.{joined}
 use Rattle.numbers.specs.Numbers.{number16, number32, partOf, bytes16, bytes32}
 use Rattle.blocks.specs.declared.BlockKind.the-variants.{Sample as SampleBlock}
@@ -87,9 +87,3 @@ new-frames frames = half (length (joined (map bytes16 frames))) (length frames) 
 
 pub new-block : (frames : List ℕ) → newBlock (joined (map bytes16 frames)) ≡ sampleBytes (sixteenBit frames)
 new-block frames = ap (λ (n : ℕ). bytes32 2 ++ (bytes32 n ++ joined (map bytes16 frames))) (new-frames frames)
-
--- A mapped list with one element replaced.
-pub map-set : {A B : Type 0} (f : A → B) (xs : List A) (i : ℕ) (x : A) → set (map f xs) i (f x) ≡ map f (set xs i x)
-map-set f [] i x = refl
-map-set f (y ∷ xs) zero x = refl
-map-set f (y ∷ xs) (suc i) x = ap (λ (l : List _). f y ∷ l) (map-set f xs i x)

@@ -5,7 +5,7 @@ use mathlib.Core.List.{List, _++_, map, map-map}
 use lib.ListN.{length, set}
 use Rattle.vocabulary.specs.Lists.{joined}
 use Rattle.vocabulary.specs.Letters.{instLetters, smplLetters}
-use Rattle.vocabulary.proofs.MappedLists.{every-map}
+use Rattle.vocabulary.proofs.MappedLists.{map-set, every-map}
 use Rattle.numbers.specs.Numbers.{byteAt, number16, number32, bytes16, bytes32}
 use Rattle.packed_rows.specs.Entries.{count}
 use Rattle.layout.specs.declared.Layout.{Layout}
@@ -14,8 +14,6 @@ use Rattle.blocks.specs.declared.BlockKind.the-variants.{Instrument as Instrume
 use Rattle.acceptance.specs.Rules.{IsChunk, Covered}
 use Rattle.acceptance.proofs.Spans.{LayoutOf}
 use Rattle.acceptance.proofs.Locating.{PartAt}
-use Rattle.acceptance.proofs.Cutting.{part-rest}
-use Rattle.acceptance.proofs.ChunkHalf.{span-part}
 use Rattle.replace.specs.Replaced.{newFrames, newBlock, sampleBlock, replacedSamples, loopCleared, rewrittenInstrument}
 use Rattle.replace.specs.Replaced.{rewrittenInstruments, clearedCount, sampleReplacedIf, sampleReplaced}
 use Rattle.replace.proofs.ReplacedChunks.{bothChanged, module-replaced}
@@ -23,7 +21,7 @@ use Rattle.format.specs.Description.{Instrument, Sample, Chunk, NAME, INFO, SON
 use Rattle.format.specs.Description.{Description}
 use Rattle.format.specs.Encoding.{instrumentBytes, sampleBytes, chunkBytes, headerBytes, encoded}
 use Rattle.format.specs.WellFormed.{In, InstrumentFits, WellFormed}
-use Rattle.format.proofs.EncodedModule.{in-among, encoded-chunks}
+use Rattle.format.proofs.EncodedModule.{content-there, encoded-chunks}
 use Rattle.format.proofs.Placed.{encoded-opens, info-numbers}
 use Rattle.format.proofs.ShownInstruments.{instrument-sized}
 use Rattle.format.proofs.ShownSamples.{sample-sized}
@@ -34,7 +32,7 @@ use Rattle.replace_theorems.specs.ReplacedDescription.{sixteenBit, loopO
 use Rattle.replace_theorems.specs.ReplacedDescription.{replacedDescription}
 use Rattle.acceptance.proofs.Cutting.{places-made}
 use Rattle.replace_theorems.proofs.ReplacedBlocks.{cleared-same, instrument-rewritten, sample-copied}
-use Rattle.replace_theorems.proofs.ReplacedBlocks.{new-frames, new-block, map-set}
+use Rattle.replace_theorems.proofs.ReplacedBlocks.{new-frames, new-block}
 
 -- What is made from the places of the instruments, and from those of the samples.
 module _ (d : Description) (w : WellFormed d) {l : Layout}
@@ -46,18 +44,10 @@ module _ (d : Description) (w : WellFormed d) {l : Layout}
   firstSample = l .spans .smpl .at + 8
 
   instruments-there : PartAt (encoded d) firstInstrument (joined (map instrumentBytes (w .instruments)))
-  instruments-there =
-      let content : List ℕ = joined (map instrumentBytes (w .instruments)) in
-      let among = in-among (d .chunks) (INST (w .instruments)) (w .instrumentsThere) refl in
-      part-rest (instLetters ++ bytes32 (length content)) content
-      (span-part (layout .inst .holds (chunkBytes (INST (w .instruments))) among))
+  instruments-there = content-there (d .chunks) (INST (w .instruments)) (w .instrumentsThere) refl (layout .inst)
 
   samples-there : PartAt (encoded d) firstSample (joined (map sampleBytes (w .samples)))
-  samples-there =
-      let content : List ℕ = joined (map sampleBytes (w .samples)) in
-      let among = in-among (d .chunks) (SMPL (w .samples)) (w .samplesThere) refl in
-      part-rest (smplLetters ++ bytes32 (length content)) content
-      (span-part (layout .smpl .holds (chunkBytes (SMPL (w .samples))) among))
+  samples-there = content-there (d .chunks) (SMPL (w .samples)) (w .samplesThere) refl (layout .smpl)
 
   instruments-many : l .instruments ≡ length (w .instruments)
   instruments-many = info-numbers d w layout (w .info) (w .infoThere) .0 ∙ sym (w .lists .instrumentCount)

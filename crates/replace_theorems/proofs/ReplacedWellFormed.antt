@@ -1,18 +1,19 @@
 -- A description with a sample replaced is well formed, if its encoding is within the limit: the new sample fits, and so does every
 -- instrument, because its loop is cleared or lies within its sample.
-use Prim.Native.Nat.{ℕ, zero, suc, _+_, _-_, _≤_, _<_}
+use Prim.Native.Nat.{ℕ, _+_, _-_, _≤_, _<_}
 use mathlib.Core.Path.{_≡_, refl, sym, ap, subst, _∙_}
 use mathlib.Core.Logic.{_↔_, Iff·rfl}
-use mathlib.Core.List.{List, [], _∷_, map}
+use mathlib.Core.List.{List, map}
 use mathlib.Core.Bool.{Bool, true, false, cond, _||_}
 use native.Mathlib.Omega.{arith}
-use lib.ListN.{length, getD, set, length-append, length-map, length-set}
+use lib.ListN.{length, getD, set, length-map, length-set}
 use lib.Seq.{getD-set-same, getD-set-other}
 use lib.Dec.{eqb, leb}
 use borrow.Author.Tests.{leb-true, leb-false, eqb-true, eqb-false}
-use Rattle.vocabulary.specs.Lists.{joined, Every, none, also}
-use Rattle.vocabulary.proofs.EveryOne.{every-at, every-of}
+use Rattle.vocabulary.specs.Lists.{joined, Every}
+use Rattle.vocabulary.proofs.EveryOne.{every-at, every-set, every-of}
 use Rattle.vocabulary.proofs.MappedLists.{every-map}
+use Rattle.vocabulary.proofs.JoinedLists.{each-inside}
 use Rattle.numbers.specs.Numbers.{bytes16}
 use Rattle.acceptance.proofs.Holding.{and-says, eqb-says, ltb-says}
 use Rattle.acceptance.proofs.FirstBroken.{never}
@@ -28,18 +29,6 @@ use Rattle.format.proofs.ChangedDescriptions.{isKind, stays, holds, Change, in-
 use Rattle.replace_theorems.specs.ReplacedDescription.{sixteenBit, loopOutside, withoutLoop, clearedInstrument}
 use Rattle.replace_theorems.specs.ReplacedDescription.{replacedChunk, replacedDescription}
 use Rattle.replace_theorems.proofs.ReplacedModule.{replaced-encoded}
-
--- Each encoding is within the joined encodings; and a list with one element replaced.
-each-inside : {A : Type 0} (f : A → List ℕ) (xs : List A) → Every (λ x. length (f x) ≤ length (joined (map f xs))) xs
-each-inside f [] = none
-each-inside f (x ∷ xs) =
-    let all = length-append (f x) (joined (map f xs)) in
-    also {x = x} (omega arith) (every-of (λ y h. omega arith) (each-inside f xs))
-
-every-set : {A : Type 0} {P : A → Type 0} (i : ℕ) (x : A) {xs : List A} → P x → Every P xs → Every P (set xs i x)
-every-set i x p none = none
-every-set zero x p (also q e) = also p e
-every-set (suc i) x p (also q e) = also q (every-set i x p e)
 
 -- E3: what it means that a loop is outside.
 pub outside-says : (sample frames : ℕ) (i : Instrument)

@@ -1,9 +1,10 @@
--- A property of every element of a list: for the first element and the rest, for two lists one after the other, for the element at a place.
+-- A property of every element of a list: for the first element and the rest, for two lists one after the other, for the element at a place,
+-- and for the list with one element replaced.
 use Prim.Native.Nat.{ℕ, zero, suc, _<_}
 use mathlib.Core.Logic.{_↔_}
 use mathlib.Core.List.{List, [], _∷_, _++_}
 use native.Mathlib.Omega.{arith}
-use lib.ListN.{length, getD}
+use lib.ListN.{length, getD, set}
 use Rattle.vocabulary.specs.Lists.{Every, none, also}
 
 module _ {A : Type 0} {P : A → Type 0} where
@@ -40,6 +41,11 @@ module _ {A : Type 0} {P : A → Type 0} where
   every-at i other h none = absurd (omega arith)
   every-at zero other h (also p e) = p
   every-at (suc i) other h (also p e) = every-at i other (omega arith) e
+
+  pub every-set : {xs : List A} (i : ℕ) (x : A) → P x → Every P xs → Every P (set xs i x)
+  every-set i x p none = none
+  every-set zero x p (also q e) = also p e
+  every-set (suc i) x p (also q e) = also q (every-set i x p e)
 
   pub every-of : {Q : A → Type 0} {xs : List A} → ((x : A) → P x → Q x) → Every P xs → Every Q xs
   every-of h none = none

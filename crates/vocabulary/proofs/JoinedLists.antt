@@ -1,10 +1,11 @@
--- Joined lists: two lists of lists, one more list at the end, and lists that a function does not lengthen.
+-- Joined lists: two lists of lists, one more list at the end, lists that a function does not lengthen, and the length of each list.
 use Prim.Native.Nat.{_≤_}
 use mathlib.Core.Path.{_≡_, refl, sym}
 use mathlib.Core.List.{List, [], _∷_, _++_, map, append-assoc, append-nil}
 use native.Mathlib.Omega.{arith}
 use lib.ListN.{length, length-append}
 use Rattle.vocabulary.specs.Lists.{joined, Every, none, also}
+use Rattle.vocabulary.proofs.EveryOne.{every-of}
 
 pub joined-append : {A : Type 0} (xs ys : List (List A)) → joined (xs ++ ys) ≡ joined xs ++ joined ys
 joined-append [] ys = refl
@@ -24,3 +25,10 @@ pub joined-shorter : {A : Type 0} (g : List A → List A) {xs : List (List A)}
 joined-shorter g none = omega arith
 joined-shorter g (also {x = x} {xs = xs} h e) =
     omega (arith, length-append (g x) (joined (map g xs)), length-append x (joined xs), joined-shorter g e)
+
+-- Each list is no longer than all of them joined.
+pub each-inside : {A B : Type 0} (f : B → List A) (xs : List B) → Every (λ x. length (f x) ≤ length (joined (map f xs))) xs
+each-inside f [] = none
+each-inside f (x ∷ xs) =
+    let all = length-append (f x) (joined (map f xs)) in
+    also {x = x} (omega arith) (every-of (λ y h. omega arith) (each-inside f xs))

@@ -1,9 +1,10 @@
--- Mapped lists: two lists one after the other, a split of a mapped list, a property of every element, and two functions that agree.
-use Prim.Native.Nat.{ℕ}
+-- Mapped lists: two lists one after the other, one element replaced, a split of a mapped list, a property of every element, and two functions that agree.
+use Prim.Native.Nat.{ℕ, zero, suc}
 use mathlib.Core.Path.{_≡_, refl, sym, ap, _∙_}
 use mathlib.Core.Logic.{_↔_}
 use mathlib.Core.List.{List, [], _∷_, _++_, map}
 use native.Mathlib.Omega.{arith}
+use lib.ListN.{set}
 use Rattle.vocabulary.specs.Lists.{Every, none, also}
 use Rattle.vocabulary.proofs.EveryOne.{every-first, every-rest}
 
@@ -14,6 +15,12 @@ map-append f (x ∷ xs) ys = ap (λ (l : List _). f x ∷ l) (map-append f xs ys
 pub map-itself : {A : Type 0} (xs : List A) → map (λ (x : A). x) xs ≡ xs
 map-itself [] = refl
 map-itself (x ∷ xs) = ap (λ (l : List _). x ∷ l) (map-itself xs)
+
+-- A mapped list with one element replaced.
+pub map-set : {A B : Type 0} (f : A → B) (xs : List A) (i : ℕ) (x : A) → set (map f xs) i (f x) ≡ map f (set xs i x)
+map-set f [] i x = refl
+map-set f (y ∷ xs) zero x = refl
+map-set f (y ∷ xs) (suc i) x = ap (λ (l : List _). f y ∷ l) (map-set f xs i x)
 
 -- A split of a mapped list comes from a split of the list.
 pub record MapSplit {A B : Type 0} (f : A → B) (all : List A) (before : List B) (chunk : B) (after : List B) : Type 0 where
