@@ -1,6 +1,6 @@
 //! The corpus: fixed test cases for the library, in one part for each conformance program.
 //!
-//! The cases of a part follow each other. All numbers are big-endian. Kinds 1 to 3 are for conformance_patterns, kinds 4 to 6 for
+//! The cases of a part follow each other. All numbers are big-endian. Kinds 1 to 3 are for conformance_patterns, kinds 4 to 7 for
 //! conformance_modules:
 //!
 //! - kind 1, a stream: rows (8), tracks (8), row (8), track (8), room (4), length (4), the stream;
@@ -10,8 +10,10 @@
 //! - kind 5, the records of a module: song, entry, instrument, envelope, pattern, row, track, sample and frame (8 each), room (4),
 //!   length (4), the module;
 //! - kind 6, a sample to replace: its number (8), room (4), length of the new frames in bytes (4), length of the module (4), the new
-//!   frames, the module.
+//!   frames, the module;
+//! - kind 7, two modules to compare: room (4), length of the first (4), length of the second (4), the first, the second.
 
+mod comparisons;
 mod modules;
 mod records;
 mod replacements;
@@ -65,6 +67,11 @@ pub enum Case {
         room: u32,
         frames: Vec<u8>,
         module: Vec<u8>,
+    },
+    Comparison {
+        room: u32,
+        first: Vec<u8>,
+        second: Vec<u8>,
     },
 }
 
@@ -172,6 +179,18 @@ pub fn encoded(cases: &[Case]) -> Vec<u8> {
                 corpus.extend(frames);
                 corpus.extend(module);
             }
+            Case::Comparison {
+                room,
+                first,
+                second,
+            } => {
+                corpus.push(7);
+                corpus.extend(room.to_be_bytes());
+                corpus.extend((first.len() as u32).to_be_bytes());
+                corpus.extend((second.len() as u32).to_be_bytes());
+                corpus.extend(first);
+                corpus.extend(second);
+            }
         }
     }
     corpus
@@ -233,6 +252,16 @@ pub fn take(corpus: &[u8]) -> Option<(Case, &[u8])> {
                 module,
             }
         }
+        7 => {
+            let [room, first, second] = take_lengths(&mut left)?;
+            let first = take_bytes(&mut left, first)?.to_vec();
+            let second = take_bytes(&mut left, second)?.to_vec();
+            Case::Comparison {
+                room,
+                first,
+                second,
+            }
+        }
         _ => return None,
     };
     Some((case, left))
@@ -267,9 +296,20 @@ pub fn programs() -> [(&'static str, Vec<Case>); 2] {
         ("conformance_patterns", pattern_cases()),
         (
             "conformance_modules",
-            [module_cases(), record_cases(), replacement_cases()].concat(),
+            [
+                module_cases(),
+                record_cases(),
+                replacement_cases(),
+                comparison_cases(),
+            ]
+            .concat(),
         ),
     ]
+}
+
+/// The cases of kind 7.
+pub fn comparison_cases() -> Vec<Case> {
+    comparisons::cases()
 }
 
 /// The cases of kind 6.

@@ -4,6 +4,7 @@ mod records;
 
 use std::fmt::Write;
 
+use crate::compare::compare;
 use crate::corpus::{take, Case};
 use crate::pattern::{cell, check, pack, repack, shown, unpack, Cell, Note, Refusal};
 use crate::replace::{replace_sample, Replaced};
@@ -93,6 +94,16 @@ fn lines(case: &Case, text: &mut String) {
                 replaced(text, room, |out| {
                     replace_sample(module, *sample, frames, out)
                 });
+            }
+        }
+        Case::Comparison {
+            room,
+            first,
+            second,
+        } => {
+            // The number of entries is where other calls have a length.
+            for (first, second) in [(first, second), (second, first)] {
+                written(text, "compared", *room, |out| compare(first, second, out));
             }
         }
     }

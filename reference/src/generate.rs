@@ -174,7 +174,13 @@ impl Limits {
 
 /// An accepted module: records within the limits, other chunks, and any order of chunks that the rules allow.
 pub fn module(random: &mut Random, most: &Limits) -> Draft {
-    let mut draft = tune(random, most).draft();
+    let tune = tune(random, most);
+    arranged(random, &tune, most)
+}
+
+/// A module of these records, with other chunks, and with its chunks in any order that the rules allow.
+pub fn arranged(random: &mut Random, tune: &Tune, most: &Limits) -> Draft {
+    let mut draft = tune.draft();
     if random.chance(70) {
         shuffle(random, &mut draft);
     }

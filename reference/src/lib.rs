@@ -9,12 +9,14 @@
 pub mod all_records;
 pub mod blocks;
 pub mod chunks;
+pub mod compare;
 pub mod corpus;
 pub mod draft;
 pub mod expect;
 pub mod generate;
 pub mod listing;
 pub mod module;
+pub mod pairs;
 pub mod part;
 pub mod pattern;
 pub mod records;

@@ -3,6 +3,8 @@
 //! A stream is read into rows of entries, and every call works on these. The check only reads them, the unpacker applies them to cells, and
 //! the repacker packs the resulting cells.
 
+use std::collections::BTreeMap;
+
 use crate::refusal::{broken, not_there, out_of_range, too_short};
 
 pub use crate::refusal::Refusal;
@@ -29,6 +31,9 @@ pub struct Cell {
     pub command2: u8,
     pub parameter2: u8,
 }
+
+/// The place of a field: its row from 0, its track from 1, and its place in the cell, from 1 to 6.
+pub type FieldPlace = (u16, u16, u16);
 
 /// Valid rows and tracks: at most 65,535 rows; an even number of tracks from 4 to 254.
 #[derive(Clone, Copy)]
@@ -215,6 +220,22 @@ pub fn cell(stream: &[u8], rows: u64, tracks: u64, row: u64, track: u64) -> Resu
         .nth(track as usize - 1)
         .expect("the track is in range");
     Ok(shown(wanted.try_into().expect("a cell has six bytes")))
+}
+
+/// The fields of all cells that are not 0. Refusals: 16, 15.
+pub fn fields(stream: &[u8], rows: u64, tracks: u64) -> Result<BTreeMap<FieldPlace, u8>, Refusal> {
+    let mut fields = BTreeMap::new();
+    for (entries, row) in read(stream, Shape::new(rows, tracks)?)?.iter().zip(0..) {
+        for entry in entries {
+            for (named, field) in entry.named.into_iter().zip(1..) {
+                if let Some(value) = named {
+                    fields.insert((row, u16::from(entry.track), field), value);
+                }
+            }
+        }
+    }
+    fields.retain(|_, value| *value != 0);
+    Ok(fields)
 }
 
 /// The fields of a cell in an answer.

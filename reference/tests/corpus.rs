@@ -2,9 +2,10 @@
 
 use std::collections::BTreeSet;
 
+use reference::compare::differences;
 use reference::corpus::{
-    encoded, module_cases, pattern_cases, programs, record_cases, replacement_cases, take, Case,
-    Query,
+    comparison_cases, encoded, module_cases, pattern_cases, programs, record_cases,
+    replacement_cases, take, Case, Query,
 };
 use reference::draft::{Pattern, Tune};
 use reference::expect::expected;
@@ -513,12 +514,72 @@ fn replacements_of_more_than_65536_bytes() {
     }
 }
 
+fn comparison(room: u32, first: &[u8], second: &[u8]) -> Case {
+    Case::Comparison {
+        room,
+        first: first.to_vec(),
+        second: second.to_vec(),
+    }
+}
+
+/// The module `one_loop`, and the same with another byte in the name of its instrument and another last byte of its sample.
+#[test]
+fn the_lines_of_comparisons() {
+    let first = one_loop();
+    let mut second = one_loop();
+    second[42] = 0x78;
+    second[117] = 0x23;
+    let corpus = encoded(&[
+        comparison(20, &first, &second),
+        comparison(19, &first, &second),
+        comparison(22, &first, &second),
+        comparison(0, &first, &first),
+        comparison(2, &first, &first),
+    ]);
+    assert_eq!(corpus.len(), 5 * (13 + 118 + 118));
+    assert_eq!(
+        corpus[..17],
+        *b"\x07\x00\x00\x00\x14\x00\x00\x00\x76\x00\x00\x00\x76DBM0"
+    );
+    let list = "0004000100000000000000070001000000000000";
+    let short = "aa".repeat(19);
+    assert_eq!(
+        expected(&corpus),
+        format!(
+            "compared 0 0 2 {list}\ncompared 0 0 2 {list}\n\
+             compared 17 20 0 {short}\ncompared 17 20 0 {short}\n\
+             compared 0 0 2 {list}aaaa\ncompared 0 0 2 {list}aaaa\n\
+             compared 0 0 0 \ncompared 0 0 0 \n\
+             compared 0 0 0 aaaa\ncompared 0 0 0 aaaa\n\
+             cases 5\n"
+        )
+    );
+}
+
+/// The refusal is that of the first module, then that of the second.
+#[test]
+fn the_lines_of_refused_comparisons() {
+    let module = one_loop();
+    let corpus = encoded(&[
+        comparison(1, &module[..117], &module),
+        comparison(0, &module[..20], &module[..117]),
+        comparison(0, &module, &[]),
+    ]);
+    assert_eq!(
+        expected(&corpus),
+        "compared 4 100 0 aa\ncompared 4 100 0 aa\n\
+         compared 4 8 0 \ncompared 4 100 0 \n\
+         compared 2 0 0 \ncompared 2 0 0 \n\
+         cases 3\n"
+    );
+}
+
 #[test]
 fn a_cut_case_or_an_unknown_kind_ends_the_run() {
     assert_eq!(expected(&[]), "cases 0\n");
     assert_eq!(expected(&[0]), "cases 0\n");
     assert_eq!(expected(&[4, 0, 0]), "cases 0\n");
-    assert_eq!(expected(&[7, 0, 0, 0, 0, 0, 0, 0, 0]), "cases 0\n");
+    assert_eq!(expected(&[8, 0, 0, 0, 0, 0, 0, 0, 0]), "cases 0\n");
     let shown = encoded(&[Case::Shown([0; 6])]);
     let line = "shown 0 0 0 0 0 0 0 0 0\n";
     assert_eq!(
@@ -540,6 +601,7 @@ fn a_cut_case_or_an_unknown_kind_ends_the_run() {
         },
         records(QUERY, 3, &[b'D'; 9]),
         replacement(1, 3, &[1, 2], &[b'D'; 9]),
+        comparison(3, &[b'D'; 9], &[b'D'; 4]),
     ];
     for case in whole {
         let case = encoded(&[case]);
@@ -588,6 +650,11 @@ fn more_room_than_65536_is_taken_as_that() {
                 "aa".repeat(65_536)
             )
         );
+        let line = format!("compared 2 0 0 {}\n", "aa".repeat(65_536));
+        assert_eq!(
+            expected(&encoded(&[comparison(room, &[], &[])])),
+            format!("{line}{line}cases 1\n")
+        );
     }
 }
 
@@ -632,7 +699,7 @@ fn the_first_program_has_packed_rows_and_the_second_modules() {
         ("conformance_patterns", "conformance_modules")
     );
     assert!(kinds(&patterns).iter().all(|kind| (1..=3).contains(kind)));
-    assert!(kinds(&modules).iter().all(|kind| (4..=6).contains(kind)));
+    assert!(kinds(&modules).iter().all(|kind| (4..=7).contains(kind)));
     assert!(kinds(&modules).is_sorted());
 }
 
@@ -651,7 +718,6 @@ fn the_cases_of_modules_and_records_stay_as_they_are() {
     let [_, (_, modules)] = programs();
     let all = encoded(&modules);
     assert!(all.starts_with(&before));
-    assert!(all.len() < 400_000, "{} bytes", all.len());
 }
 
 #[test]
@@ -996,4 +1062,77 @@ fn the_replacements_have_every_kind_of_loop() {
             flags != 0 && end > 255 && end > count && end % 256 < count
         })
     });
+}
+
+/// The room, the two modules and the answer of each comparison, in both orders.
+fn comparisons() -> Vec<(usize, Vec<u8>, Vec<u8>)> {
+    let both = comparison_cases().into_iter().flat_map(|case| match case {
+        Case::Comparison {
+            room,
+            first,
+            second,
+        } => {
+            let room = room.min(65_536) as usize;
+            [(room, first.clone(), second.clone()), (room, second, first)]
+        }
+        other => panic!("{other:?}"),
+    });
+    both.collect()
+}
+
+#[test]
+fn the_comparisons_have_every_kind_of_refusal() {
+    let refusal = |module: &[u8]| check(module).err().map_or(0, |refusal| refusal.number);
+    let found: BTreeSet<(u64, u64)> = comparisons()
+        .iter()
+        .map(|(_, first, second)| (refusal(first), refusal(second)))
+        .collect();
+    for number in 2..=15 {
+        // As the first, as the second, and as the first with another that is refused.
+        assert!(found.contains(&(number, 0)), "{number}");
+        assert!(found.contains(&(0, number)), "{number}");
+        let with_another = |&(one, other): &(u64, u64)| one == number && ![0, one].contains(&other);
+        assert!(found.iter().any(with_another), "{number}");
+    }
+}
+
+#[test]
+fn the_comparisons_have_every_kind_of_difference() {
+    let comparisons = comparisons();
+    let lists: Vec<(usize, Vec<[u16; 5]>)> = comparisons
+        .iter()
+        .filter_map(|(room, first, second)| {
+            let found = differences(first, second).ok()?;
+            Some((*room, found.into_iter().collect()))
+        })
+        .collect();
+    let count = |holds: &dyn Fn(usize, &[[u16; 5]]) -> bool| {
+        let all = lists.iter();
+        all.filter(|(room, list)| holds(*room, list)).count()
+    };
+    for kind in 1..=8 {
+        let several = count(&|_, list| list.iter().any(|entry| entry[0] == kind));
+        assert!(several >= 8, "kind {kind}: {several}");
+        let alone = count(&|_, list| list.iter().all(|entry| entry[0] == kind) && !list.is_empty());
+        assert!(alone >= 2 || kind == 2, "kind {kind} alone: {alone}");
+    }
+    for number in 0..5 {
+        let info = count(&|_, list| list.contains(&[2, number, 0, 0, 0]));
+        assert!(info >= 4, "INFO {number}: {info}");
+    }
+    for field in 1..=6 {
+        let cells = count(&|_, list| list.iter().any(|entry| entry[4] == field));
+        assert!(cells >= 4, "field {field}: {cells}");
+    }
+    assert!(count(&|_, list| list.is_empty()) >= 20);
+    assert!(count(&|_, list| list.iter().any(|entry| entry[1] > 255)) >= 2);
+    assert!(count(&|_, list| list.iter().any(|entry| entry[2] > 255)) >= 2);
+    // Outputs around the needed length.
+    assert!(count(&|room, list| room == 10 * list.len()) >= 100);
+    assert!(count(&|room, list| room + 1 == 10 * list.len()) >= 8);
+    assert!(count(&|room, list| room == 10 * list.len() + 1) >= 8);
+    assert!(count(&|room, list| room == 0 && !list.is_empty()) >= 8);
+    assert!(count(&|room, _| room == 65_536) >= 2);
+    let length = encoded(&comparison_cases()).len();
+    assert!(length <= 100_000, "{length} bytes");
 }

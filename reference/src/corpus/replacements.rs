@@ -93,6 +93,26 @@ fn three() -> Tune {
     }
 }
 
+/// Changes of `small`: one for each refusal except 1, and two for 4 and for 11.
+pub(super) const FAULTS: [fn(&mut Draft); 16] = [
+    |draft| draft.header[3] = b'1',
+    |draft| draft.header[4] = 1,
+    |draft| draft.tail = vec![0; 3],
+    |draft| draft.chunk(b"SMPL").stored_length = Some(11),
+    |draft| draft.chunk(b"SMPL").name = *b"SMPl",
+    |draft| draft.chunks.push(draft.chunks[4].clone()),
+    |draft| draft.chunks.swap(0, 1),
+    |draft| drop(draft.chunks.remove(3)),
+    |draft| draft.chunks.push(Chunk::new(b"NAME", vec![0; 3])),
+    |draft| draft.put(b"INFO", 8, &[0, 5]),
+    |draft| draft.chunk(b"SMPL").data.push(0),
+    |draft| draft.put(b"SMPL", 3, &[3]),
+    |draft| draft.put(b"INST", 30, &[0, 2]),
+    |draft| draft.put(b"INST", 32, &[0, 65]),
+    |draft| draft.put(b"INST", 42, &[0, 0, 0, 3]),
+    |draft| draft.put(b"PATT", 6, &[1]),
+];
+
 /// INST before SMPL, and after it.
 const BOTH_ORDERS: [[Name; 2]; 2] = [[*b"INFO", *b"INST"], [*b"INFO", *b"SMPL"]];
 
@@ -383,25 +403,7 @@ impl CaseBuilder {
     /// A module for each refusal except 1, alone, and with a sample that does not exist, an odd number of bytes and a short output. A loop
     /// outside the old sample is refused, also if it fits the new frames.
     fn refused(&mut self) {
-        let faults: [fn(&mut Draft); 16] = [
-            |draft| draft.header[3] = b'1',
-            |draft| draft.header[4] = 1,
-            |draft| draft.tail = vec![0; 3],
-            |draft| draft.chunk(b"SMPL").stored_length = Some(11),
-            |draft| draft.chunk(b"SMPL").name = *b"SMPl",
-            |draft| draft.chunks.push(draft.chunks[4].clone()),
-            |draft| draft.chunks.swap(0, 1),
-            |draft| drop(draft.chunks.remove(3)),
-            |draft| draft.chunks.push(Chunk::new(b"NAME", vec![0; 3])),
-            |draft| draft.put(b"INFO", 8, &[0, 5]),
-            |draft| draft.chunk(b"SMPL").data.push(0),
-            |draft| draft.put(b"SMPL", 3, &[3]),
-            |draft| draft.put(b"INST", 30, &[0, 2]),
-            |draft| draft.put(b"INST", 32, &[0, 65]),
-            |draft| draft.put(b"INST", 42, &[0, 0, 0, 3]),
-            |draft| draft.put(b"PATT", 6, &[1]),
-        ];
-        for fault in faults {
+        for fault in FAULTS {
             let mut draft = small().draft();
             fault(&mut draft);
             let module = draft.bytes();
