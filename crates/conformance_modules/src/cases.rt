@@ -1,4 +1,5 @@
 // Running the cases, one after the other.
+use crate::compared::print_compared_twice;
 use crate::replaced::Replacement;
 use crate::replaced::print_replaced_twice;
 use crate::shown::Asked;
@@ -136,6 +137,27 @@ fn replacement_case(s: &[u8], out: &mut [u8], line: &mut [u8]) -> usize
     end
 }
 
+fn comparison_case(s: &[u8], out: &mut [u8], line: &mut [u8]) -> usize
+    ensures { λ r. ⌜ r ≤ length (now (s .entry)) ⌝ }
+{
+    if s.len() < 13 {
+        return 0;
+    }
+    let first = four_bytes(s, 5);
+    if s.len() - 13 < first {
+        return 0;
+    }
+    let start = 13 + first;
+    let second = four_bytes(s, 9);
+    if s.len() - start < second {
+        return 0;
+    }
+    let end = start + second;
+    let room = within(four_bytes(s, 1), out);
+    print_compared_twice(&s[13..start], &s[start..end], &mut out[..room], line);
+    end
+}
+
 fn case(s: &[u8], out: &mut [u8], line: &mut [u8]) -> usize
     ensures { λ r. ⌜ r ≤ length (now (s .entry)) ⌝ }
 {
@@ -151,6 +173,9 @@ fn case(s: &[u8], out: &mut [u8], line: &mut [u8]) -> usize
     }
     if kind == 6 {
         return replacement_case(s, out, line);
+    }
+    if kind == 7 {
+        return comparison_case(s, out, line);
     }
     0
 }

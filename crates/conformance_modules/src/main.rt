@@ -7,10 +7,13 @@
 //   5, song u64, entry u64, instrument u64, envelope u64, pattern u64, row u64, track u64, sample u64, frame u64, room u32, length
 //      u32, a module of that length: prints the answer of each query at these indices;
 //   6, sample u64, room u32, frames length u32, module length u32, the new frames, the module: prints the answer of replacing the
-//      sample, with that room and with an output as long as the module and the frames together.
+//      sample, with that room and with an output as long as the module and the frames together;
+//   7, room u32, first length u32, second length u32, the first module, the second module: prints the answer of comparing them, and
+//      the answer with the two exchanged.
 // Room is the length of the lent output. Every output has at most 65,536 bytes; a greater length is taken as that. Each byte of
 // the output is 170 before the call. Any other first byte, or a case that is cut, ends the run. The last line is the number of cases.
 mod cases;
+mod compared;
 mod replaced;
 mod shown;
 mod signed;

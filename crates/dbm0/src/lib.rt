@@ -1,7 +1,8 @@
-// The C entry points of the module reader: the check of a module, every query about it, all its records, its repacking, and the replacement
-// of a sample. An answer begins with the refusal's number (0: none) and place.
+// The C entry points of the module reader: the check of a module, every query about it, all its records, its repacking, the replacement of
+// a sample, and the comparison with another module. An answer begins with the refusal's number (0: none) and place.
 use cells::Cell;
 use cells::note_numbers;
+use compare::CompareAnswer;
 use envelopes::CountAnswer;
 use envelopes::EnvelopeAnswer;
 use envelopes::EnvelopeKind;
@@ -38,6 +39,7 @@ ghost use Rattle.songs.specs.Shown.{songAnswer, entryAnswer, playlistAnswer, pl
 ghost use Rattle.summary.specs.Shown.{versionAnswer, nameAnswer, infoAnswer};
 ghost use Rattle.instruments.specs.Shown.{instrumentAnswer};
 ghost use Rattle.records.specs.Records.{allAnswer, allOutput};
+ghost use Rattle.compare.specs.Compared.{compareAnswer, compareOutput};
 ghost use Rattle.dbm0.specs.Answers.{fieldsOfCell};
 
 // A cell.
@@ -277,4 +279,13 @@ pub extern "C" fn dbm0_replace_sample(
         × (now (out .exit) ≡ replaceOutput (now (m .entry)) sample (now (new .entry)) (now (out .entry))) ⌝ }
 {
     replace::replace(m, sample, new, out)
+}
+
+// Compares two modules.
+#[no_mangle]
+pub extern "C" fn dbm0_compare(first: &[u8], second: &[u8], out: &mut [u8]) -> CompareAnswer
+    ensures { λ r. ⌜ (r ≡ compareAnswer (now (first .entry)) (now (second .entry)) (length (now (out .entry))))
+        × (now (out .exit) ≡ compareOutput (now (first .entry)) (now (second .entry)) (now (out .entry))) ⌝ }
+{
+    compare::compare(first, second, out)
 }

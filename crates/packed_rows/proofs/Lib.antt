@@ -26,3 +26,8 @@ pub mod Theorems
 pub mod Counting
 pub mod Writing
 pub mod Repacking
+pub mod EachFrom
+pub mod ListingCells
+pub mod ListingGroups
+pub mod MarkingRows
+pub mod ListingRows

@@ -1,8 +1,10 @@
-// Packed rows: check, unpack, pack and repack a stream, and read one cell of it.
+// Packed rows: check, unpack, pack and repack a stream, compare two streams, and read one cell of a stream.
+mod comparer;
 mod packer;
 mod reader;
 mod repacker;
 
+use crate::comparer::list_rows;
 use crate::packer::packed_length;
 use crate::packer::write_rows;
 use crate::reader::check_stream;
@@ -31,6 +33,7 @@ ghost use Rattle.packed_rows.specs.Steps.{cellAt, cellRead, rowsRead};
 ghost use Rattle.packed_rows.specs.Answers.{packedIf, outputPacked, checkAnswer, unpackAnswer, unpackOutput};
 ghost use Rattle.packed_rows.specs.Answers.{packAnswer, packOutput, repackStreamAnswer, repackStreamOutput, cellThere, cellOf};
 ghost use Rattle.packed_rows.specs.Answers.{verdictOfReading, unpackingNumbers, packingNumbers, cellNumbers};
+ghost use Rattle.packed_rows.specs.Comparing.{compareStreamsAnswer, compareStreamsOutput, comparisonNumbers};
 
 // The answer of unpacking: the length written, or a refusal.
 pub enum Unpacking {
@@ -41,6 +44,12 @@ pub enum Unpacking {
 // The answer of packing and repacking: the packed length, or a refusal.
 pub enum Packing {
     Packed(usize),
+    Refused(Refusal),
+}
+
+// The answer of comparing two streams: the number of entries in the list of differences, or a refusal.
+pub enum Comparison {
+    Compared(usize),
     Refused(Refusal),
 }
 
@@ -146,6 +155,43 @@ pub fn repack(stream: &[u8], rows: usize, tracks: usize, out: &mut [u8]) -> Pack
     let mut line = [0u8; 1524];
     let width = tracks * 6;
     repack_accepted(stream, rows, tracks, &mut line[..width], out)
+}
+
+// Lists the differences of the patterns that two streams hold, with the given number of their pattern: 16, the first stream's 15, the
+// second stream's 15. Entries for which the output has no room are counted and not written.
+pub fn compare(
+    a: &[u8],
+    b: &[u8],
+    rows: usize,
+    tracks: usize,
+    pattern: u16,
+    out: &mut [u8],
+) -> Comparison
+    ensures { λ r. ⌜ IsAnswer comparisonNumbers r (compareStreamsAnswer (now (a .entry)) (now (b .entry)) rows tracks pattern)
+        × (now (out .exit) ≡ compareStreamsOutput (now (a .entry)) (now (b .entry)) rows tracks pattern (now (out .entry))) ⌝ }
+{
+    if !sizes_fit(rows, tracks) {
+        return Comparison::Refused(refuse(Reason::Sizes, 0));
+    }
+    if let Verdict::Refused(r) = check_stream(a, rows, tracks) {
+        return Comparison::Refused(r);
+    }
+    if let Verdict::Refused(r) = check_stream(b, rows, tracks) {
+        return Comparison::Refused(r);
+    }
+    let mut first = [0u8; 1524];
+    let mut second = [0u8; 1524];
+    let width = tracks * 6;
+    Comparison::Compared(list_rows(
+        a,
+        b,
+        rows,
+        tracks,
+        pattern,
+        &mut first[..width],
+        &mut second[..width],
+        out,
+    ))
 }
 
 // The shown cell at a place of a row's bytes.

@@ -13,6 +13,7 @@ ghost use Rattle.packed_rows.specs.Stream.{front, readStream, cellsRead}
 ghost use Rattle.packed_rows.specs.Answers.{verdictOfReading};
 ghost use Rattle.packed_rows.specs.Steps.{entryLengths, entryLength, pieceLength, frontLength, storedFrom, storedAt};
 ghost use Rattle.packed_rows.specs.Steps.{RowAhead, Carried, Loaded, Skipped, MoreRows, AfterRows};
+ghost use Rattle.packed_rows.specs.ComparingSteps.{Marked};
 
 // The length in bytes of an entry with each sound mask: the track, the mask and the named fields.
 const LENGTHS: [u8; 64] = [
@@ -164,7 +165,7 @@ pub fn check_stream(s: &[u8], rows: usize, tracks: usize) -> Verdict
 }
 
 // Fills a slice with zeros.
-fn clear(out: &mut [u8])
+pub fn clear(out: &mut [u8])
     ensures { λ r. ⌜ now (out .exit) ≡ replicate (length (now (out .entry))) 0 ⌝ }
 {
     let mut i: usize = 0;
@@ -216,7 +217,7 @@ fn store_fields(s: &[u8], from: usize, mask: u8, out: &mut [u8], to: usize)
 }
 
 // Carries out the entries from `start` to the next row end on a row, and returns the place after the row end.
-fn carry_row(s: &[u8], start: usize, row: &mut [u8]) -> usize
+pub fn carry_row(s: &[u8], start: usize, row: &mut [u8]) -> usize
     requires { ⌜ RowAhead (now s) start (length (now row)) ⌝ }
     ensures { λ r. ⌜ Carried (now (s .entry)) start (now (row .entry)) r (now (row .exit)) ⌝ }
 {
@@ -290,4 +291,18 @@ pub fn skip_rows(s: &[u8], n: usize) -> usize
         left = left - 1;
     }
     at
+}
+
+// Marks the groups of eight tracks that the entries of the row at `start` belong to.
+pub fn mark_row(s: &[u8], start: usize, marks: &mut [u8])
+    requires { ⌜ ((size : ℕ) × RowAhead (now s) start size × (size ≤ 1536)) × (length (now marks) ≡ 32) ⌝ }
+    ensures { λ r. ⌜ Marked (now (s .entry)) start (now (marks .entry)) (now (marks .exit)) ⌝ }
+{
+    let lengths = LENGTHS;
+    let mut at = start;
+    while s[at] != 0 {
+        let track = wide(s[at]);
+        marks[(track - 1) / 8] = 1;
+        at = at + entry_length(s[at + 1], &lengths);
+    }
 }

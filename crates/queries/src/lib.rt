@@ -29,7 +29,7 @@ pub enum Found {
 }
 
 // The number of the first record: 1 for instruments and samples, 0 for all else.
-fn first_of(kind: RecordKind) -> usize
+pub fn first_of(kind: RecordKind) -> usize
     ensures { λ r. ⌜ r ≡ firstOf kind ⌝ }
 {
     match kind {

@@ -1,104 +1,31 @@
--- Every call that replaces a sample and is not refused: the module is the encoding of a description, the new frames are frames of 16
--- bits, and the result is within the limit. So the result is accepted, its loops lie within their samples, and the answer counts the
--- instruments that are shown differently.
-use Prim.Native.Nat.{ℕ, _-_, _%_, _≤_}
-use mathlib.Core.Path.{_≡_, refl, sym, ap, subst, _∙_}
-use mathlib.Core.List.{List, _∷_, map}
-use mathlib.Core.Bool.{Bool}
+-- Every call that replaces a sample and is not refused (`DescribedCalls`): the result is accepted, its loops lie within their samples, and the
+-- answer counts the instruments that are shown differently.
+use Prim.Native.Nat.{ℕ, _≤_}
+use mathlib.Core.Path.{_≡_, sym, ap, subst, _∙_}
+use mathlib.Core.List.{List, map}
 use native.Mathlib.Omega.{arith}
 use lib.ListN.{length}
-use lib.Dec.{leb, ltb}
-use borrow.Author.Tests.{leb-true, ltb-true, eqb-true}
 use Rattle.vocabulary.specs.Lists.{joined, Every}
-use Rattle.refusal.specs.Numbers.{numberOf}
-use Rattle.refusal.specs.Rules.{Rule, rule, firstBroken}
-use Rattle.refusal.specs.declared.Reason.{Reason}
-use Rattle.refusal.specs.declared.Reason.the-variants.{TooLong, Room, NotThere, OddFrames}
-use Rattle.refusal.specs.declared.Refusal.{Refusal}
 use Rattle.refusal.specs.declared.Verdict.{Verdict}
-use Rattle.refusal.specs.declared.Verdict.the-variants.{Accepted, Refused as VerdictRefused}
-use Rattle.refusal.proofs.RuleLists.{rules-held}
+use Rattle.refusal.specs.declared.Verdict.the-variants.{Accepted}
 use Rattle.numbers.specs.Numbers.{Bytes, eachFrom, bytes16}
 use Rattle.layout.specs.declared.Layout.{Layout}
 use Rattle.layout.specs.declared.Outline.{Outline}
-use Rattle.layout.specs.declared.Outline.the-variants.{Found, Refused}
-use Rattle.module.specs.Verdicts.{opened, verdictOfOutline, moduleVerdict}
-use Rattle.acceptance.specs.Places.{AllChunks, ContentPlace, PlaceOf}
-use Rattle.acceptance.proofs.Holding.{and-says}
-use Rattle.acceptance.proofs.FirstBroken.{WhereBroken, no-rule, this-or, first-broken}
-use Rattle.acceptance.proofs.Theorems.{refusal-place}
-use Rattle.replace.specs.Replaced.{newFrames, clearedCount, replacedModule, replaceRules, replaceBy, replaceIf, replaceAnswer}
-use Rattle.replace.specs.Replaced.{sampleReplacedIf, sampleReplaced}
+use Rattle.module.specs.Verdicts.{moduleVerdict}
+use Rattle.replace.specs.Replaced.{newFrames, clearedCount, replaceBy, replaceIf, replaceAnswer, sampleReplaced}
 use Rattle.summary.specs.Shown.{infoAnswer}
 use Rattle.summary.specs.declared.InfoAnswer.{InfoAnswer}
 use Rattle.instruments.specs.Shown.{instrumentAnswer}
 use Rattle.format.specs.Description.{Description}
 use Rattle.format.specs.Encoding.{encoded}
 use Rattle.format.specs.WellFormed.{Fits16, WellFormed}
-use Rattle.format.proofs.Placed.{encoded-opens, info-numbers}
-use Rattle.format.proofs.Theorems.{encoding-bytes, encoding-accepted, encoding-shows, accepted-encoded}
+use Rattle.format.proofs.Theorems.{encoding-bytes, encoding-accepted, encoding-shows}
 use Rattle.replace_theorems.specs.ReplacedDescription.{replacedDescription, LoopsInside, Differing}
 use Rattle.replace_theorems.proofs.ReplacedModule.{replaced-encoded}
 use Rattle.replace_theorems.proofs.ReplacedWellFormed.{replaced-well-formed}
-use Rattle.replace_theorems.proofs.NewFrames.{frames-from-bytes}
 use Rattle.replace_theorems.proofs.ShownLoops.{loops-inside}
 use Rattle.replace_theorems.proofs.ClearedRecords.{cleared-differ}
-
--- The number of a refusal is not 0: the module's own, and those of the call.
-content-number : {m : List ℕ} {all : AllChunks m} {r : Refusal} → ContentPlace all r → 1 ≤ r .number
-content-number (ContentPlace.blocks at fault) = omega arith
-content-number (ContentPlace.reference at) = omega arith
-content-number (ContentPlace.fieldRange at) = omega arith
-content-number (ContentPlace.loop at fault) = omega arith
-content-number (ContentPlace.stream at fault) = omega arith
-
-place-number : {m : List ℕ} {r : Refusal} → PlaceOf m r → 1 ≤ r .number
-place-number (PlaceOf.tooLong long) = omega arith
-place-number (PlaceOf.notAModule fault) = omega arith
-place-number (PlaceOf.version long fault) = omega arith
-place-number (PlaceOf.chunkCut at fault) = omega arith
-place-number (PlaceOf.identifier at fault) = omega arith
-place-number (PlaceOf.repeated at fault) = omega arith
-place-number (PlaceOf.beforeInfo at fault) = omega arith
-place-number (PlaceOf.missing chunks fault) = omega arith
-place-number (PlaceOf.fixedLength at fault) = omega arith
-place-number (PlaceOf.infoRange at fault) = omega arith
-place-number (PlaceOf.content all at) = content-number at
-
-abbrev Counted : List Rule → Type 0
-Counted rules = WhereBroken (λ r. 1 ≤ r .number) rules
-
-refused-by : (reason : Reason) (holds : Bool) (place : ℕ) {rules : List Rule} → 1 ≤ numberOf reason → Counted rules
-    → Counted (rule holds reason place ∷ rules)
-refused-by reason holds place some rest = this-or (λ e. some) (λ e. rest)
-
-call-numbers : (m : List ℕ) (l : Layout) (sample : ℕ) (new : List ℕ) (room : ℕ) → Counted (replaceRules m l sample new room)
-call-numbers m l sample new room =
-    refused-by NotThere _ _ (omega arith)
-    (refused-by OddFrames _ _ (omega arith)
-    (refused-by TooLong _ _ (omega arith)
-    (refused-by Room _ _ (omega arith) no-rule)))
-
--- A call that is not refused: the module opens, and the rules of the call hold.
-record Passed (m : List ℕ) (sample : ℕ) (new : List ℕ) (room : ℕ) : Type 0 where
-  pub layout : Layout
-  pub opens : opened m ≡ Found layout
-  pub held : firstBroken (replaceRules m layout sample new room) ≡ Accepted
-
-module _ (m : List ℕ) (bytes : Bytes m) (sample : ℕ) (new : List ℕ) (room : ℕ) where
-  rules-passed : (l : Layout) → opened m ≡ Found l → (v : Verdict) → firstBroken (replaceRules m l sample new room) ≡ v
-      → replaceBy m l sample new v .outcome .number ≡ 0
-      → Passed m sample new room
-  rules-passed l opens Accepted held ok = record { layout = l; opens = opens; held = held }
-  rules-passed l opens (VerdictRefused r) held ok =
-      let some : 1 ≤ r .number = first-broken (call-numbers m l sample new room) r held in
-      absurd (omega (arith, ok))
-
-  call-passed : (o : Outline) → opened m ≡ o → replaceIf m sample new room o .outcome .number ≡ 0 → Passed m sample new room
-  call-passed (Found l) opens ok = rules-passed l opens (firstBroken (replaceRules m l sample new room)) refl ok
-  call-passed (Refused r) opens ok =
-      let some : 1 ≤ r .number = place-number (refusal-place m bytes r (ap verdictOfOutline opens) .0) in
-      absurd (omega (arith, ok))
+use Rattle.replace_theorems.proofs.DescribedCalls.{Passed, described-call}
 
 -- What holds for the result.
 pub record ResultOf (m : List ℕ) (sample : ℕ) (new : List ℕ) (room : ℕ) : Type 0 where
@@ -110,28 +37,15 @@ pub record ResultOf (m : List ℕ) (sample : ℕ) (new : List ℕ) (room : ℕ) 
       (replaceAnswer m sample new room .cleared)
 
 -- The call for the encoding of a description, with frames of 16 bits.
-module _ (d : Description) (w : WellFormed d) (sample : ℕ) (frames : List ℕ) (fits : Every Fits16 frames) (room : ℕ) where
+module _ (d : Description) (w : WellFormed d) (sample : ℕ) (low : 1 ≤ sample) (high : sample ≤ length (w .samples))
+    (frames : List ℕ) (fits : Every Fits16 frames) (room : ℕ) where
   abbrev bytesOf : List ℕ
   bytesOf = joined (map bytes16 frames)
 
-  passed-result : Passed (encoded d) sample bytesOf room → ResultOf (encoded d) sample bytesOf room
-  passed-result passed =
+  passed-result : Passed (encoded d) sample bytesOf room → length (sampleReplaced (encoded d) sample bytesOf) ≤ 16777216
+      → ResultOf (encoded d) sample bytesOf room
+  passed-result passed limit =
       let l : Layout = passed .layout in
-      let (k, opens, layout) = encoded-opens d w in
-      let other : opened (encoded d) ≡ Found l = passed .opens in
-      let one : k ≡ l = cc in
-      let numbers = info-numbers d w layout (w .info) (w .infoThere) in
-      let rules = rules-held (replaceRules (encoded d) l sample bytesOf room) (passed .held) in
-      let counted = and-says (leb 1 sample) (ltb (sample - 1) (l .samples)) .0 (rules .0) in
-      let low : 1 ≤ sample = leb-true 1 sample (counted .0) in
-      let below = ltb-true (sample - 1) (l .samples) (counted .1) in
-      let samples : l .samples ≡ length (w .samples) =
-      ap (λ (l : Layout). l .samples) (sym one) ∙ numbers .1 ∙ sym (w .lists .sampleCount) in
-      let high : sample ≤ length (w .samples) = omega (arith, below, samples, low) in
-      let is : sampleReplaced (encoded d) sample bytesOf ≡ replacedModule (encoded d) l sample bytesOf =
-      ap (sampleReplacedIf (encoded d) sample bytesOf) (passed .opens) in
-      let short = leb-true (length (replacedModule (encoded d) l sample bytesOf)) 16777216 (rules .1 .1 .0) in
-      let limit : length (sampleReplaced (encoded d) sample bytesOf) ≤ 16777216 = omega (arith, short, ap length is) in
       let same = replaced-encoded d w sample frames in
       let new = replaced-well-formed d w sample low high frames fits limit in
       let answer : replaceAnswer (encoded d) sample bytesOf room .cleared
@@ -152,19 +66,14 @@ pub replaced-result : (m : List ℕ) → Bytes m → (sample : ℕ) (new : List 
     → replaceAnswer m sample new room .outcome .number ≡ 0
     → ResultOf m sample new room
 replaced-result m bytes sample new newBytes room ok =
-    let passed = call-passed m bytes sample new room (opened m) refl ok in
-    let (d, w, is) = accepted-encoded m bytes (ap verdictOfOutline (passed .opens)) in
-    let rules = rules-held (replaceRules m (passed .layout) sample new room) (passed .held) in
-    let (frames, fits, same) = frames-from-bytes new newBytes (eqb-true (length new % 2) 0 (rules .1 .0)) in
-    go d w is frames fits same passed
-  where
-    go : (d : Description) → WellFormed d → encoded d ≡ m
-        → (frames : List ℕ) → Every Fits16 frames → joined (map bytes16 frames) ≡ new
-        → Passed m sample new room
-        → ResultOf m sample new room
-    go d w is frames fits same passed =
-        subst (λ (new : List ℕ). ResultOf m sample new room) same
-        (subst (λ (m : List ℕ). ResultOf m sample (joined (map bytes16 frames)) room) is
-        (passed-result d w sample frames fits room
-        (subst (λ (m : List ℕ). Passed m sample (joined (map bytes16 frames)) room) (sym is)
-        (subst (λ (new : List ℕ). Passed m sample new room) (sym same) passed))))
+    let call = described-call m bytes sample new newBytes room ok in
+    let d = call .description in
+    let stored : List ℕ = joined (map bytes16 (call .frames)) in
+    let is : sampleReplaced (encoded d) sample stored ≡ sampleReplaced m sample new =
+    ap (λ (m : List ℕ). sampleReplaced m sample stored) (call .encodes) ∙ ap (sampleReplaced m sample) (call .stores) in
+    subst (λ (new : List ℕ). ResultOf m sample new room) (call .stores)
+    (subst (λ (m : List ℕ). ResultOf m sample stored room) (call .encodes)
+    (passed-result d (call .wellFormed) sample (call .low) (call .high) (call .frames) (call .fits) room
+    (subst (λ (m : List ℕ). Passed m sample stored room) (sym (call .encodes))
+    (subst (λ (new : List ℕ). Passed m sample new room) (sym (call .stores)) (call .passed)))
+    (omega (arith, call .limit, ap length is))))

@@ -6,6 +6,7 @@ pub mod ShownLoops
 pub mod OwnFrames
 pub mod ClearedRecords
 pub mod ResultLength
+pub mod DescribedCalls
 pub mod AnyModule
 pub mod WorkedReplacements
 pub mod Theorems

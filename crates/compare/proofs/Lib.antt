@@ -1,0 +1,10 @@
+pub mod ListedParts
+pub mod SameRecords
+pub mod SameEnvelopes
+pub mod SameBlocks
+pub mod AcceptedBlocks
+pub mod ComparedPatterns
+pub mod EntryCounts
+pub mod WalkingRecords
+pub mod ListingAll
+pub mod Comparing

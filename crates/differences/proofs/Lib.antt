@@ -1,0 +1,3 @@
+pub mod EqualBytes
+pub mod Listing
+pub mod PutDifference
