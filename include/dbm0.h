@@ -1,7 +1,8 @@
 /*
  * dbm0.h: DBM0 modules. The check of a whole module, every query about one
  * (version, name, INFO, songs, instruments, envelopes, patterns, samples), all
- * its records by one call, its repacking, and replacing one of its samples.
+ * its records by one call, its repacking, replacing one of its samples, and
+ * comparing it with another module.
  *
  * Link with libdbm0.a (x86-64, System V calling convention). The calls of
  * dbm0_pattern.h, which this header includes, are in libpattern.a. A program
@@ -25,8 +26,9 @@
  *   everything else in the answer is 0, and no byte of an output changes.
  * - A query gives the first of these that applies: the module's own refusal (1
  *   to 15, as dbm0_check_module), then 18, then 17 if an output is lent.
- *   dbm0_replace_sample gives more refusals between 18 and 17. Instruments,
- *   samples and tracks are counted from 1, everything else from 0.
+ *   dbm0_replace_sample gives more refusals between 18 and 17, and
+ *   dbm0_compare is about two modules. Instruments, samples and tracks are
+ *   counted from 1, everything else from 0.
  * - A call that fills an output gives the needed length as the place of 17:
  *   call it with an output of length 0 to get the length. If nothing is needed
  *   (an empty playlist, a pattern of 0 rows, a sample of 0 frames), that call
@@ -39,7 +41,7 @@
  * - No call keeps any state, allocates, or waits. They may run on any thread
  *   and at the same time, as long as no call's output is used by another: two
  *   calls at the same time must not share an output.
- * - A call needs less than 2,560 bytes of stack. What memcpy and memset need
+ * - A call needs less than 5,120 bytes of stack. What memcpy and memset need
  *   is not counted.
  */
 
@@ -56,7 +58,7 @@ extern "C" {
 #endif
 
 /* The version of this interface: major x 10000 + minor x 100 + patch. */
-#define DBM0_VERSION 10400
+#define DBM0_VERSION 10500
 
 /* The most bytes that a module may have. */
 #define DBM0_MODULE_MOST_BYTES 16777216
@@ -536,6 +538,64 @@ typedef struct {
 dbm0_replace_answer dbm0_replace_sample(
     const uint8_t *module, size_t module_length, size_t sample,
     const uint8_t *frames, size_t frames_length,
+    uint8_t *out, size_t out_length);
+
+/* The bytes of an entry in the list of differences: five big-endian 2-byte
+ * numbers, kind, number, row, track and field. */
+#define DBM0_DIFFERENCE_BYTES 10
+
+/* The kinds of differences. number is 0 for the name, a field of INFO from 0 to
+ * 4 (instruments, samples, songs, patterns, tracks), or the number of the
+ * record as in the queries. */
+#define DBM0_DIFFERENCE_NAME 1
+#define DBM0_DIFFERENCE_INFO 2
+#define DBM0_DIFFERENCE_SONG 3
+#define DBM0_DIFFERENCE_INSTRUMENT 4
+#define DBM0_DIFFERENCE_VOLUME_ENVELOPE 5
+#define DBM0_DIFFERENCE_PANNING_ENVELOPE 6
+#define DBM0_DIFFERENCE_SAMPLE 7
+#define DBM0_DIFFERENCE_PATTERN 8
+
+/* entries: how many entries were written, 0 on a refusal. */
+typedef struct {
+    uint64_t number;
+    uint64_t place;
+    uint64_t entries;
+} dbm0_compare_answer;
+
+/*
+ * Writes the list of what differs between two modules: DBM0_DIFFERENCE_BYTES
+ * for each entry. Entries ascend by their five numbers in order, and none is
+ * listed twice. The list is empty exactly if nothing that is compared differs.
+ *
+ * - Row (from 0), track (from 1) and field (1 note, 2 instrument, 3 command 1,
+ *   4 parameter 1, 5 command 2, 6 parameter 2) are 0, except in an entry for a
+ *   field of a cell that differs.
+ * - One entry is for a whole song, instrument, envelope or sample that differs
+ *   or is in one module only. A sample is compared by its width and all its
+ *   frames.
+ * - One entry is for a whole pattern that is in one module only, or if the
+ *   modules have different tracks or the pattern different rows. Otherwise
+ *   there is one entry for each field of a cell that differs.
+ * - A number of INFO that differs is an entry besides those for the records
+ *   that are in one module only.
+ *
+ * Records are compared as the queries show them: a panning envelope of version
+ * 2 equals the one of version 3 with its values scaled, and a missing NAME
+ * equals a name of zeros. Not compared are version, revision and the reserved
+ * bytes, other chunks, the order of chunks, how patterns are packed, and
+ * fillers.
+ *
+ * Refusals, the first that applies: the first module's own; the second
+ * module's own; 17, whose place is DBM0_DIFFERENCE_BYTES for each entry. The
+ * answer does not say which of the modules is refused. Time besides both
+ * checks: the modules are compared twice, first to count the entries; grows
+ * with the modules' bytes. No memory is needed beyond a row of cells of each
+ * module, which are on the stack.
+ */
+dbm0_compare_answer dbm0_compare(
+    const uint8_t *first, size_t first_length,
+    const uint8_t *second, size_t second_length,
     uint8_t *out, size_t out_length);
 
 #ifdef __cplusplus

@@ -145,3 +145,10 @@ pub struct Replaced {
     pub length: u64,
     pub cleared: u64,
 }
+
+/// The number of entries in the list of differences.
+#[repr(C)]
+#[derive(Clone, Copy, Debug, Default, PartialEq, Eq)]
+pub struct Compared {
+    pub entries: u64,
+}

@@ -4,8 +4,8 @@
 mod answers;
 
 pub use answers::{
-    Answer, Cell, Envelope, Frames, Info, Instrument, ModuleAnswer, Name, RecordAnswer, Replaced,
-    Sample, Song, Version,
+    Answer, Cell, Compared, Envelope, Frames, Info, Instrument, ModuleAnswer, Name, RecordAnswer,
+    Replaced, Sample, Song, Version,
 };
 
 /// The version of the library's interface: `DBM0_VERSION` of include/dbm0.h.
@@ -19,6 +19,17 @@ pub const MOST_BYTES: usize = 16_777_216;
 
 /// The refusal number for an output that is shorter than needed. Its place is the needed length.
 pub const OUTPUT_TOO_SHORT: u64 = 17;
+
+/// The bytes of an entry in the list of differences, and the kinds of differences.
+pub const DIFFERENCE_BYTES: usize = 10;
+pub const DIFFERENCE_NAME: u16 = 1;
+pub const DIFFERENCE_INFO: u16 = 2;
+pub const DIFFERENCE_SONG: u16 = 3;
+pub const DIFFERENCE_INSTRUMENT: u16 = 4;
+pub const DIFFERENCE_VOLUME_ENVELOPE: u16 = 5;
+pub const DIFFERENCE_PANNING_ENVELOPE: u16 = 6;
+pub const DIFFERENCE_SAMPLE: u16 = 7;
+pub const DIFFERENCE_PATTERN: u16 = 8;
 
 /// The kinds of note in a cell.
 pub const NOTE_NONE: u8 = 0;
@@ -119,6 +130,14 @@ extern "C" {
         out: *mut u8,
         out_length: usize,
     ) -> RecordAnswer<Replaced>;
+    fn dbm0_compare(
+        first: *const u8,
+        first_length: usize,
+        second: *const u8,
+        second_length: usize,
+        out: *mut u8,
+        out_length: usize,
+    ) -> RecordAnswer<Compared>;
 }
 
 // All calls below are sound for the same reasons. Each pointer and length come from a slice that lives through the call, and an output is a
@@ -343,4 +362,50 @@ pub fn replace_sample_of_null(
             length,
         )
     }
+}
+
+pub fn compare(first: &[u8], second: &[u8], out: &mut [u8]) -> RecordAnswer<Compared> {
+    let (start, length) = (out.as_mut_ptr(), out.len());
+    unsafe {
+        dbm0_compare(
+            first.as_ptr(),
+            first.len(),
+            second.as_ptr(),
+            second.len(),
+            start,
+            length,
+        )
+    }
+}
+
+/// Compares two modules with an output of no bytes at NULL.
+pub fn compare_into_null(first: &[u8], second: &[u8]) -> RecordAnswer<Compared> {
+    let null = std::ptr::null_mut();
+    // The header allows NULL if the length is 0.
+    unsafe {
+        dbm0_compare(
+            first.as_ptr(),
+            first.len(),
+            second.as_ptr(),
+            second.len(),
+            null,
+            0,
+        )
+    }
+}
+
+/// Compares a module of no bytes at NULL with another module.
+pub fn compare_null_with(second: &[u8], out: &mut [u8]) -> RecordAnswer<Compared> {
+    let (start, length) = (out.as_mut_ptr(), out.len());
+    let null = std::ptr::null();
+    // The header allows NULL if the length is 0.
+    unsafe { dbm0_compare(null, 0, second.as_ptr(), second.len(), start, length) }
+}
+
+/// Compares a module with a module of no bytes at NULL.
+pub fn compare_with_null(first: &[u8], out: &mut [u8]) -> RecordAnswer<Compared> {
+    let (start, length) = (out.as_mut_ptr(), out.len());
+    let null = std::ptr::null();
+    // The header allows NULL if the length is 0.
+    unsafe { dbm0_compare(first.as_ptr(), first.len(), null, 0, start, length) }
 }

@@ -92,8 +92,8 @@ pub fn module_answer(result: Result<(), Refusal>) -> ModuleAnswer {
     }
 }
 
-/// Compares a case of the corpus. The archives have no call for a case that shows a cell. For records and for samples to replace only the
-/// module is checked; `records::all` compares the queries, and replacing.rs compares the replaced samples.
+/// Compares a case of the corpus. The archives have no call for a case that shows a cell. For records, for samples to replace and for modules
+/// to compare only the modules are checked; `records::all` compares the queries, and replacing.rs and comparing.rs compare the other calls.
 pub fn case(library: Library, case: &Case) -> Result<(), String> {
     let output_length = |room: u32| room.min(MOST_ROOM) as usize;
     match case {
@@ -114,6 +114,10 @@ pub fn case(library: Library, case: &Case) -> Result<(), String> {
         Case::Module { module, .. }
         | Case::Records { module, .. }
         | Case::Replacement { module, .. } => self::module(library, module),
+        Case::Comparison { first, second, .. } => {
+            self::module(library, first)?;
+            self::module(library, second)
+        }
     }
 }
 

@@ -4,6 +4,7 @@
 
 pub mod all_records;
 pub mod compare;
+pub mod comparing;
 pub mod large;
 pub mod modules;
 pub mod queries;

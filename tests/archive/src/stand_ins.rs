@@ -176,7 +176,7 @@ impl<A: WritingAnswer> Call<'_, A> {
     pub fn notices_another_length(&self) {
         self.notices(&self.answering(|is, _, _| {
             let answer = is.answer();
-            is.with_length(answer.length - u64::from(answer.number == 0))
+            is.with_length(answer.length.saturating_sub(u64::from(answer.number == 0)))
         }));
     }
 }

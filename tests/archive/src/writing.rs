@@ -1,5 +1,5 @@
 //! Tests for a call that computes bytes from a module and writes them into an output. Each such call is one `Call` (repacking.rs,
-//! all_records.rs, replacing.rs). The code here is common to all of them.
+//! all_records.rs, replacing.rs, comparing.rs). The code here is common to all of them.
 //!
 //! A call is compared with the reference, with outputs of every length around the needed length and around the module's length. After a
 //! refusal the output is unchanged. After success only the written bytes differ. The memory on both sides of the output and the module are
@@ -151,7 +151,8 @@ impl<A: WritingAnswer> Call<'_, A> {
     #[track_caller]
     pub fn answers(&self, module: &[u8], answer: A, bytes: &[u8]) {
         let (needed, enough) = (bytes.len(), (self.enough)(module.len()));
-        let rooms = [0, needed - 1, needed, needed + 1, enough, enough + 1];
+        let shorter = needed.saturating_sub(1);
+        let rooms = [0, shorter, needed, needed + 1, enough, enough + 1];
         for room in BTreeSet::from(rooms) {
             self.check_output(module, room, |output| answering(answer, bytes, output))
                 .unwrap();
