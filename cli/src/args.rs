@@ -24,6 +24,10 @@ pub enum Command {
         file: OsString,
         selection: Selection,
     },
+    Compare {
+        files: [OsString; 2],
+        numbers: bool,
+    },
     Repack {
         from: OsString,
         to: OsString,
@@ -54,6 +58,7 @@ pub fn parse(arguments: Vec<OsString>) -> Result<Command, Fault> {
         Some("check") => check(rest),
         Some("report") => report(rest),
         Some("cells") => cells(rest),
+        Some("compare") => compare(rest),
         Some("repack") => repack(rest),
         Some("replace") => replace(rest),
         _ => Err(Topic::Program.fault(format!("there is no command '{}'", names::file(&command)))),
@@ -207,6 +212,20 @@ fn cells(arguments: Vec<OsString>) -> Result<Command, Fault> {
         tracks,
     };
     Ok(Command::Cells { file, selection })
+}
+
+fn compare(arguments: Vec<OsString>) -> Result<Command, Fault> {
+    let topic = Topic::Compare;
+    let parsed = ParsedArguments::new(topic, arguments, &[("--numbers", false)])?;
+    if parsed.help {
+        return Ok(Command::Help(topic));
+    }
+    let numbers = parsed.value("--numbers").is_some();
+    let Ok(files) = <[OsString; 2]>::try_from(parsed.positional) else {
+        return Err(topic.fault("compare takes two files, A and B"));
+    };
+    read_once(topic, &files)?;
+    Ok(Command::Compare { files, numbers })
 }
 
 fn repack(arguments: Vec<OsString>) -> Result<Command, Fault> {

@@ -4,9 +4,10 @@ use std::ffi::OsStr;
 use std::fmt::Write;
 
 use crate::args::Range;
+use crate::cell_text::{push_command, push_hex, CellText, FIELDS};
 use crate::fault::{Fault, EXIT_OK};
 use crate::input;
-use crate::library::{self, Cell, Info, Refusal, NOTE_KEY_OFF, NOTE_NONE, NOTE_PITCH, NOT_THERE};
+use crate::library::{self, Info, NOT_THERE};
 use crate::output::Output;
 
 /// The part of the module to print: one pattern, and all or some of its rows and tracks.
@@ -15,9 +16,6 @@ pub struct Selection {
     pub rows: Option<Range>,
     pub tracks: Option<Range>,
 }
-
-/// The number of bytes in a cell.
-const FIELDS: usize = 6;
 
 pub fn run(file: &OsStr, selection: &Selection, out: &mut Output) -> Result<u8, Fault> {
     let module = input::read(file)?;
@@ -32,12 +30,12 @@ pub fn run(file: &OsStr, selection: &Selection, out: &mut Output) -> Result<u8, 
     check_cells_exist(file, &module, selection.pattern, &bounds, rows, info)?;
     let expected = usize::from(rows) * usize::from(info.tracks);
     let cells = library::cells(&module, selection.pattern, expected).map_err(refused)?;
-    let notes = notes().map_err(refused)?;
+    let fields = CellText::new().map_err(refused)?;
     out.line(&format!(
         "pattern {}: {rows} rows, {} tracks",
         selection.pattern, info.tracks
     ))?;
-    print(&cells, &bounds, usize::from(info.tracks), &notes, out)?;
+    print(&cells, &bounds, usize::from(info.tracks), &fields, out)?;
     out.flush()?;
     Ok(EXIT_OK)
 }
@@ -124,7 +122,7 @@ fn print(
     cells: &[u8],
     bounds: &Bounds,
     tracks: usize,
-    notes: &[String],
+    fields: &CellText,
     out: &mut Output,
 ) -> Result<(), Fault> {
     let (first_row, last_row) = bounds.rows;
@@ -144,7 +142,7 @@ fn print(
         let row = row.chunks_exact(FIELDS);
         for cell in row.take(last_track).skip(first_track - 1) {
             line.push_str("  ");
-            push_cell(&mut line, cell, notes);
+            push_cell(&mut line, cell, fields);
         }
         line.push('\n');
         out.text(&line)?;
@@ -153,71 +151,16 @@ fn print(
 }
 
 /// `G-4 01 000 F70`: note, instrument, and the two commands with their parameters.
-fn push_cell(line: &mut String, cell: &[u8], notes: &[String]) {
+fn push_cell(line: &mut String, cell: &[u8], fields: &CellText) {
     let [note, instrument, command1, parameter1, command2, parameter2] = *cell else {
         return;
     };
-    line.push_str(&notes[usize::from(note)]);
+    line.push_str(fields.note(note));
     line.push(' ');
     push_hex(line, instrument);
     for (command, parameter) in [(command1, parameter1), (command2, parameter2)] {
         line.push(' ');
         push_command(line, command);
         push_hex(line, parameter);
-    }
-}
-
-const DIGITS: &[u8; 36] = b"0123456789ABCDEFGHIJKLMNOPQRSTUVWXYZ";
-
-fn push_hex(line: &mut String, byte: u8) {
-    for digit in [byte >> 4, byte & 15] {
-        line.push(char::from(DIGITS[usize::from(digit)]));
-    }
-}
-
-/// A command is one digit, 0 to 9 and A to Z. A larger command is printed as its byte in brackets.
-fn push_command(line: &mut String, command: u8) {
-    match DIGITS.get(usize::from(command)) {
-        Some(&digit) => line.push(char::from(digit)),
-        None => {
-            line.push('[');
-            push_hex(line, command);
-            line.push(']');
-        }
-    }
-}
-
-/// A module with one pattern of one row. The row has 4 packed bytes: track 1, a mask with the note bit, the note, the row end.
-const ONE_NOTE: &[u8; 68] = b"DBM0\x03\x00\x00\x00\
-    INFO\x00\x00\x00\x0A\x00\x00\x00\x00\x00\x00\x00\x01\x00\x04\
-    SONG\x00\x00\x00\x00INST\x00\x00\x00\x00SMPL\x00\x00\x00\x00\
-    PATT\x00\x00\x00\x0A\x00\x01\x00\x00\x00\x04\x01\x01\x00\x00";
-
-/// The place of the note in `ONE_NOTE`.
-const NOTE: usize = 66;
-
-/// The text of each of the 256 note bytes. The library classifies each byte as a pitch, a key off, none or unknown.
-fn notes() -> Result<Vec<String>, Refusal> {
-    let mut module = *ONE_NOTE;
-    (0..=255)
-        .map(|note| {
-            module[NOTE] = note;
-            library::cell(&module, 0, 0, 1).map(|cell| note_text(&cell))
-        })
-        .collect()
-}
-
-fn note_text(cell: &Cell) -> String {
-    const SEMITONES: [&str; 12] = [
-        "C-", "C#", "D-", "D#", "E-", "F-", "F#", "G-", "G#", "A-", "A#", "B-",
-    ];
-    match cell.kind {
-        NOTE_NONE => "---".to_string(),
-        NOTE_KEY_OFF => "===".to_string(),
-        NOTE_PITCH => match SEMITONES.get(usize::from(cell.semitone)) {
-            Some(semitone) => format!("{semitone}{}", cell.octave),
-            None => "???".to_string(),
-        },
-        _ => format!("?{:02X}", cell.unknown),
     }
 }

@@ -371,9 +371,7 @@ fn outside(module: &[u8], place: usize) -> Option<String> {
     let Some(index) = sample.checked_sub(1) else {
         return Some(format!("{name}: loop {start} + {length}, but no sample"));
     };
-    let samples = reader::find(module, b"SMPL")?;
-    let count = reader::counts(module)?.samples;
-    let of_sample = reader::blocks(Blocks::Samples, samples.data, count)
+    let of_sample = reader::blocks_of(module, b"SMPL")?
         .find(|block| block.index == index)
         .and_then(|block| reader::number(block.bytes, 4, 4))?;
     Some(format!(
@@ -389,8 +387,8 @@ fn broken(module: &[u8], place: usize) -> Option<String> {
         return None;
     }
     let rows = reader::number(block.bytes, 0, 2)?;
-    let packed = usize::try_from(reader::number(block.bytes, 2, 4)?).ok()?;
-    let stream = block.bytes.get(6..)?.get(..packed)?;
+    let stream = block.packed_rows()?;
+    let packed = stream.len();
     let tracks = reader::counts(module)?.tracks;
     let name = format!("pattern {} ({})", block.index, many(rows, "row"));
     let Err(refusal) = library::check_pattern(stream, rows, tracks) else {
@@ -439,11 +437,8 @@ fn row_ends_before(stream: &[u8], at: usize) -> Option<u64> {
     while place < at {
         if *stream.get(place)? == 0 {
             rows += 1;
-            place += 1;
-        } else {
-            let mask = *stream.get(place + 1)?;
-            place += 2 + mask.count_ones() as usize;
         }
+        place += reader::entry_length(stream, place)?;
     }
     (place == at).then_some(rows)
 }
@@ -475,10 +470,7 @@ fn with_name(title: String, name: Option<&[u8]>) -> String {
 /// The instrument of an envelope, by number and name.
 fn instrument_of(module: &[u8], envelope: &[u8]) -> Option<String> {
     let index = reader::number(envelope, 0, 2)?.checked_sub(1)?;
-    let chunk = reader::find(module, b"INST")?;
-    let count = reader::counts(module)?.instruments;
-    let block = reader::blocks(Blocks::Instruments, chunk.data, count)
-        .find(|block| block.index == index)?;
+    let block = reader::blocks_of(module, b"INST")?.find(|block| block.index == index)?;
     Some(block_name(module, Blocks::Instruments, &block))
 }
 

@@ -11,6 +11,7 @@ use crate::names;
 pub const EXIT_OK: u8 = 0;
 pub const EXIT_REFUSED: u8 = 1;
 pub const EXIT_FAILED: u8 = 2;
+pub const EXIT_DIFFERENT: u8 = 3;
 
 pub struct Fault {
     pub status: u8,
@@ -47,6 +48,15 @@ impl Fault {
         let Refusal { number, place } = refusal;
         let file = names::file(file);
         Fault::failed(format!("{file}: refused {number} at {place}: {words}"))
+    }
+
+    /// The records or the differences that the library writes are not as expected. What it writes is proved, so this does not occur with the
+    /// program's own archives. If it does, no file is written, and nothing is printed, except for lines that `compare` has printed before.
+    pub fn not_understood(file: &OsStr) -> Fault {
+        Fault::failed(format!(
+            "{}: the records of the library are not as expected: build the program again with its own archives",
+            names::file(file)
+        ))
     }
 
     /// Prints the line. An error while printing is ignored, since there is no other place to report it.

@@ -9,6 +9,7 @@ pub enum Topic {
     Check,
     Report,
     Cells,
+    Compare,
     Repack,
     Replace,
 }
@@ -19,6 +20,7 @@ pub fn topic(command: &str) -> Option<Topic> {
         "check" => Some(Topic::Check),
         "report" => Some(Topic::Report),
         "cells" => Some(Topic::Cells),
+        "compare" => Some(Topic::Compare),
         "repack" => Some(Topic::Repack),
         "replace" => Some(Topic::Replace),
         _ => None,
@@ -33,6 +35,7 @@ impl Topic {
             Topic::Check => "dbm0 check --help",
             Topic::Report => "dbm0 report --help",
             Topic::Cells => "dbm0 cells --help",
+            Topic::Compare => "dbm0 compare --help",
             Topic::Repack => "dbm0 repack --help",
             Topic::Replace => "dbm0 replace --help",
         };
@@ -45,6 +48,7 @@ impl Topic {
             Topic::Check => CHECK,
             Topic::Report => REPORT,
             Topic::Cells => CELLS,
+            Topic::Compare => COMPARE,
             Topic::Repack => REPACK,
             Topic::Replace => REPLACE,
         }
@@ -52,24 +56,26 @@ impl Topic {
 }
 
 const PROGRAM: &str = "\
-dbm0: checks, reports, shows and repacks DBM0 modules of up to 16777216 bytes, and replaces their samples
+dbm0: checks, reports, shows, compares and repacks DBM0 modules of up to 16777216 bytes, and replaces their samples
 
 usage:
   dbm0 check FILE..                  say of each file whether it is accepted, or why it is refused
   dbm0 report [--json] FILE          print what goes into the register
   dbm0 cells FILE PATTERN            print a pattern as trackers show it
+  dbm0 compare [--numbers] A B       print what differs between two modules
   dbm0 repack IN OUT                 write the module with its patterns packed as short as they can be
   dbm0 replace IN SAMPLE FRAMES OUT  write the module with a sample replaced by 16-bit frames
   dbm0 COMMAND --help                say more about a command
   dbm0 --version                     print the version
 
-A FILE of - is standard input, an OUT of - is standard output; a file that is named so is ./-.
+An input of - is standard input, an OUT of - is standard output; a file that is named so is ./-.
 Behind -- all arguments are files, also those that begin with -.
 
 exit status:
   0  all is well
   1  a module is refused
   2  a file cannot be read or written, or the arguments are wrong
+  3  two modules differ (compare)
 ";
 
 const CHECK: &str = "\
@@ -122,6 +128,28 @@ exit status:
   0  the cells are printed
   1  the module is refused; the line that check prints is on standard error
   2  there is no such pattern, row or track, the file cannot be read, or the arguments are wrong
+";
+
+const COMPARE: &str = "\
+usage: dbm0 compare [--numbers] A B
+
+Compares two modules and prints a line for each difference, first the value in A, then the value in B, and then the
+number of differences:
+  song 1: only in A
+  instrument 2 \"organ\": forward loop 16 + 48, no loop
+  sample 2: 64 frames of 8 bits, 40 frames of 16 bits
+  pattern 1 row 5 track 2 note: C-3, D-3
+  4 differences
+Not compared are version, other chunks, the order of chunks, and how patterns are packed. - is standard input, for A or
+for B.
+
+  --numbers  print only the five numbers of each difference: kind, number, row, track and field; docs/CLI.md lists them
+
+exit status:
+  0  nothing differs
+  1  one of the modules is refused; the line that check prints is on standard error
+  2  a file cannot be read, or the arguments are wrong
+  3  the modules differ
 ";
 
 const REPACK: &str = "\

@@ -4,7 +4,10 @@
 use interface::{Answer, RecordAnswer, Replaced, OUTPUT_TOO_SHORT};
 
 pub use interface::{
-    Cell, Info, LIBRARY_VERSION, MOST_BYTES, NOTE_KEY_OFF, NOTE_NONE, NOTE_PITCH, PATTERN_VERSION,
+    Cell, Info, DIFFERENCE_BYTES, DIFFERENCE_INFO, DIFFERENCE_INSTRUMENT, DIFFERENCE_NAME,
+    DIFFERENCE_PANNING_ENVELOPE, DIFFERENCE_PATTERN, DIFFERENCE_SAMPLE, DIFFERENCE_SONG,
+    DIFFERENCE_VOLUME_ENVELOPE, LIBRARY_VERSION, MOST_BYTES, NOTE_KEY_OFF, NOTE_NONE, NOTE_PITCH,
+    PATTERN_VERSION,
 };
 
 /// The refusal numbers that an accepted module can have: a result that is longer than a module can be, an item that does not exist, and new
@@ -81,6 +84,25 @@ pub fn replace(module: &[u8], sample: usize, frames: &[u8]) -> Result<(Vec<u8>, 
     let Replaced { length, cleared } = to_record(answer)?;
     out.truncate(length as usize);
     Ok((out, cleared))
+}
+
+/// The list of differences between two modules, `DIFFERENCE_BYTES` for each. Each difference is in some byte of one of the modules, and no
+/// two are in the same byte, so the first output is long enough. Only the part of it that is written takes up memory.
+pub fn compare(first: &[u8], second: &[u8]) -> Result<Vec<u8>, Refusal> {
+    filled(DIFFERENCE_BYTES * (first.len() + second.len()), |out| {
+        let answer = interface::compare(first, second, out);
+        Answer {
+            number: answer.number,
+            place: answer.place,
+            length: DIFFERENCE_BYTES as u64 * answer.record.entries,
+        }
+    })
+}
+
+/// Unpacks one row. The stream is that row alone, with its row end.
+pub fn unpack_row(stream: &[u8], tracks: u64, cells: &mut [u8]) -> Result<(), Refusal> {
+    let answer = interface::unpack_pattern(stream, 1, tracks, cells);
+    to_result(answer.number, answer.place, ())
 }
 
 /// Checks a packed stream.

@@ -1,14 +1,18 @@
-//! The inspector's command line: checks, reports, shows and repacks DBM0 modules, and replaces their samples.
+//! The inspector's command line: checks, reports, shows, compares and repacks DBM0 modules, and replaces their samples.
 //!
 //! Every decision is made by the proved library (library.rs). The rest reads files, calls the library, and prints.
 
 #![deny(unsafe_code)]
 
 mod args;
+mod cell_text;
 mod cells;
 mod check;
+mod compare;
+mod differences;
 mod explain;
 mod fault;
+mod fields;
 mod help;
 mod input;
 mod json;
@@ -21,8 +25,10 @@ mod records;
 mod repack;
 mod replace;
 mod report;
+mod rows;
 mod signal;
 mod text;
+mod words;
 
 use std::process::ExitCode;
 
@@ -62,6 +68,7 @@ fn run() -> Result<u8, Fault> {
         Command::Check { files } => check::run(&files, out)?,
         Command::Report { file, json } => report::run(&file, json, out)?,
         Command::Cells { file, selection } => cells::run(&file, &selection, out)?,
+        Command::Compare { files, numbers } => compare::run(&files, numbers, out)?,
         Command::Repack { from, to } => repack::run(&from, &to, out)?,
         Command::Replace { replacement, to } => replace::run(&replacement, &to, out)?,
     };

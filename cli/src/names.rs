@@ -7,6 +7,7 @@ use crate::text::{put, Hex, Piece};
 
 /// A name of a module, which is bytes, between quotes. The zeros at its end are padding and are not printed. Printable ASCII except the
 /// quote and the backslash is printed as it is. All other bytes are printed as \xHH.
+#[derive(PartialEq, Eq)]
 pub struct Quoted<'n>(pub &'n [u8]);
 
 impl Piece for Quoted<'_> {

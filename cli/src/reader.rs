@@ -1,7 +1,8 @@
 //! Reads chunks, blocks and numbers from a module's bytes.
 //!
-//! This code makes no decision. The library decides whether a module is accepted and what is wrong with it. This code only finds the bytes
-//! that explain.rs describes. It is tested, not proved. Every read is bounds-checked and returns None outside the module.
+//! This code makes no decision. The library decides whether a module is accepted, what is wrong with it, and what differs between two. This
+//! code only finds the bytes that explain.rs and differences.rs describe. It is tested, not proved. Every read is bounds-checked and returns
+//! None outside the module.
 
 /// The identifier of a chunk.
 pub type Name = [u8; 4];
@@ -174,6 +175,27 @@ pub struct Block<'m> {
     pub bytes: &'m [u8],
 }
 
+impl<'m> Block<'m> {
+    /// The packed rows of a pattern, without the filler.
+    pub fn packed_rows(&self) -> Option<&'m [u8]> {
+        let length = usize::try_from(number(self.bytes, 2, 4)?).ok()?;
+        self.bytes.get(6..)?.get(..length)
+    }
+
+    /// The frames of a sample.
+    pub fn frames(&self) -> Option<&'m [u8]> {
+        self.bytes.get(8..)
+    }
+}
+
+/// The blocks of the chunk with this name, up to the first that is cut.
+pub fn blocks_of<'m>(module: &'m [u8], name: &Name) -> Option<impl Iterator<Item = Block<'m>>> {
+    let kind = Blocks::of(name)?;
+    let data = find(module, name)?.data;
+    let count = kind.count(&counts(module)?, data)?;
+    Some(blocks(kind, data, count))
+}
+
 /// The first `count` blocks of a chunk's data, up to the first that is cut.
 pub fn blocks<'m>(
     kind: Blocks,
@@ -197,4 +219,12 @@ pub fn blocks<'m>(
         place += length;
         Some(block)
     })
+}
+
+/// The length of the row end or of the entry at a place of packed rows.
+pub fn entry_length(stream: &[u8], place: usize) -> Option<usize> {
+    match *stream.get(place)? {
+        0 => Some(1),
+        _ => Some(2 + stream.get(place + 1)?.count_ones() as usize),
+    }
 }

@@ -9,8 +9,8 @@ use crate::names::Quoted;
 use crate::output::Output;
 use crate::output_file;
 use crate::records::{Instrument, Report, Sample};
-use crate::report::{loop_words, not_understood};
 use crate::text::{put, Many};
+use crate::words::{FrameWords, LoopWords};
 
 /// The file of the module, the number of the sample in decimal digits, and the file of the new frames.
 pub struct Replacement {
@@ -27,7 +27,7 @@ pub fn run(replacement: &Replacement, to: &OsStr, out: &mut Output) -> Result<u8
     let (replaced, cleared) = library::replace(&module, sample, &frames)
         .map_err(|refusal| refused(replacement, &module, refusal))?;
     let summary = summary(&module, sample, &replaced, cleared)
-        .ok_or_else(|| not_understood(&replacement.from))?;
+        .ok_or_else(|| Fault::not_understood(&replacement.from))?;
     output_file::write(to, &replaced, &summary, out)?;
     Ok(EXIT_OK)
 }
@@ -89,7 +89,7 @@ fn summary(module: &[u8], sample: usize, replaced: &[u8], cleared: u64) -> Optio
     let after = Shown::of(library::records_in(&mut memory, replaced).ok()?, sample)?;
     let (old, new) = (before.sample, after.sample);
     let mut line = String::new();
-    put!(&mut line; "sample ", sample, ": ", Many(old.frames, "frame"), " of ", old.width, " bits became ");
+    put!(&mut line; "sample ", sample, ": ", FrameWords(&old), " became ");
     put!(&mut line; new.frames, " of ", new.width, " bits; ", Many(cleared, "loop"), " cleared");
     let mut lines = vec![line];
     let pairs = before.instruments.iter().zip(&after.instruments);
@@ -103,8 +103,6 @@ fn summary(module: &[u8], sample: usize, replaced: &[u8], cleared: u64) -> Optio
 
 fn cleared_line(number: usize, instrument: &Instrument) -> String {
     let mut line = String::new();
-    put!(&mut line; "instrument ", number, " ", Quoted(&instrument.name), ": ");
-    loop_words(&mut line, instrument);
-    put!(&mut line; " cleared");
+    put!(&mut line; "instrument ", number, " ", Quoted(&instrument.name), ": ", LoopWords::of(instrument), " cleared");
     line
 }

@@ -6,16 +6,17 @@ use crate::fault::{Fault, EXIT_OK};
 use crate::input;
 use crate::json;
 use crate::library;
-use crate::names::{self, Quoted};
+use crate::names::Quoted;
 use crate::output::Output;
-use crate::records::{self, Envelope, Instrument, Loop, Report, Sample, Song};
+use crate::records::{self, Envelope, Instrument, Report, Sample, Song};
 use crate::text::{put, Hex, Many};
+use crate::words::{counts, LoopWords, PointWords, SampleWords};
 
 pub fn run(file: &OsStr, as_json: bool, out: &mut Output) -> Result<u8, Fault> {
     let module = input::read(file)?;
     let shown =
         library::records(&module).map_err(|refusal| Fault::refused(file, &module, refusal))?;
-    let report = Report::of(&shown).ok_or_else(|| not_understood(file))?;
+    let report = Report::of(&shown).ok_or_else(|| Fault::not_understood(file))?;
     if as_json {
         json::write(file, module.len(), &report, out)?;
     } else {
@@ -23,15 +24,6 @@ pub fn run(file: &OsStr, as_json: bool, out: &mut Output) -> Result<u8, Fault> {
     }
     out.flush()?;
     Ok(EXIT_OK)
-}
-
-/// What the library writes is proved, so this error does not occur with the program's own archives. If it does, nothing is printed and no
-/// file is written.
-pub fn not_understood(file: &OsStr) -> Fault {
-    Fault::failed(format!(
-        "{}: the records of the library are not as expected: build the program again with its own archives",
-        names::file(file)
-    ))
 }
 
 /// One line for each item. Songs, patterns and envelopes are counted from 0, instruments and samples from 1.
@@ -65,19 +57,11 @@ fn envelopes<'r>(report: &'r Report) -> [(&'static str, &'r [Envelope<'r>]); 2] 
 }
 
 fn summary(text: &mut String, bytes: usize, report: &Report) {
-    let info = report.info;
     put!(text; "version ");
     version(text, report);
     put!(text; "\nname ", Quoted(report.name), "\nbytes ", bytes, "\n");
-    let counts = [
-        ("instruments ", info.instruments),
-        ("samples ", info.samples),
-        ("songs ", info.songs),
-        ("patterns ", info.patterns),
-        ("tracks ", info.tracks),
-    ];
-    for (what, count) in counts {
-        put!(text; what, count, "\n");
+    for (what, count) in counts(&report.info) {
+        put!(text; what, " ", count, "\n");
     }
     for (kind, envelopes) in envelopes(report) {
         put!(text; kind, " envelopes ", envelopes.len(), "\n");
@@ -101,26 +85,9 @@ fn song_line(text: &mut String, number: usize, song: &Song) {
 }
 
 fn instrument_line(text: &mut String, number: usize, instrument: &Instrument) {
-    put!(text; "instrument ", number, " ", Quoted(&instrument.name), ": ");
-    match instrument.sample {
-        0 => put!(text; "no sample"),
-        sample => put!(text; "sample ", sample),
-    }
+    put!(text; "instrument ", number, " ", Quoted(&instrument.name), ": ", SampleWords(instrument.sample));
     put!(text; ", volume ", instrument.volume, ", panning ", instrument.panning);
-    put!(text; ", rate ", instrument.rate, ", ");
-    loop_words(text, instrument);
-    put!(text; "\n");
-}
-
-/// The kind, and start + length. If the loop is off but its stored numbers are not 0, they are printed too.
-pub fn loop_words(text: &mut String, instrument: &Instrument) {
-    let (start, length) = (instrument.loop_start, instrument.loop_length);
-    match instrument.loop_kind() {
-        Loop::Forward => put!(text; "forward loop ", start, " + ", length),
-        Loop::PingPong => put!(text; "ping-pong loop ", start, " + ", length),
-        Loop::None if start == 0 && length == 0 => put!(text; "no loop"),
-        Loop::None => put!(text; "no loop (stored: ", start, " + ", length, ")"),
-    }
+    put!(text; ", rate ", instrument.rate, ", ", LoopWords::of(instrument), "\n");
 }
 
 fn sample_line(text: &mut String, number: usize, sample: &Sample) {
@@ -143,7 +110,7 @@ fn envelope_line(text: &mut String, kind: &str, number: usize, envelope: &Envelo
     }
     put!(text; ", points");
     for (position, value) in envelope.points() {
-        put!(text; " ", position, ":", value);
+        put!(text; " ", PointWords(position, value));
     }
     put!(text; "\n");
 }

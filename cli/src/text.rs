@@ -58,14 +58,19 @@ macro_rules! number_pieces {
 number_pieces!(u8, u16, u32, usize);
 
 /// A minus sign before the digits of a negative number.
-impl Piece for i16 {
-    fn put(&self, text: &mut String) {
-        if *self < 0 {
-            text.push('-');
+macro_rules! signed_pieces {
+    ($($number:ty),+) => {$(
+        impl Piece for $number {
+            fn put(&self, text: &mut String) {
+                if *self < 0 {
+                    text.push('-');
+                }
+                self.unsigned_abs().put(text);
+            }
         }
-        self.unsigned_abs().put(text);
-    }
+    )+};
 }
+signed_pieces!(i16, i32);
 
 /// Two lowercase hexadecimal digits.
 #[derive(Clone, Copy)]
@@ -110,6 +115,11 @@ mod tests {
             }
         }
         for number in i16::MIN..=i16::MAX {
+            let mut text = String::new();
+            put!(&mut text; number);
+            assert_eq!(text, number.to_string());
+        }
+        for number in [i32::MIN, i32::MIN + 1, -65_536, -1, 0, 1, 65_536, i32::MAX] {
             let mut text = String::new();
             put!(&mut text; number);
             assert_eq!(text, number.to_string());

@@ -169,6 +169,7 @@ fn the_other_commands() {
     let folder = Folder::new();
     let out = folder.0.join("out.dbm");
     let frames = sample("short-organ.frames");
+    let carousel = sample("carousel.dbm");
     for seed in 1..=300 {
         let mut random = Random::new(9_000 + seed);
         let mut draft = generate::module(&mut random, &Limits::SMALL);
@@ -181,15 +182,20 @@ fn the_other_commands() {
             &["report", "-"][..],
             &["report", "--json", "-"],
             &["cells", "-", "0"],
+            &["compare", "-", text(&carousel)],
+            &["compare", text(&carousel), "-"],
             &["repack", "-", "-"],
             &["repack", "-", text(&out)],
             &["replace", "-", "1", text(&frames), "-"],
         ] {
             let run = run_on(arguments, &module);
             if accepted {
-                // Pattern 0 or sample 1 may not exist.
-                let may_lack = matches!(arguments[0], "cells" | "replace");
-                let fine = run.status == Some(0) || may_lack && run.status == Some(2);
+                let fine = match arguments[0] {
+                    // Pattern 0 or sample 1 may not exist.
+                    "cells" | "replace" => matches!(run.status, Some(0 | 2)),
+                    "compare" => run.status == Some(3),
+                    _ => run.status == Some(0),
+                };
                 assert!(fine, "seed {seed}: {run:?}");
             } else {
                 run.is(1, "", &check.text());

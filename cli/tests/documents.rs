@@ -65,7 +65,7 @@ fn readme() {
 
 #[test]
 fn cli() {
-    holds_for("docs/CLI.md", 7);
+    holds_for("docs/CLI.md", 11);
 }
 
 /// The document of the schema has the name of every JSON field.

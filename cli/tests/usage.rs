@@ -17,11 +17,12 @@ fn help() {
     assert_eq!((program.status, program.err.as_str()), (Some(0), ""));
     assert!(program
         .text()
-        .starts_with("dbm0: checks, reports, shows and repacks DBM0 modules"));
+        .starts_with("dbm0: checks, reports, shows, compares and repacks DBM0 modules"));
     for word in [
         "check FILE..",
         "report [--json] FILE",
         "cells FILE PATTERN",
+        "compare [--numbers] A B",
         "repack IN OUT",
         "replace IN SAMPLE FRAMES OUT",
         "--version",
@@ -31,7 +32,7 @@ fn help() {
     for arguments in [&["-h"][..], &["help"]] {
         run(arguments).is(0, &program.text(), "");
     }
-    for command in ["check", "report", "cells", "repack", "replace"] {
+    for command in ["check", "report", "cells", "compare", "repack", "replace"] {
         let shown = run(&[command, "--help"]);
         assert_eq!((shown.status, shown.err.as_str()), (Some(0), ""));
         assert!(
@@ -81,7 +82,7 @@ fn version() {
 
 #[test]
 fn wrong_arguments() {
-    let expected: [(&[&str], &str); 27] = [
+    let expected: [(&[&str], &str); 35] = [
         (&[], "no command is named: see 'dbm0 --help'"),
         (&[""], "there is no command '': see 'dbm0 --help'"),
         (&["chek"], "there is no command 'chek': see 'dbm0 --help'"),
@@ -119,6 +120,35 @@ fn wrong_arguments() {
         (
             &["cells", "a", "1", "--row", "1"],
             "there is no option '--row'",
+        ),
+        (
+            &["compare"],
+            "compare takes two files, A and B: see 'dbm0 compare --help'",
+        ),
+        (&["compare", "a"], "compare takes two files, A and B"),
+        (
+            &["compare", "--numbers", "a"],
+            "compare takes two files, A and B",
+        ),
+        (
+            &["compare", "a", "b", "c"],
+            "compare takes two files, A and B",
+        ),
+        (
+            &["compare", "-", "-"],
+            "standard input can be read only once: see 'dbm0 compare --help'",
+        ),
+        (
+            &["compare", "a", "b", "--number"],
+            "there is no option '--number' (a file of that name is './--number')",
+        ),
+        (
+            &["compare", "--numbers", "a", "b", "--numbers"],
+            "--numbers stands twice",
+        ),
+        (
+            &["compare", "--numbers=5", "a", "b"],
+            "--numbers takes no value",
         ),
         (
             &["repack", "a"],
@@ -169,6 +199,7 @@ fn arguments_of_any_bytes() {
         &["check"][..],
         &["report"],
         &["cells"],
+        &["compare"],
         &["repack"],
         &["replace", "-", "1"],
         &["replace", "--", "-"],
@@ -333,6 +364,7 @@ fn an_input_without_end() {
     for command in [
         &["report", "/dev/zero"][..],
         &["cells", "/dev/zero", "0"],
+        &["compare", "/dev/zero", "/dev/zero"],
         &["repack", "/dev/zero", "-"],
         &["replace", "/dev/zero", "1", "/dev/zero", "-"],
     ] {
