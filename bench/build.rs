@@ -15,7 +15,7 @@ fn main() {
     let sources = package.join("c");
     println!("cargo:rerun-if-changed={}", sources.display());
     let mut archive = vec![String::from("crs"), text(&made.join("libbaselines.a"))];
-    for name in ["plain", "expert", "module", "repack", "replace"] {
+    for name in ["plain", "expert", "module", "repack", "replace", "compare"] {
         let object = text(&made.join(format!("{name}.o")));
         let source = text(&sources.join(format!("{name}.c")));
         let mut arguments: Vec<String> = C_FLAGS.iter().map(|flag| flag.to_string()).collect();

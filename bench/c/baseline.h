@@ -8,6 +8,9 @@
 #include <stddef.h>
 #include <stdint.h>
 
+/* Before a function of a header that some of the sources do not call. */
+#define UNUSED __attribute__((unused))
+
 typedef struct {
     uint64_t number;
     uint64_t place;

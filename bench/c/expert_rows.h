@@ -104,10 +104,12 @@ static inline __attribute__((always_inline)) void store_roomy(
 
 /*
  * Applies the entries of one row to cells of zeros. The stream ends at `end`.
- * Returns the end of the row.
+ * For each entry with fields it also sets a bit: bit 0 for tracks 1 to 8, bit 1
+ * for tracks 9 to 16, and so on. Returns the end of the row.
  */
-static inline const uint8_t *expert_load_row(
-    const uint8_t *restrict at, const uint8_t *end, uint8_t *restrict row)
+static inline __attribute__((always_inline)) const uint8_t *expert_load_marked(
+    const uint8_t *restrict at, const uint8_t *end, uint8_t *restrict row,
+    uint32_t *marks)
 {
     while (end - at >= 8) {
         size_t track = at[0];
@@ -116,14 +118,25 @@ static inline const uint8_t *expert_load_row(
         size_t mask = at[1];
         const uint8_t *fields = at + 2;
         at += entry_length[mask];
+        *marks |= (uint32_t)(mask != 0) << (track - 1) / 8;
         store_roomy(fields, mask, row + (track - 1) * 6);
     }
     while (at[0] != 0) {
+        size_t track = at[0];
         size_t mask = at[1];
-        store_fields(at + 2, mask, row + (at[0] - 1) * 6);
+        *marks |= (uint32_t)(mask != 0) << (track - 1) / 8;
+        store_fields(at + 2, mask, row + (track - 1) * 6);
         at += entry_length[mask];
     }
     return at + 1;
+}
+
+/* The same without the bits. */
+static inline const uint8_t *expert_load_row(
+    const uint8_t *restrict at, const uint8_t *end, uint8_t *restrict row)
+{
+    uint32_t unused = 0;
+    return expert_load_marked(at, end, row, &unused);
 }
 
 static uint64_t sum_of_bytes(__m128i counts)
@@ -151,7 +164,7 @@ static __m128i zero_bytes(const uint8_t *from)
     return _mm_cmpeq_epi8(load_16(from), _mm_setzero_si128());
 }
 
-static size_t expert_packed_length(const uint8_t *cells, uint64_t rows, uint64_t tracks)
+UNUSED static size_t expert_packed_length(const uint8_t *cells, uint64_t rows, uint64_t tracks)
 {
     /* Of the 24 lanes of 8 cells, those at which a cell begins. */
     const __m128i first = _mm_setr_epi16(-1, 0, 0, -1, 0, 0, -1, 0);
@@ -229,7 +242,7 @@ static uint8_t *write_roomy(const uint8_t *cell, unsigned track, uint8_t *out)
  * Bytes after the stream, up to `needed`, may be overwritten. Returns the end
  * of the stream.
  */
-static uint8_t *expert_write_rows(
+UNUSED static uint8_t *expert_write_rows(
     const uint8_t *restrict cells, uint64_t rows, uint64_t tracks,
     uint8_t *restrict out, size_t needed)
 {

@@ -6,8 +6,7 @@
 #ifndef PLAIN_ROWS_H
 #define PLAIN_ROWS_H
 
-#include <stddef.h>
-#include <stdint.h>
+#include "baseline.h"
 
 /* Applies the entries of one row to cells of zeros. Returns the end of the row. */
 static inline const uint8_t *plain_load_row(const uint8_t *at, uint8_t *row)
@@ -23,7 +22,7 @@ static inline const uint8_t *plain_load_row(const uint8_t *at, uint8_t *row)
     return at;
 }
 
-static size_t plain_packed_length(const uint8_t *cells, uint64_t rows, uint64_t tracks)
+UNUSED static size_t plain_packed_length(const uint8_t *cells, uint64_t rows, uint64_t tracks)
 {
     size_t length = rows;
     for (size_t left = rows * tracks; left > 0; left--, cells += 6) {
@@ -37,7 +36,7 @@ static size_t plain_packed_length(const uint8_t *cells, uint64_t rows, uint64_t 
 }
 
 /* Returns the end of the stream. */
-static uint8_t *plain_write_rows(
+UNUSED static uint8_t *plain_write_rows(
     const uint8_t *cells, uint64_t rows, uint64_t tracks, uint8_t *out)
 {
     for (uint64_t row = 0; row < rows; row++) {

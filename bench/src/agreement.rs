@@ -3,13 +3,16 @@
 use std::collections::BTreeSet;
 use std::fmt::Debug;
 
+use interface::DIFFERENCE_BYTES;
 use reference::chunks::MOST_BYTES;
-use reference::draft::{Chunk, Draft, Sample, Tune};
+use reference::draft::{self, Chunk, Draft, Sample, Tune};
 use reference::generate::{self, Limits};
+use reference::pairs::{pair, valid_change, RELATIONS};
 
 use crate::corpus::{self, Corpus, Pattern, Random};
-use crate::implementations::{Answer, Implementation, Verdict, IMPLEMENTATIONS};
+use crate::implementations::{Answer, Implementation, Verdict, IMPLEMENTATIONS, OURS};
 use crate::modules::{Module, Replacement};
+use crate::pairs::Pair;
 
 /// The bytes after the needed length, which must not change.
 const SPARE: usize = 16;
@@ -21,6 +24,11 @@ const OTHER_SIZES: usize = 400;
 const DAMAGED_MODULES: usize = 30;
 /// The number of modules of some hundred bytes, and of some thousand.
 const SMALL_MODULES: usize = 3_000;
+/// The number of small pairs for each relation of the second program's generator, and of pairs of modules with many tracks.
+const RELATED_PAIRS: usize = 300;
+const WIDE_PAIRS: usize = 500;
+/// The number of changed copies of each module.
+const CHANGED_MODULES: usize = 2;
 
 /// Returns the number of compared calls, or the first difference.
 pub fn compare(corpora: &[Corpus]) -> Result<usize, String> {
@@ -121,6 +129,14 @@ fn same<A: PartialEq + Debug>(
     what: &str,
     call: impl Fn(&Implementation) -> (A, Vec<u8>),
 ) -> Result<usize, String> {
+    same_result(what, call).map(|_| IMPLEMENTATIONS.len())
+}
+
+/// What all implementations answer, and the output that they leave.
+fn same_result<A: PartialEq + Debug>(
+    what: &str,
+    call: impl Fn(&Implementation) -> (A, Vec<u8>),
+) -> Result<(A, Vec<u8>), String> {
     let first = call(&IMPLEMENTATIONS[0]);
     for other in &IMPLEMENTATIONS[1..] {
         let second = call(other);
@@ -137,7 +153,7 @@ fn same<A: PartialEq + Debug>(
             ));
         }
     }
-    Ok(IMPLEMENTATIONS.len())
+    Ok(first)
 }
 
 /// The call succeeds with exactly this output and does not change the bytes after it, both for an output of the needed length and for a
@@ -287,11 +303,142 @@ pub fn compare_replaced(modules: &[Module]) -> Result<usize, String> {
     }
 }
 
-/// The number of calls so far, and the numbers in their answers.
+/// Returns the number of compared calls that compare two modules, or the first difference. Each refusal and each kind of entry must occur.
+pub fn compare_compared(
+    modules: &[Module],
+    pairs: &[Pair],
+    others: &[Pair],
+) -> Result<usize, String> {
+    let mut compared = Compared::default();
+    let mut random = Random(13);
+    let mut faults = generate::Random::new(14);
+    for pair in pairs.iter().chain(others) {
+        compared.same_long(pair.name, &pair.first, &pair.second)?;
+    }
+    for module in modules {
+        let what = module.name;
+        for copy in copies(module, &mut faults) {
+            compared.same_long(what, &module.bytes, &copy)?;
+        }
+        for turn in 0..DAMAGED_MODULES / 10 {
+            let what = format!("{what}, damaged, turn {turn}");
+            let damaged = damaged_draft(&module.draft, &mut faults);
+            match turn % 2 {
+                0 => compared.same_long(&what, &damaged, &module.bytes)?,
+                _ => compared.same_long(&what, &module.bytes, &damaged)?,
+            }
+        }
+    }
+    for turn in 0..SMALL_MODULES {
+        let what = format!("small pair, turn {turn}");
+        let draft = generate::module(&mut faults, &Limits::SMALL);
+        let (bytes, damaged) = (draft.bytes(), damaged_draft(&draft, &mut faults));
+        compared.same_short(&what, &damaged, &bytes, &mut random)?;
+        compared.same_short(&what, &bytes, &damaged, &mut random)?;
+    }
+    for relation in RELATIONS {
+        for turn in 0..RELATED_PAIRS {
+            let what = format!("{relation:?}, turn {turn}");
+            let (first, second) = pair(&mut faults, relation);
+            compared.same_short(&what, &first, &second, &mut random)?;
+        }
+    }
+    for turn in 0..WIDE_PAIRS {
+        let what = format!("many tracks, turn {turn}");
+        let (first, second) = wide_pair(&mut faults);
+        compared.same_short(&what, &first, &second, &mut random)?;
+    }
+    let mut longest = longest_module();
+    let other = longest.clone();
+    compared.same_long("longest modules", &longest, &other)?;
+    longest.push(0);
+    compared.same_long("one byte too long", &longest, &other)?;
+
+    let mut numbers = (0..=15).chain([17]);
+    if let Some(number) = numbers.find(|number| !compared.numbers.contains(number)) {
+        return Err(format!("no comparison is answered with {number}"));
+    }
+    match (1..=8).find(|kind| !compared.kinds.contains(kind)) {
+        Some(kind) => Err(format!("no entry is of kind {kind}")),
+        None => Ok(compared.calls),
+    }
+}
+
+/// The bytes of the list of differences, or 0 if a module is refused.
+fn listed_bytes(first: &[u8], second: &[u8]) -> usize {
+    let asked = (IMPLEMENTATIONS[OURS].compare_modules)(first, second, &mut []);
+    match asked.number {
+        17 => asked.place as usize,
+        _ => 0,
+    }
+}
+
+/// A module itself, repacked, with a sample replaced, and with changes of its records.
+fn copies(module: &Module, random: &mut generate::Random) -> Vec<Vec<u8>> {
+    let bytes = &module.bytes;
+    let mut copies = vec![bytes.clone()];
+    let mut out = vec![0; 2 * bytes.len()];
+    let answer = (IMPLEMENTATIONS[OURS].repack_module)(bytes, &mut out);
+    copies.push(out[..answer.length as usize].to_vec());
+    if let Some(Replacement { sample, frames }) = &module.replacement {
+        let answer = (IMPLEMENTATIONS[OURS].replace_sample)(bytes, *sample, frames, &mut out);
+        copies.push(out[..answer.record.length as usize].to_vec());
+    }
+    copies.extend((0..CHANGED_MODULES).map(|_| valid_change(random, &module.tune).bytes()));
+    copies
+}
+
+/// Two modules with a pattern of up to 40 rows and up to 254 tracks. A row of the second module is the same as in the first, or empty, or
+/// another one, or has one more entry.
+fn wide_pair(random: &mut generate::Random) -> (Vec<u8>, Vec<u8>) {
+    let tracks = 4 + 2 * random.below(126);
+    let rows = random.below(41);
+    let most_entries = random.pick(&[1, 3, 20]);
+    let (empty, changed) = (random.pick(&[0, 50, 95]), random.pick(&[5, 50]));
+    let mut streams = (Vec::new(), Vec::new());
+    for _ in 0..rows {
+        let most = if random.chance(empty) {
+            0
+        } else {
+            most_entries
+        };
+        let row = generate::valid_stream(random, 1, tracks, most);
+        let other = if random.chance(changed) {
+            changed_row(random, &row, tracks, most_entries)
+        } else {
+            row.clone()
+        };
+        streams.0.extend(row);
+        streams.1.extend(other);
+    }
+    let module = |stream: &[u8]| {
+        let tune = Tune {
+            tracks: tracks as u16,
+            patterns: vec![draft::Pattern::new(rows as u16, stream)],
+            ..Tune::default()
+        };
+        tune.bytes()
+    };
+    (module(&streams.0), module(&streams.1))
+}
+
+fn changed_row(random: &mut generate::Random, row: &[u8], tracks: u64, most: u64) -> Vec<u8> {
+    let entry = generate::entry(random, tracks);
+    match random.below(5) {
+        0 => vec![0],
+        1 => generate::valid_stream(random, 1, tracks, most),
+        2 => [&[entry[0], 0], row].concat(),
+        3 => [&entry, row].concat(),
+        _ => [&row[..row.len() - 1], &entry, &[0]].concat(),
+    }
+}
+
+/// The number of calls so far, the numbers in their answers, and the kinds of entries in lists of differences.
 #[derive(Default)]
 struct Compared {
     calls: usize,
     numbers: BTreeSet<u64>,
+    kinds: BTreeSet<u8>,
 }
 
 impl Compared {
@@ -348,6 +495,49 @@ impl Compared {
             (IMPLEMENTATIONS[0].replace_sample)(module, sample, frames, out)
         });
         self.numbers.extend([asked.number, answer.number]);
+        Ok(())
+    }
+
+    /// Short modules, with outputs that are empty, too short, exactly long enough and longer.
+    fn same_short(
+        &mut self,
+        what: &str,
+        first: &[u8],
+        second: &[u8],
+        random: &mut Random,
+    ) -> Result<(), String> {
+        let needed = listed_bytes(first, second);
+        let short = random.below(needed as u64 + 1) as usize;
+        for room in [0, short, needed.saturating_sub(1), needed, needed + 1] {
+            self.same_listed(what, first, second, room)?;
+        }
+        Ok(())
+    }
+
+    /// Long modules, with outputs that are one byte too short and exactly long enough.
+    fn same_long(&mut self, what: &str, first: &[u8], second: &[u8]) -> Result<(), String> {
+        let needed = listed_bytes(first, second);
+        if needed > 0 {
+            self.same_listed(what, first, second, needed - 1)?;
+        }
+        self.same_listed(what, first, second, needed)
+    }
+
+    fn same_listed(
+        &mut self,
+        what: &str,
+        first: &[u8],
+        second: &[u8],
+        room: usize,
+    ) -> Result<(), String> {
+        let (answer, out) = same_result(what, |one| {
+            into(room, |out| (one.compare_modules)(first, second, out))
+        })?;
+        let listed = answer.record.entries as usize * DIFFERENCE_BYTES;
+        let kinds = out[..listed].chunks(DIFFERENCE_BYTES).map(|entry| entry[1]);
+        self.calls += IMPLEMENTATIONS.len();
+        self.numbers.insert(answer.number);
+        self.kinds.extend(kinds);
         Ok(())
     }
 }

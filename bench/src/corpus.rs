@@ -52,6 +52,25 @@ impl Corpus {
             .filter(|cell| cell.iter().any(|&field| field != 0))
             .count()
     }
+
+    /// The same patterns with another note in each n-th cell.
+    pub fn with_other_notes(&self, n: usize) -> Corpus {
+        let mut all: Vec<u8> = self
+            .patterns
+            .iter()
+            .flat_map(|it| it.cells.clone())
+            .collect();
+        for cell in all.chunks_mut(FIELDS).step_by(n) {
+            cell[0] ^= 1;
+        }
+        Corpus {
+            name: self.name,
+            patterns: all
+                .chunks(ROWS * TRACKS * FIELDS)
+                .map(|cells| Pattern::new(ROWS, TRACKS, cells.to_vec()))
+                .collect(),
+        }
+    }
 }
 
 pub fn corpora() -> [Corpus; 3] {

@@ -1,18 +1,20 @@
 //! The four implementations under one interface.
 
-use interface::{RecordAnswer, Replaced};
-use reference::{module, pattern, repack, replace};
+use interface::{Compared, RecordAnswer, Replaced};
+use reference::{compare, module, pattern, repack, replace};
 
-/// The answer of a call on a pattern and of repacking a module, the answer of the check of a module, and the answer of replacing a sample.
-/// The C implementations use the same three.
+/// The answer of a call on a pattern and of repacking a module, the answer of the check of a module, and the answers of replacing a sample
+/// and of comparing two modules. The C implementations use the same four.
 pub use interface::{Answer, ModuleAnswer as Verdict};
 pub type ReplaceAnswer = RecordAnswer<Replaced>;
+pub type CompareAnswer = RecordAnswer<Compared>;
 
 pub type Check = fn(&[u8], u64, u64) -> Answer;
 pub type Fill = fn(&[u8], u64, u64, &mut [u8]) -> Answer;
 pub type CheckModule = fn(&[u8]) -> Verdict;
 pub type RepackModule = fn(&[u8], &mut [u8]) -> Answer;
 pub type ReplaceSample = fn(&[u8], usize, &[u8], &mut [u8]) -> ReplaceAnswer;
+pub type CompareModules = fn(&[u8], &[u8], &mut [u8]) -> CompareAnswer;
 
 pub struct Implementation {
     pub name: &'static str,
@@ -22,6 +24,7 @@ pub struct Implementation {
     pub check_module: CheckModule,
     pub repack_module: RepackModule,
     pub replace_sample: ReplaceSample,
+    pub compare_modules: CompareModules,
 }
 
 pub const OURS: usize = 0;
@@ -38,6 +41,7 @@ pub const IMPLEMENTATIONS: [Implementation; COUNT] = [
         check_module: interface::check_module,
         repack_module: interface::repack,
         replace_sample: interface::replace_sample,
+        compare_modules: interface::compare,
     },
     Implementation {
         name: "plain C",
@@ -47,6 +51,7 @@ pub const IMPLEMENTATIONS: [Implementation; COUNT] = [
         check_module: plain::check_module,
         repack_module: plain::repack_module,
         replace_sample: plain::replace_sample,
+        compare_modules: plain::compare_modules,
     },
     Implementation {
         name: "expert C",
@@ -56,6 +61,7 @@ pub const IMPLEMENTATIONS: [Implementation; COUNT] = [
         check_module: expert::check_module,
         repack_module: expert::repack_module,
         replace_sample: expert::replace_sample,
+        compare_modules: expert::compare_modules,
     },
     Implementation {
         name: "Rust",
@@ -65,14 +71,15 @@ pub const IMPLEMENTATIONS: [Implementation; COUNT] = [
         check_module: rust_check_module,
         repack_module: rust_repack_module,
         replace_sample: rust_replace_sample,
+        compare_modules: rust_compare_modules,
     },
 ];
 
-/// Safe wrappers of six C functions. A slice is passed as a pointer and a length, and the C functions read and write only there.
+/// Safe wrappers of seven C functions. A slice is passed as a pointer and a length, and the C functions read and write only there.
 macro_rules! over_c {
-    ($name:ident, $check:ident, $unpack:ident, $pack:ident, $check_module:ident, $repack_module:ident, $replace_sample:ident) => {
+    ($name:ident, $check:ident, $unpack:ident, $pack:ident, $check_module:ident, $repack_module:ident, $replace_sample:ident, $compare_modules:ident) => {
         mod $name {
-            use super::{Answer, ReplaceAnswer, Verdict};
+            use super::{Answer, CompareAnswer, ReplaceAnswer, Verdict};
 
             unsafe extern "C" {
                 fn $check(stream: *const u8, length: usize, rows: u64, tracks: u64) -> Answer;
@@ -108,6 +115,14 @@ macro_rules! over_c {
                     out: *mut u8,
                     out_length: usize,
                 ) -> ReplaceAnswer;
+                fn $compare_modules(
+                    first: *const u8,
+                    first_length: usize,
+                    second: *const u8,
+                    second_length: usize,
+                    out: *mut u8,
+                    out_length: usize,
+                ) -> CompareAnswer;
             }
 
             pub fn check(stream: &[u8], rows: u64, tracks: u64) -> Answer {
@@ -174,6 +189,20 @@ macro_rules! over_c {
                     )
                 }
             }
+
+            pub fn compare_modules(first: &[u8], second: &[u8], out: &mut [u8]) -> CompareAnswer {
+                // SAFETY: each pointer and length are those of one slice, and the output overlaps neither of the others.
+                unsafe {
+                    $compare_modules(
+                        first.as_ptr(),
+                        first.len(),
+                        second.as_ptr(),
+                        second.len(),
+                        out.as_mut_ptr(),
+                        out.len(),
+                    )
+                }
+            }
         }
     };
 }
@@ -185,7 +214,8 @@ over_c!(
     plain_pack_pattern,
     plain_check_module,
     plain_repack_module,
-    plain_replace_sample
+    plain_replace_sample,
+    plain_compare_modules
 );
 over_c!(
     expert,
@@ -194,7 +224,8 @@ over_c!(
     expert_pack_pattern,
     expert_check_module,
     expert_repack_module,
-    expert_replace_sample
+    expert_replace_sample,
+    expert_compare_modules
 );
 
 fn answer(result: Result<u64, pattern::Refusal>) -> Answer {
@@ -248,5 +279,17 @@ fn rust_replace_sample(
         number,
         place,
         record,
+    }
+}
+
+fn rust_compare_modules(first: &[u8], second: &[u8], out: &mut [u8]) -> CompareAnswer {
+    let (number, place, entries) = match compare::compare(first, second, out) {
+        Ok(entries) => (0, 0, entries),
+        Err(refusal) => (refusal.number, refusal.place, 0),
+    };
+    CompareAnswer {
+        number,
+        place,
+        record: Compared { entries },
     }
 }

@@ -1,20 +1,26 @@
-//! Measures check, unpack and pack of packed rows, and the check, the repacking and the replacing of a sample of whole modules: the proved
-//! libraries through their C interface, two C implementations and plain Rust.
+//! Measures check, unpack and pack of packed rows, the check, the repacking and the replacing of a sample of whole modules, and the comparing
+//! of two modules: the proved libraries through their C interface, two C implementations and plain Rust.
 
 mod agreement;
 mod corpus;
 mod implementations;
 mod measure;
 mod modules;
+mod pairs;
 
 use std::process::ExitCode;
+
+use interface::MOST_BYTES;
 
 use corpus::{Corpus, PATTERNS, ROWS, TRACKS};
 use implementations::{EXPERT, IMPLEMENTATIONS, OURS, PLAIN};
 use measure::{Line, Times};
 use modules::Module;
+use pairs::Pair;
 
 const DEFAULT_ROUNDS: usize = 200;
+/// The long pairs have this length when the implementations are compared. When they are measured they have the maximum length of a module.
+const COMPARED_BYTES: usize = 1 << 20;
 const USAGE: &str = "usage: bench/run [--rounds N]";
 
 fn main() -> ExitCode {
@@ -24,12 +30,14 @@ fn main() -> ExitCode {
     };
     let corpora = corpus::corpora();
     let modules = modules::modules(&corpora);
-    if let Err(difference) = agree(&corpora, &modules) {
+    let mut pairs = pairs::pairs(&corpora, &modules);
+    if let Err(difference) = agree(&corpora, &modules, &pairs) {
         eprintln!("the implementations differ: {difference}");
         return ExitCode::FAILURE;
     }
-    describe(&corpora, &modules, rounds);
-    let measured = measure::measure(&corpora, &modules, rounds);
+    pairs.extend(pairs::long_pairs(&corpora, MOST_BYTES));
+    describe(&corpora, &modules, &pairs, rounds);
+    let measured = measure::measure(&corpora, &modules, &pairs, rounds);
     print_table("ns per cell", &measured.patterns);
     println!();
     print_table("Whole modules, µs per module", &measured.modules);
@@ -37,18 +45,26 @@ fn main() -> ExitCode {
     print_table("Whole modules repacked, µs per module", &measured.repacked);
     println!();
     print_table("A sample replaced, µs per module", &measured.replaced);
+    println!();
+    print_table("Two modules compared, µs per pair", &measured.compared);
     ExitCode::SUCCESS
 }
 
-fn agree(corpora: &[Corpus], modules: &[Module]) -> Result<(), String> {
+fn agree(corpora: &[Corpus], modules: &[Module], pairs: &[Pair]) -> Result<(), String> {
     let calls = agreement::compare(corpora)?;
     println!("Agreement: {calls} calls, other sizes, damaged streams and short outputs among them: all four give the same answers and bytes.");
     let calls = agreement::compare_modules(modules)?;
-    println!("Agreement: {calls} calls on modules, small and damaged ones among them: all four give the same number and place, and each of the numbers 0 to 15 was given.");
+    println!("Agreement: {calls} calls on modules, small and damaged ones among them: all four give the same number and place, \
+              and each of the numbers 0 to 15 was given.");
     let calls = agreement::compare_repacked(modules)?;
     println!("Agreement: {calls} calls that repack modules, small and damaged ones and short outputs among them: all four give the same answers and bytes.");
     let calls = agreement::compare_replaced(modules)?;
-    println!("Agreement: {calls} calls that replace a sample, small and damaged modules and short outputs among them: all four give the same answers and bytes, and each of the numbers 0, 1, 17, 18 and 19 was given.\n");
+    println!("Agreement: {calls} calls that replace a sample, small and damaged modules and short outputs among them: all four give the same \
+              answers and bytes, and each of the numbers 0, 1, 17, 18 and 19 was given.");
+    let others = pairs::long_pairs(corpora, COMPARED_BYTES);
+    let calls = agreement::compare_compared(modules, pairs, &others)?;
+    println!("Agreement: {calls} calls that compare two modules, small and damaged ones and short outputs among them: all four give the same \
+              answers and bytes, each of the numbers 0 to 15 and 17 was given, and entries of each of the kinds 1 to 8.\n");
     Ok(())
 }
 
@@ -61,7 +77,7 @@ fn rounds(mut arguments: impl Iterator<Item = String>) -> Option<usize> {
     fits.then_some(count)
 }
 
-fn describe(corpora: &[Corpus], modules: &[Module], rounds: usize) {
+fn describe(corpora: &[Corpus], modules: &[Module], pairs: &[Pair], rounds: usize) {
     println!("Corpora, each {PATTERNS} patterns of {ROWS} rows and {TRACKS} tracks:");
     for corpus in corpora {
         println!(
@@ -81,19 +97,31 @@ fn describe(corpora: &[Corpus], modules: &[Module], rounds: usize) {
             module.holds
         );
     }
+    println!("Pairs of modules:");
+    for pair in pairs {
+        println!(
+            "  {}, {}: {} and {} bytes; {}",
+            pair.name,
+            pair.differs,
+            pair.first.len(),
+            pair.second.len(),
+            pair.holds
+        );
+    }
     println!(
         "
 ours      libpattern.a and libdbm0.a through their C interface
-plain C   c/plain.c, c/module.c, c/repack.c and c/replace.c, gcc -O3 for baseline x86-64 ({})
-expert C  c/expert.c, c/module.c, c/repack.c and c/replace.c, the same compiler and flags
+plain C   c/plain.c, c/module.c, c/repack.c, c/replace.c and c/compare.c, gcc -O3 for baseline x86-64 ({})
+expert C  c/expert.c, c/module.c, c/repack.c, c/replace.c and c/compare.c, the same compiler and flags
 Rust      the crate `reference`, release build ({})
 
 One process, {rounds} rounds. A round takes each corpus and function in turn, and there each implementation over the whole
 corpus, in a random order; then each module in turn, and there each implementation, in a random order: first the checks, then
-the modules of the corpora repacked, then a sample replaced in these and in the module of samples. Times are CPU time of the
-process (CLOCK_PROCESS_CPUTIME_ID). Same inputs for all. Outputs are shared, one buffer of just the needed length for each
-pattern or module, warmed by one round that does not count and not cleared between calls: an unpacker clears the cells itself,
-as a part of its work.
+the modules of the corpora repacked, then a sample replaced in these and in the module of samples. Every tenth round also takes
+the pairs of modules in turn, except the long ones, which only every hundredth round takes. Times are CPU time of the process
+(CLOCK_PROCESS_CPUTIME_ID). Same inputs for all. Outputs are shared, one buffer of just the needed length for each pattern,
+module or pair, warmed by one round that does not count, or written once before, and not cleared between calls: an unpacker
+clears the cells itself, as a part of its work.
 ",
         env!("BENCH_GCC"),
         env!("BENCH_RUSTC")
@@ -105,14 +133,14 @@ fn print_table(unit: &str, lines: &[Line]) {
     println!("C/ours: time of the better C / time of ours, by the medians, and by the minima in brackets. Over 1, ours is faster.\n");
     print!("{:<28} {:<7}", "corpus", "");
     for implementation in &IMPLEMENTATIONS {
-        print!(" {:>15}", implementation.name);
+        print!(" {:>17}", implementation.name);
     }
     println!(" {:>13}", "C/ours");
     for line in lines {
         print!("{:<28} {:<7}", line.corpus, line.function);
         for times in &line.times {
             let figures = format!("{} ({})", figure(times.median()), figure(times.minimum()));
-            print!(" {figures:>15}");
+            print!(" {figures:>17}");
         }
         let ratios = format!(
             "{:.2} ({:.2})",

@@ -2,9 +2,12 @@
 
 use std::hint::black_box;
 
+use interface::DIFFERENCE_BYTES;
+
 use crate::corpus::{Corpus, Pattern, Random};
 use crate::implementations::{Answer, Implementation, COUNT, IMPLEMENTATIONS, OURS};
 use crate::modules::{Module, Replacement};
+use crate::pairs::Pair;
 
 #[derive(Clone, Copy)]
 pub enum Function {
@@ -43,7 +46,7 @@ impl Times {
     }
 }
 
-/// The times of one function on one corpus or module, for each implementation.
+/// The times of one function on one corpus, module or pair of modules, for each implementation.
 pub struct Line {
     pub corpus: &'static str,
     pub function: &'static str,
@@ -60,12 +63,14 @@ impl Line {
     }
 }
 
-/// Nanoseconds per cell for the patterns, microseconds per module for the check and the repacking of modules and the replacing of a sample.
+/// Nanoseconds per cell for the patterns, microseconds per module for the check and the repacking of modules and the replacing of a sample,
+/// microseconds per pair for the comparing of modules.
 pub struct Measured {
     pub patterns: Vec<Line>,
     pub modules: Vec<Line>,
     pub repacked: Vec<Line>,
     pub replaced: Vec<Line>,
+    pub compared: Vec<Line>,
 }
 
 /// The outputs of a corpus: one buffer of exactly the needed length for each pattern, used by every implementation.
@@ -74,7 +79,7 @@ struct Outputs {
     streams: Vec<Vec<u8>>,
 }
 
-pub fn measure(corpora: &[Corpus], modules: &[Module], rounds: usize) -> Measured {
+pub fn measure(corpora: &[Corpus], modules: &[Module], pairs: &[Pair], rounds: usize) -> Measured {
     let mut outputs: Vec<Outputs> = corpora
         .iter()
         .map(|corpus| Outputs {
@@ -109,6 +114,11 @@ pub fn measure(corpora: &[Corpus], modules: &[Module], rounds: usize) -> Measure
     let mut replaced_lines: Vec<Line> = replaced
         .iter()
         .map(|(module, _)| Line::new(module.name, "replace", rounds))
+        .collect();
+    let mut compared_outputs: Vec<Vec<u8>> = pairs.iter().map(compared_room).collect();
+    let mut compared_lines: Vec<Line> = pairs
+        .iter()
+        .map(|pair| Line::new(pair.name, pair.differs, rounds))
         .collect();
 
     let mut random = Random(6);
@@ -151,12 +161,23 @@ pub fn measure(corpora: &[Corpus], modules: &[Module], rounds: usize) -> Measure
                 }
             }
         }
+        let outputs = pairs.iter().zip(&mut compared_outputs);
+        for ((pair, out), line) in outputs.zip(&mut compared_lines) {
+            if !pair.is_measured_in(round) {
+                continue;
+            }
+            for which in shuffled(&mut random) {
+                let time = compare_pass(pair, out, &IMPLEMENTATIONS[which]);
+                line.times[which].0.push(time / 1e3);
+            }
+        }
     }
     let all = lines
         .iter_mut()
         .chain(&mut module_lines)
         .chain(&mut repacked_lines)
-        .chain(&mut replaced_lines);
+        .chain(&mut replaced_lines)
+        .chain(&mut compared_lines);
     for line in all {
         for times in &mut line.times {
             times.0.sort_by(f64::total_cmp);
@@ -167,6 +188,7 @@ pub fn measure(corpora: &[Corpus], modules: &[Module], rounds: usize) -> Measure
         modules: module_lines,
         repacked: repacked_lines,
         replaced: replaced_lines,
+        compared: compared_lines,
     }
 }
 
@@ -280,6 +302,28 @@ fn replace_pass(
     assert_eq!(
         answer.record.cleared, 1,
         "another number of loops is cleared"
+    );
+    time
+}
+
+/// An output of exactly the needed length for the list of differences. It is written once, so that no measured call is the first to write it.
+fn compared_room(pair: &Pair) -> Vec<u8> {
+    vec![1; DIFFERENCE_BYTES * pair.entries]
+}
+
+/// The nanoseconds of one implementation for comparing two modules.
+fn compare_pass(pair: &Pair, out: &mut [u8], implementation: &Implementation) -> f64 {
+    let start = cpu_time();
+    let answer = (implementation.compare_modules)(
+        black_box(&pair.first),
+        black_box(&pair.second),
+        black_box(out),
+    );
+    let time = cpu_time() - start;
+    assert_eq!(answer.number, 0, "a pair is refused");
+    assert_eq!(
+        answer.record.entries, pair.entries as u64,
+        "another number of differences"
     );
     time
 }

@@ -1,21 +1,22 @@
-//! The modules whose check, repacking and replacing of a sample are measured. They are the same on every run.
+//! The modules whose check, repacking, replacing of a sample and comparing are measured. They are the same on every run.
 
 use reference::chunks::{Name, COVERED};
 use reference::draft::{Chunk, Draft, Envelope, Instrument, Pattern, Sample, Song, Tune};
 
 use crate::corpus::{Corpus, Random, ROWS, TRACKS};
 
-/// A module, and the draft from which it is written.
+/// A module, the draft from which it is written, and the records from which the draft is made.
 pub struct Module {
     pub name: &'static str,
     pub holds: String,
+    pub tune: Tune,
     pub draft: Draft,
     pub bytes: Vec<u8>,
     /// How often a pass checks it, so that the time of the clock itself is negligible.
     pub repeats: usize,
     /// Whether its patterns are those of a corpus. Then repacking it is measured too.
     pub of_corpus: bool,
-    /// The sample that is replaced, if that is measured too.
+    /// The sample that is replaced, if that is measured too. Then comparing the module with a copy of it is also measured.
     pub replacement: Option<Replacement>,
 }
 
@@ -26,10 +27,12 @@ pub struct Replacement {
 }
 
 impl Module {
-    fn new(name: &'static str, holds: String, draft: Draft) -> Module {
+    fn new(name: &'static str, holds: String, tune: Tune) -> Module {
+        let draft = tune.draft();
         Module {
             name,
             holds,
+            tune,
             bytes: draft.bytes(),
             draft,
             repeats: 1,
@@ -74,7 +77,7 @@ pub fn modules(corpora: &[Corpus]) -> Vec<Module> {
 }
 
 /// The patterns of a corpus, with two songs over all of them, and instruments of which every second one has a loop.
-fn of_corpus(corpus: &Corpus) -> Module {
+pub fn of_corpus(corpus: &Corpus) -> Module {
     let samples = many_samples(SMALL_SAMPLES, SMALL_SAMPLE_BYTES);
     let mut instruments = looped(&samples);
     for instrument in instruments.iter_mut().step_by(2) {
@@ -101,7 +104,7 @@ fn of_corpus(corpus: &Corpus) -> Module {
     Module {
         of_corpus: true,
         replacement: Some(replacement(SMALL_SAMPLES, SMALL_SAMPLE_BYTES)),
-        ..Module::new(corpus.name, holds, tune.draft())
+        ..Module::new(corpus.name, holds, tune)
     }
 }
 
@@ -122,7 +125,7 @@ fn playlists() -> Module {
     };
     let holds =
         format!("{SONGS} songs, {entries} entries of playlists, {PATTERNS} patterns of 1 row");
-    Module::new("playlists", holds, tune.draft())
+    Module::new("playlists", holds, tune)
 }
 
 fn envelopes() -> Module {
@@ -143,7 +146,7 @@ fn envelopes() -> Module {
     let holds = format!(
         "{ENVELOPES} volume and {ENVELOPES} panning envelopes, all {POINTS} points of each in use"
     );
-    Module::new("envelopes", holds, tune.draft())
+    Module::new("envelopes", holds, tune)
 }
 
 /// An envelope with any flags and with all points in use.
@@ -176,13 +179,18 @@ fn other_chunks() -> Module {
             })
             .collect()
     };
-    let mut draft = Tune::default().draft();
+    let tune = Tune::default();
+    let mut draft = tune.draft();
     let mut chunks = others(OTHER_CHUNKS / 2);
     chunks.append(&mut draft.chunks);
     chunks.extend(others(OTHER_CHUNKS / 2));
     draft.chunks = chunks;
     let holds = format!("{OTHER_CHUNKS} chunks of 0 to {MOST_OTHER_BYTES} bytes that are stepped over, in any order of lengths and identifiers");
-    Module::new("other chunks", holds, draft)
+    Module {
+        bytes: draft.bytes(),
+        draft,
+        ..Module::new("other chunks", holds, tune)
+    }
 }
 
 /// Four letters that are not the identifier of a covered chunk.
@@ -208,7 +216,7 @@ fn samples() -> Module {
     Module {
         repeats: LARGE_SAMPLES_REPEATS,
         replacement: Some(replacement(MOST_SAMPLES, LARGE_SAMPLE_BYTES)),
-        ..Module::new("samples", holds, tune.draft())
+        ..Module::new("samples", holds, tune)
     }
 }
 
