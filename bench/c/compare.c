@@ -2,7 +2,7 @@
  * Comparing two modules, once as plain and once as expert C.
  *
  * Both modules are checked, as in module.c. Then the blocks of both are walked
- * in step, first to count the differences, and again to write them if there are
+ * together, first to count the differences, and again to write them if there are
  * any. Names, songs, instruments and samples are compared by memcmp, and so are
  * envelopes, except the panning envelopes of two versions. Patterns with equal
  * streams have no differences.

@@ -81,5 +81,6 @@ module _ (ds : List Difference) (n : ℕ) (out : List ℕ) (start : ℕ) (s : st
           ∙ sym (listed-none ds n out (omega (arith, none)))
 
   -- A part from there on, lent and given back with the entries.
-  pub listed-lent : (mid : List ℕ) → mid ≡ entriesListed ds 0 (midOf start (length out - start) out) → putMid start (length out - start) out mid ≡ entriesListed ds n out
+  pub listed-lent : (mid : List ℕ) → mid ≡ entriesListed ds 0 (midOf start (length out - start) out)
+      → putMid start (length out - start) out mid ≡ entriesListed ds n out
   listed-lent mid is = put-end start out mid ∙ ap (take start out ++_) (is ∙ ap (entriesListed ds 0) (mid-end start out)) ∙ listed-parts

@@ -47,7 +47,7 @@ module _ (a b : ℕ) where
   pub bytes32-same : equalBytes (bytes32 a) (bytes32 b) ≡ eqb a b
   bytes32-same = number-same bytes32 (λ (xs : List ℕ). number32 xs 0) bytes32-again
 
--- Signed numbers that are told apart by 2 bytes: all below 65,536 and none negative, or all from -32,768 to 32,767.
+-- Signed numbers that 2 bytes distinguish: all below 65,536 and none negative, or all from -32,768 to 32,767.
 abbrev pub Apart : Bool → ℤ → Type 0
 Apart true (pos n) = n < 32768
 Apart true (negsuc n) = n < 32768
@@ -56,17 +56,17 @@ Apart false (negsuc n) = ⊥
 
 -- Such numbers are the same if they are stored the same: a number that is not negative as it is, -(n + 1) as the largest number minus n.
 module _ (f : ℤ → ℕ) (largest : ℕ) (enough : 65535 ≤ largest) (up : (n : ℕ) → f (pos n) ≡ n) (down : (n : ℕ) → f (negsuc n) ≡ largest - n) where
-  told-apart : (signed : Bool) (v w : ℤ) → Apart signed v → Apart signed w → f v ≡ f w → v ≡ w
-  told-apart signed (pos a) (pos b) h k e = ap pos (sym (up a) ∙ e ∙ up b)
-  told-apart true (pos a) (negsuc b) h k e = absurd (omega (arith, e, h, k, enough, up a, down b))
-  told-apart false (pos a) (negsuc b) h k e = absurd k
-  told-apart true (negsuc a) (pos b) h k e = absurd (omega (arith, e, h, k, enough, up b, down a))
-  told-apart false (negsuc a) w h k e = absurd h
-  told-apart true (negsuc a) (negsuc b) h k e = ap negsuc (let same : a ≡ b = omega (arith, e, h, k, enough, down a, down b) in same)
+  kept-apart : (signed : Bool) (v w : ℤ) → Apart signed v → Apart signed w → f v ≡ f w → v ≡ w
+  kept-apart signed (pos a) (pos b) h k e = ap pos (sym (up a) ∙ e ∙ up b)
+  kept-apart true (pos a) (negsuc b) h k e = absurd (omega (arith, e, h, k, enough, up a, down b))
+  kept-apart false (pos a) (negsuc b) h k e = absurd k
+  kept-apart true (negsuc a) (pos b) h k e = absurd (omega (arith, e, h, k, enough, up b, down a))
+  kept-apart false (negsuc a) w h k e = absurd h
+  kept-apart true (negsuc a) (negsuc b) h k e = ap negsuc (let same : a ≡ b = omega (arith, e, h, k, enough, down a, down b) in same)
 
 module _ (signed : Bool) (v w : ℤ) (h : Apart signed v) (k : Apart signed w) where
   pub values-same : eqb (ofZ w32 v) (ofZ w32 w) ≡ eqb (unsigned16 v) (unsigned16 w)
   values-same =
       test-same (ofZ w32 v) (ofZ w32 w) (unsigned16 v) (unsigned16 w)
-      (λ e. ap unsigned16 (told-apart (ofZ w32) 4294967295 (omega arith) (λ n. refl) (λ n. omega arith) signed v w h k e))
-      (λ e. ap (ofZ w32) (told-apart unsigned16 65535 (omega arith) (λ n. refl) (λ n. refl) signed v w h k e))
+      (λ e. ap unsigned16 (kept-apart (ofZ w32) 4294967295 (omega arith) (λ n. refl) (λ n. omega arith) signed v w h k e))
+      (λ e. ap (ofZ w32) (kept-apart unsigned16 65535 (omega arith) (λ n. refl) (λ n. refl) signed v w h k e))

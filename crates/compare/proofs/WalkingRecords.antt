@@ -155,7 +155,8 @@ module _ {m : List ℕ} {l : Layout} {k : List ℕ} {j : Layout} {kind : RecordK
 
       -- The next record: what is listed for it, and the state afterwards.
       module _ (some : 0 < left) (r : ℕ) (out′ : List ℕ)
-          (lists : (r ≡ length (blockDifferences m l k j kind number at to)) × (out′ ≡ entriesListed (blockDifferences m l k j kind number at to) (n + count) out))
+          (lists : (r ≡ length (blockDifferences m l k j kind number at to))
+          × (out′ ≡ entriesListed (blockDifferences m l k j kind number at to) (n + count) out))
         where
           listing-more : Listing (commonDifferences m l k j kind common) n out₀ out′ (count + r)
               (joined (eachFrom (numberedDifferences m l k j kind) (number + 1) (left - 1)))
@@ -216,7 +217,8 @@ module _ {kind : RecordKind} {start end n : ℕ} {out₀ : List ℕ} where
         }
 
     pub single-last : end ≤ 65536 → end ≤ number
-        → (count ≡ length (wholeDifferences kind start (end - start))) × (count ≤ 65536) × (out ≡ entriesListed (wholeDifferences kind start (end - start)) n out₀)
+        → (count ≡ length (wholeDifferences kind start (end - start))) × (count ≤ 65536)
+        × (out ≡ entriesListed (wholeDifferences kind start (end - start)) n out₀)
     single-last low over =
         let none : end - number ≡ 0 = omega arith in
         let all = listing-last (state .listing) (ap (λ (i : ℕ). wholeDifferences kind number i) none) in

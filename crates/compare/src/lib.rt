@@ -1,5 +1,5 @@
-// Comparing two modules: the list of what differs, by the kinds and numbers of records. The blocks of both modules are walked in step, first
-// to count the entries of the list, then to write them. The modules are read in place, and no memory is needed beyond a row of each.
+// Comparing two modules: the list of what differs, by the kinds and numbers of records. The blocks of both modules are walked together,
+// first to count the entries of the list, then to write them. The modules are read in place, and no memory is needed beyond a row of each.
 use blocks::BlockKind;
 use blocks::RecordKind;
 use blocks::block_at;
@@ -19,6 +19,7 @@ use envelopes::value;
 use layout::Layout;
 use layout::Outline;
 use numbers::part;
+use numbers::smaller;
 use packed_rows::Comparison;
 use queries::first_of;
 use refusal::Outcome;
@@ -31,7 +32,7 @@ use summary::name_of;
 ghost use mathlib.Core.Path.{_≡_};
 ghost use mathlib.Core.List.{_++_};
 ghost use mathlib.Core.Bool.{not};
-ghost use Prim.Native.Nat.{_+_, _-_, _*_, _<_, _≤_, min, max};
+ghost use Prim.Native.Nat.{_+_, _-_, _*_, _<_, _≤_, max};
 ghost use lib.ListN.{length};
 ghost use Rattle.numbers.specs.Numbers.{partOf};
 ghost use Rattle.differences.specs.Differences.{wholeDifference, differenceIf, entriesListed, equalBytes};
@@ -67,13 +68,7 @@ fn refused(r: Refusal) -> CompareAnswer
     }
 }
 
-// The smaller and the larger of two numbers.
-fn smaller(a: usize, b: usize) -> usize
-    ensures { λ r. ⌜ r ≡ min a b ⌝ }
-{
-    if a < b { a } else { b }
-}
-
+// The larger of two numbers.
 fn larger(a: usize, b: usize) -> usize
     ensures { λ r. ⌜ r ≡ max a b ⌝ }
 {
@@ -165,7 +160,8 @@ fn same_envelope(
 
 // Whether two blocks have the same bytes.
 fn same_block(m: &[u8], k: &[u8], kind: BlockKind, at: usize, to: usize) -> bool
-    ensures { λ r. ⌜ r ≡ equalBytes (partOf (now (m .entry)) at (sizeOf kind (now (m .entry)) at)) (partOf (now (k .entry)) to (sizeOf kind (now (k .entry)) to)) ⌝ }
+    ensures { λ r. ⌜ r ≡ equalBytes (partOf (now (m .entry)) at (sizeOf kind (now (m .entry)) at))
+        (partOf (now (k .entry)) to (sizeOf kind (now (k .entry)) to)) ⌝ }
 {
     let n = size(m, kind, at);
     let o = size(k, kind, to);
@@ -207,6 +203,7 @@ fn list_cells(
     let start = 10 * smaller(n, out.len() / 10);
     match packed_rows::compare(a, b, rows, l.tracks as usize, number, &mut out[start..]) {
         Comparison::Compared(entries) => entries,
+        // Both modules are accepted, so this does not occur.
         Comparison::Refused(_) => 0,
     }
 }
@@ -407,7 +404,8 @@ fn list_three(
     out: &mut [u8],
 ) -> usize
     requires { ⌜ BothOpen (now m) l (now k) j
-        × SmallCount (n + length (kindDifferences (now m) l (now k) j a ++ (kindDifferences (now m) l (now k) j b ++ kindDifferences (now m) l (now k) j c))) ⌝ }
+        × SmallCount (n + length (kindDifferences (now m) l (now k) j a
+        ++ (kindDifferences (now m) l (now k) j b ++ kindDifferences (now m) l (now k) j c))) ⌝ }
     ensures { λ r. ⌜ (r ≡ length (kindDifferences (now (m .entry)) l (now (k .entry)) j a
         ++ (kindDifferences (now (m .entry)) l (now (k .entry)) j b ++ kindDifferences (now (m .entry)) l (now (k .entry)) j c)))
         × (now (out .exit) ≡ entriesListed (kindDifferences (now (m .entry)) l (now (k .entry)) j a

@@ -39,7 +39,8 @@ use Rattle.compare_theorems.specs.Differs.{sampleDiffers as sample, patt
 use Rattle.compare_theorems.proofs.BothOpen.{both-found}
 use Rattle.compare_theorems.proofs.InList.{in-none, in-front, in-back, in-either, in-joined, in-unless}
 use Rattle.compare_theorems.proofs.SameShown.{Same, equal-exact, first-only, tracks-shown}
-use Rattle.compare_theorems.proofs.NumbersCompared.{WhichHave, both, first, second, neither, which-have, cellEntries, KindDiffers, whole, cells, kind-exact}
+use Rattle.compare_theorems.proofs.NumbersCompared.{WhichHave, both, first, second, neither, which-have, cellEntries}
+use Rattle.compare_theorems.proofs.NumbersCompared.{KindDiffers, whole, cells, kind-exact}
 use Rattle.compare_theorems.proofs.CellsShown.{CellDiffers, cells-exact}
 
 -- A number of INFO.

@@ -14,7 +14,7 @@ use native.Mathlib.Omega.{arith}
 use lib.ListN.{length, getD, drop, length-drop}
 use lib.Seq.{drop-cons}
 use lib.Dec.{eqb}
-use borrow.Author.Tests.{eq-eqb, ne-eqb, eqb-true}
+use borrow.Author.Tests.{eq-eqb, ne-eqb, eqb-true, eqb-false}
 use Rattle.differences.specs.Differences.{equalBytes}
 
 pub equal-says : (xs ys : List ℕ) → equalBytes xs ys ≡ true → xs ≡ ys
@@ -49,7 +49,7 @@ equal-turned (x ∷ xs) (y ∷ ys) = ap (_&& equalBytes xs ys) (turned (eqb x y)
   where
     turned : (b : Bool) → eqb x y ≡ b → eqb x y ≡ eqb y x
     turned true e = e ∙ sym (eq-eqb y x (sym (eqb-true x y e)))
-    turned false e = e ∙ sym (ne-eqb y x (λ same. let z : true ≡ false = sym (eq-eqb x y (sym same)) ∙ e in absurd (let w : _≡_ {A = ℕ} 0 1 = cc in omega arith)))
+    turned false e = e ∙ sym (ne-eqb y x (λ same. eqb-false x y e (sym same)))
 
 pub equal-parts : (xs ys more others : List ℕ) → length xs ≡ length ys
     → equalBytes (xs ++ more) (ys ++ others) ≡ (equalBytes xs ys && equalBytes more others)
@@ -66,7 +66,10 @@ module _ (a b : List ℕ) (same : length a ≡ length b) where
   equal-step i less = rw (drop-cons a i 0 less, drop-cons b i 0 (omega (arith, same))) refl
 
   pub equal-end : (i : ℕ) → length a ≤ i → (alike : Bool) → (alike && equalBytes (drop i a) (drop i b)) ≡ alike
-  equal-end i over alike = ap (alike &&_) (nothing (drop i a) (drop i b) (omega (arith, length-drop i a)) (omega (arith, same, length-drop i b))) ∙ and-true alike
+  equal-end i over alike =
+      let none : length (drop i a) ≡ 0 = omega (arith, length-drop i a) in
+      let neither : length (drop i b) ≡ 0 = omega (arith, same, length-drop i b) in
+      ap (alike &&_) (nothing (drop i a) (drop i b) none neither) ∙ and-true alike
     where
       nothing : (xs ys : List ℕ) → length xs ≡ 0 → length ys ≡ 0 → equalBytes xs ys ≡ true
       nothing [] [] p q = refl

@@ -11,7 +11,8 @@ use Rattle.differences.specs.Differences.{differenceBytes, listBytes, en
 use Rattle.differences.specs.declared.Difference.{Difference}
 
 -- Entries listed after others.
-pub listed-append : (xs ys : List Difference) (n : ℕ) (out : List ℕ) → entriesListed (xs ++ ys) n out ≡ entriesListed ys (n + length xs) (entriesListed xs n out)
+pub listed-append : (xs ys : List Difference) (n : ℕ) (out : List ℕ)
+    → entriesListed (xs ++ ys) n out ≡ entriesListed ys (n + length xs) (entriesListed xs n out)
 listed-append [] ys n out = ap (λ (k : ℕ). entriesListed ys k out) (omega arith)
 listed-append (x ∷ xs) ys n out =
     listed-append xs ys (suc n) (putAt (differenceBytes x) (10 * n) out)
@@ -42,11 +43,12 @@ listed-after (d ∷ ds) n front rest place h =
     let one = differenceBytes d in
     let written : putAt one (10 * n) (front ++ rest) ≡ (front ++ one) ++ drop 10 rest =
     put-after front one (10 * n) place rest (omega (arith, h)) ∙ sym (append-assoc front one (drop 10 rest)) in
+    let more : 10 + 10 * length ds ≡ 10 * suc (length ds) = omega arith in
     let further : length (front ++ one) ≡ 10 * suc n = length-append front one ∙ omega (arith, place) in
     ap (entriesListed ds (suc n)) written
     ∙ listed-after ds (suc n) (front ++ one) (drop 10 rest) further (omega (arith, h, length-drop 10 rest))
     ∙ append-assoc front one (listBytes ds ++ drop (10 * length ds) (drop 10 rest))
-    ∙ ap (λ (l : List ℕ). front ++ (one ++ (listBytes ds ++ l))) (drop-drop (10 * length ds) 10 rest ∙ ap (λ (k : ℕ). drop k rest) (let more : 10 + 10 * length ds ≡ 10 * suc (length ds) = omega arith in more))
+    ∙ ap (λ (l : List ℕ). front ++ (one ++ (listBytes ds ++ l))) (drop-drop (10 * length ds) 10 rest ∙ ap (λ (k : ℕ). drop k rest) more)
     ∙ ap (front ++_) (sym (append-assoc one (listBytes ds) (drop (10 * suc (length ds)) rest)))
 
 -- A whole list from the front of an output that has room for it.

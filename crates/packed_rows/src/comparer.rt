@@ -30,7 +30,8 @@ fn list_cell(
 ) -> usize
     requires { ⌜ (at + 6 ≤ length (now a)) × (at + 6 ≤ length (now b)) × SmallCount n ⌝ }
     ensures { λ r. ⌜ (r ≡ length (cellDifferences pattern row track (cellAt (now (a .entry)) at) (cellAt (now (b .entry)) at))) × (r ≤ 6)
-        × (now (out .exit) ≡ entriesListed (cellDifferences pattern row track (cellAt (now (a .entry)) at) (cellAt (now (b .entry)) at)) n (now (out .entry))) ⌝ }
+        × (now (out .exit)
+        ≡ entriesListed (cellDifferences pattern row track (cellAt (now (a .entry)) at) (cellAt (now (b .entry)) at)) n (now (out .entry))) ⌝ }
 {
     let mut count: usize = 0;
     let mut i = at;

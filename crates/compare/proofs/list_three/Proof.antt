@@ -44,21 +44,6 @@ list-kind-requires-2 c κs =
           (c .before .before .before .list-kind .ensures) (entry .pre .1),
     )
 
-add-second : tie.Need-add-second
-add-second c =
-    let entry = c .before .before .before .before .before .before .before .before .before .before .before in
-    let m = entry .args .m .now in
-    let l = entry .args .l in
-    let k = entry .args .k .now in
-    let j = entry .args .j in
-    let list-kind = c .before .before .before .before .before .before .list-kind in
-    omega (
-      arith,
-      three-third (kindDifferences m l k j (entry .args .a)) (kindDifferences m l k j (entry .args .b))
-          (kindDifferences m l k j (entry .args .c)) (entry .args .n) (entry .args .out .now) (list-kind .ensures)
-          (c .before .before .list-kind2 .ensures) (entry .pre .1),
-    )
-
 add-list-kind-2 : tie.Need-add-list-kind-2
 add-list-kind-2 c =
     let entry = c .before .before .before .before .before .before .before .before .before .before .before in
@@ -73,6 +58,9 @@ add-list-kind-2 c =
           (kindDifferences m l k j (entry .args .c)) (entry .args .n) (entry .args .out .now) (list-kind .ensures)
           (c .before .before .list-kind2 .ensures) (entry .pre .1),
     )
+
+add-second : tie.Need-add-second
+add-second c = omega (arith, add-list-kind-2 c)
 
 list-kind-requires-3 : tie.Need-list-kind-requires-3
 list-kind-requires-3 c κs =
