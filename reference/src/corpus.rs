@@ -18,7 +18,9 @@ mod modules;
 mod records;
 mod replacements;
 
-use crate::generate::{bytes, cells, damaged, entry, likely_bytes, valid_stream, Random};
+use crate::generate::{
+    bytes, cells, damaged, entry, fields_named, likely_bytes, valid_stream, Random,
+};
 use crate::pattern::{pack, repack, FIELDS};
 
 /// The numbers that a records case queries.
@@ -347,12 +349,18 @@ pub fn pattern_cases() -> Vec<Case> {
     builder.packed_cells();
     builder.large();
     builder.notes();
+    builder.upper_bits();
     builder.cases
 }
 
 /// The length of the pattern's cells in bytes.
 fn cell_bytes(rows: u64, tracks: u64) -> u32 {
     (rows * tracks) as u32 * FIELDS as u32
+}
+
+/// An entry with a mask, and of these values as many as it names fields.
+fn entry_of(track: u8, mask: u8, values: &[u8; FIELDS]) -> Vec<u8> {
+    [&[track, mask], &values[..fields_named(mask)]].concat()
 }
 
 /// Three rows of four tracks, as a stream that no packer writes, split into entries and row ends.
@@ -537,37 +545,37 @@ impl CaseBuilder {
         }
     }
 
-    /// Every mask: alone, over a full cell, with zeros over a full cell, and cut after each number of fields.
+    /// Every mask byte: alone, over a full cell, with zeros over a full cell, and some of them cut after each number of fields. Masks with
+    /// bit 6 or 7 are also followed by three zeros, of which the mask names none, some or all.
     fn masks(&mut self) {
-        for mask in 0..64u8 {
-            let fields = mask.count_ones() as usize;
-            let values = [0x51, 0x52, 0x53, 0x54, 0x55, 0x56];
-            let named = [&[3, mask], &values[..fields]].concat();
-            let zeros = [&[3, mask], &[0; 6][..fields]].concat();
+        for mask in 0..=255 {
+            let named = entry_of(3, mask, &[0x51, 0x52, 0x53, 0x54, 0x55, 0x56]);
+            let zeros = entry_of(3, mask, &[0; FIELDS]);
             let full = [3, 0x3F, 0x61, 0x62, 0x63, 0x64, 0x65, 0x66];
             self.stream(1, 4, (0, 3), 24, &[&named[..], &[0]].concat());
             self.stream(1, 4, (0, 3), 24, &[&full[..], &named, &[0]].concat());
             self.stream(1, 4, (0, 3), 24, &[&full[..], &zeros, &[0]].concat());
-            let mut cell = [0; 24];
-            for field in 0..FIELDS {
-                if mask & (1 << field) != 0 {
-                    cell[12 + field] = 0x71 + field as u8;
+            if mask < 64 {
+                let fields = fields_named(mask) as u32;
+                let mut cell = [0; 24];
+                for field in 0..FIELDS {
+                    if mask & (1 << field) != 0 {
+                        cell[12 + field] = 0x71 + field as u8;
+                    }
                 }
+                self.cells(1, 4, 3 + fields, &cell);
+                self.cells(1, 4, 2 + fields, &cell);
             }
-            self.cells(1, 4, 3 + fields as u32, &cell);
-            self.cells(1, 4, 2 + fields as u32, &cell);
         }
-        for mask in [0x01, 0x20, 0x3F, 0x2A, 0x15] {
+        for mask in [
+            0x01, 0x20, 0x3F, 0x2A, 0x15, 0x41, 0xA0, 0xFF, 0x6A, 0x95, 0x40, 0x80, 0xC0,
+        ] {
             for length in 0..8 {
                 let cut = [0, 2, mask, 1, 2, 3, 4, 5];
                 self.stream(2, 4, (0, 1), 48, &cut[..length]);
             }
         }
-        // Masks with a high bit.
-        for mask in (64..=255u8)
-            .step_by(3)
-            .chain([0x41, 0x7F, 0x80, 0xBF, 0xC0])
-        {
+        for mask in 64..=255 {
             self.stream(1, 4, (0, 1), 0, &[0x01, mask, 0, 0, 0]);
         }
     }
@@ -607,7 +615,7 @@ impl CaseBuilder {
         }
     }
 
-    /// Each kind of fault before each piece of a stream and at its end.
+    /// Each kind of fault, and entries with bits 6 and 7 of the mask, before each piece of a stream and at its end.
     fn faults(&mut self) {
         let pieces = pieces();
         let faulty: [&[u8]; 10] = [
@@ -615,21 +623,27 @@ impl CaseBuilder {
             &[0x05],
             &[0xFF, 0x00],
             &[0x80, 0x01, 0x01],
-            &[0x01, 0x41, 0x47],
-            &[0x01, 0x80],
-            &[0x04, 0xFF, 1, 2, 3, 4, 5, 6],
             &[0x00],
             &[0x01],
             &[0x02, 0x3F, 1, 2, 3, 4, 5],
+            &[0x02, 0xFF, 1, 2, 3, 4, 5],
+            &[0x03, 0x41],
+            &[0x05, 0xC0],
+        ];
+        let whole: [&[u8]; 4] = [
+            &[0x01, 0x41, 0x47],
+            &[0x01, 0x80],
+            &[0x04, 0xFF, 1, 2, 3, 4, 5, 6],
+            &[0x03, 0xC0],
         ];
         for place in 0..=pieces.len() {
             let before = pieces[..place].concat();
             let after = pieces[place..].concat();
             let row = self.random.below(3);
-            for fault in faulty {
+            for added in faulty.into_iter().chain(whole) {
                 // With the rest of the stream, and at the end of the stream.
-                self.stream(3, 4, (row, 2), 72, &[&before, fault, &after].concat());
-                self.stream(3, 4, (row, 2), 0, &[&before, fault].concat());
+                self.stream(3, 4, (row, 2), 72, &[&before, added, &after].concat());
+                self.stream(3, 4, (row, 2), 0, &[&before, added].concat());
             }
             self.stream(3, 4, (row, 2), 72, &before);
             for rows in 0..6 {
@@ -925,6 +939,47 @@ impl CaseBuilder {
         }
         for note in [0x0F, 0x10, 0x1B, 0x1C, 0x1F, 0x20, 0x8B, 0x8C, 0x90, 0xFF] {
             self.stream(1, 4, (0, 1), 0, &[1, 1, note, 0]);
+        }
+    }
+
+    /// Bits 6 and 7 of the masks of three rows: in one mask, in all, and in all of them with each cut and with outputs around the needed
+    /// length. An entry with each byte changed to every value.
+    fn upper_bits(&mut self) {
+        let pieces = pieces();
+        let with = |upper: u8, chosen: &dyn Fn(usize) -> bool| {
+            let mut pieces = pieces.clone();
+            for (index, piece) in pieces.iter_mut().enumerate() {
+                if chosen(index) && piece.len() > 1 {
+                    piece[1] |= upper;
+                }
+            }
+            pieces.concat()
+        };
+        for upper in [0x40, 0x80, 0xC0] {
+            for (index, _) in pieces
+                .iter()
+                .enumerate()
+                .filter(|(_, piece)| piece.len() > 1)
+            {
+                self.stream(3, 4, (0, 1), 72, &with(upper, &|other| other == index));
+            }
+            let all = with(upper, &|_| true);
+            let mut packed = vec![0; 100];
+            let length = repack(&all, 3, 4, &mut packed).expect("100 bytes are enough") as u32;
+            for room in [0, length - 1, length, length + 1, 71, 72, 73] {
+                self.stream(3, 4, (2, 3), room, &all);
+            }
+            for cut in 0..all.len() {
+                self.stream(3, 4, (1, 4), 72, &all[..cut]);
+            }
+        }
+        let entry = [3, 0xC3, 0x47, 0x01, 0];
+        for place in 0..entry.len() {
+            for byte in 0..=255 {
+                let mut stream = entry;
+                stream[place] = byte;
+                self.stream(1, 4, (0, 3), 24, &stream);
+            }
         }
     }
 }

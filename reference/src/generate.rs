@@ -46,7 +46,7 @@ pub fn bytes(random: &mut Random, length: u64) -> Vec<u8> {
     (0..length).map(|_| random.byte()).collect()
 }
 
-/// Mostly row ends, low tracks and valid masks, so that a stream of these bytes breaks late.
+/// Mostly row ends, low tracks and masks, so that a stream of these bytes breaks late.
 pub fn likely_bytes(random: &mut Random, length: u64) -> Vec<u8> {
     const LIKELY: [u8; 16] = [0, 0, 0, 0, 1, 1, 2, 2, 3, 3, 4, 4, 0x05, 0x20, 0x3F, 0x40];
     (0..length)
@@ -60,12 +60,17 @@ pub fn likely_bytes(random: &mut Random, length: u64) -> Vec<u8> {
         .collect()
 }
 
-/// A valid entry: any track, any mask of bits 0 to 5, and about one value in four is 0.
+/// The number of fields that a mask names with its bits 0 to 5.
+pub fn fields_named(mask: u8) -> usize {
+    (mask & 0x3F).count_ones() as usize
+}
+
+/// A valid entry: any track, any mask byte, so that three masks in four have bit 6, bit 7 or both, and about one value in four is 0.
 pub fn entry(random: &mut Random, tracks: u64) -> Vec<u8> {
     let track = (1 + random.below(tracks)) as u8;
-    let mask = random.byte() & 0x3F;
+    let mask = random.byte();
     let mut entry = vec![track, mask];
-    for _ in 0..mask.count_ones() {
+    for _ in 0..fields_named(mask) {
         entry.push(if random.chance(25) { 0 } else { random.byte() });
     }
     entry

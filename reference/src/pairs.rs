@@ -1,7 +1,9 @@
 //! Makes pairs of modules to compare. The same seed makes the same pair.
 
 use crate::draft::{Envelope, Pattern, Sample, Song, Tune};
-use crate::generate::{arranged, bytes, damage, damaged, module, tune, Limits, Random};
+use crate::generate::{
+    arranged, bytes, damage, damaged, fields_named, module, tune, Limits, Random,
+};
 use crate::module::check;
 use crate::pattern::{unpack, FIELDS};
 use crate::repack::repack;
@@ -528,8 +530,8 @@ fn cells(pattern: &Pattern, tracks: usize) -> Vec<u8> {
     cells
 }
 
-/// A stream for these cells. The tracks of a row come in any order, some entries are overwritten by a later one, and some fields are stored
-/// although they are 0.
+/// A stream for these cells. The tracks of a row come in any order, some entries are overwritten by a later one, some fields are stored
+/// although they are 0, and each of the bits 6 and 7 is set in about one mask in four.
 fn packed_otherwise(random: &mut Random, cells: &[u8], tracks: usize) -> Vec<u8> {
     let mut stream = Vec::new();
     for row in cells.chunks(tracks * FIELDS) {
@@ -550,18 +552,18 @@ fn pack_cell(random: &mut Random, track: u8, cell: &[u8], stream: &mut Vec<u8>) 
     let filled = cell.iter().any(|&field| field != 0);
     let mut stored = 0;
     if random.chance(15) {
-        stored = random.byte() & 0x3F;
+        stored = random.byte();
         stream.extend([track, stored]);
-        stream.extend(bytes(random, stored.count_ones().into()));
+        stream.extend(bytes(random, fields_named(stored) as u64));
     }
-    if !filled && stored == 0 && random.chance(90) {
+    if !filled && fields_named(stored) == 0 && random.chance(90) {
         return;
     }
-    let extra = random.byte() & random.byte() & 0x3F;
+    let extra = random.byte() & random.byte();
     let named = |&field: &usize| cell[field] != 0 || (stored | extra) & (1 << field) != 0;
     let named: Vec<usize> = (0..FIELDS).filter(named).collect();
-    stream.push(track);
-    stream.push(named.iter().map(|field| 1 << field).sum());
+    let mask: u8 = named.iter().map(|field| 1 << field).sum();
+    stream.extend([track, mask | extra & 0xC0]);
     stream.extend(named.iter().map(|&field| cell[field]));
 }
 

@@ -65,7 +65,7 @@ impl Shape {
     }
 }
 
-/// One entry: its track, and for each of the six fields the value to store if its mask bit is set.
+/// One entry: its track, and for each of the six fields the value to store if its mask bit is set. Bits 6 and 7 of the mask name no field.
 #[derive(Clone, Copy)]
 struct Entry {
     track: u8,
@@ -77,7 +77,7 @@ impl Entry {
     fn take(bytes: &[u8], tracks: usize) -> Option<(Entry, &[u8])> {
         let (&track, bytes) = bytes.split_first()?;
         let (&mask, mut bytes) = bytes.split_first()?;
-        if track == 0 || usize::from(track) > tracks || mask & 0b1100_0000 != 0 {
+        if track == 0 || usize::from(track) > tracks {
             return None;
         }
         let mut named = [None; FIELDS];
@@ -91,7 +91,7 @@ impl Entry {
         Some((Entry { track, named }, bytes))
     }
 
-    /// Stores the fields of the mask in a cell of a row. The others are unchanged.
+    /// Stores the fields that the mask names in a cell of a row. The others are unchanged.
     fn apply(&self, row: &mut [u8]) {
         let start = (usize::from(self.track) - 1) * FIELDS;
         for (stored, named) in row[start..start + FIELDS].iter_mut().zip(self.named) {

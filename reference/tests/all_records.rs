@@ -283,7 +283,7 @@ fn refusals_of_the_module() {
         (501, 0x20, 13, 501),
         (29, 65, 13, 28),
         (430, 4, 14, 387),
-        (366, 0x47, 15, 359),
+        (365, 7, 15, 359),
     ] {
         let mut module = module.clone();
         assert_ne!(module[place], byte);

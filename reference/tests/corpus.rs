@@ -10,6 +10,7 @@ use reference::corpus::{
 use reference::draft::{Pattern, Tune};
 use reference::expect::expected;
 use reference::module::{check, read};
+use reference::pattern;
 use reference::refusal::Refusal;
 use reference::repack::repack;
 use reference::replace::{replace_sample, Replaced};
@@ -706,18 +707,92 @@ fn the_first_program_has_packed_rows_and_the_second_modules() {
 #[test]
 fn the_cases_of_packed_rows_stay_as_they_are() {
     let patterns = encoded(&pattern_cases());
-    assert_eq!(patterns.len(), 230_736);
-    assert_eq!(hash(&patterns), 0x9BEA_592E_846C_7DC2);
+    assert_eq!(patterns.len(), 339_227);
+    assert_eq!(hash(&patterns), 0x4D2E_C92D_8E77_F01C);
 }
 
 #[test]
 fn the_cases_of_modules_and_records_stay_as_they_are() {
     let before = encoded(&[module_cases(), record_cases()].concat());
-    assert_eq!(before.len(), 293_381);
-    assert_eq!(hash(&before), 0x0166_1699_44AC_D1B3);
+    assert_eq!(before.len(), 298_471);
+    assert_eq!(hash(&before), 0xDF24_1B86_C54D_4618);
     let [_, (_, modules)] = programs();
     let all = encoded(&modules);
     assert!(all.starts_with(&before));
+}
+
+/// The masks of the entries of an accepted stream.
+fn masks(stream: &[u8]) -> Vec<u8> {
+    let mut masks = Vec::new();
+    let mut left = stream;
+    while let [first, rest @ ..] = left {
+        left = match first {
+            0 => rest,
+            _ => {
+                masks.push(rest[0]);
+                &rest[1 + (rest[0] & 63).count_ones() as usize..]
+            }
+        };
+    }
+    masks
+}
+
+/// The masks of all patterns of a module, or none if it is refused.
+fn masks_of_module(module: &[u8]) -> Vec<u8> {
+    let patterns = read(module).map_or(vec![], |read| read.patterns);
+    let masks = patterns.iter().flat_map(|pattern| masks(pattern.stream));
+    masks.collect()
+}
+
+/// Every mask byte is in accepted streams and in accepted modules. Masks with bit 6 or 7 are in cut entries, in modules whose sample is
+/// replaced, and in pairs of modules with and without differences.
+#[test]
+fn every_mask_byte_occurs() {
+    let (mut accepted, mut cut) = (BTreeSet::new(), BTreeSet::new());
+    for case in pattern_cases() {
+        if let Case::Stream {
+            rows,
+            tracks,
+            stream,
+            ..
+        } = case
+        {
+            match pattern::check(&stream, rows, tracks) {
+                Ok(()) => accepted.extend(masks(&stream)),
+                Err(refusal) => {
+                    let place = refusal.place as usize;
+                    let entry = stream.get(place..).unwrap_or_default();
+                    if let &[1..=4, mask, ref fields @ ..] = entry {
+                        if fields.len() < (mask & 63).count_ones() as usize {
+                            cut.insert(mask);
+                        }
+                    }
+                }
+            }
+        }
+    }
+    assert_eq!(accepted, (0..=255).collect());
+    let upper = cut.iter().filter(|&&mask| mask > 63).count();
+    assert!(upper >= 90, "{upper}");
+    let in_modules: BTreeSet<u8> = module_cases()
+        .iter()
+        .flat_map(|case| match case {
+            Case::Module { module, .. } => masks_of_module(module),
+            other => panic!("{other:?}"),
+        })
+        .collect();
+    assert_eq!(in_modules, (0..=255).collect());
+    let has_upper = |module: &[u8]| masks_of_module(module).iter().any(|&mask| mask > 63);
+    at_least(6, &replacements(), |asked| {
+        asked.answer.is_ok() && has_upper(&asked.module)
+    });
+    let lists: Vec<usize> = comparisons()
+        .iter()
+        .filter(|(_, first, second)| has_upper(first) != has_upper(second))
+        .filter_map(|(_, first, second)| Some(differences(first, second).ok()?.len()))
+        .collect();
+    let same = lists.iter().filter(|&&length| length == 0).count();
+    assert!(same >= 4 && lists.len() >= same + 8, "{lists:?}");
 }
 
 #[test]

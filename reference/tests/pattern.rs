@@ -36,6 +36,20 @@ fn packed(cells: &[u8], rows: u64, tracks: u64) -> Vec<u8> {
     out
 }
 
+/// The stream is accepted. It has these cells, in every query, and repacking it gives the same bytes as packing them.
+#[track_caller]
+fn reads_as(stream: &[u8], rows: u64, tracks: u64, cells: &[u8], bytes: &[u8]) {
+    assert_eq!(check(stream, rows, tracks), Ok(()), "{stream:02x?}");
+    assert_eq!(unpacked(stream, rows, tracks), cells, "{stream:02x?}");
+    assert_eq!(repacked(stream, rows, tracks), bytes, "{stream:02x?}");
+    assert_eq!(packed(cells, rows, tracks), bytes);
+    for (index, stored) in cells.chunks(6).enumerate() {
+        let (row, track) = (index as u64 / tracks, index as u64 % tracks + 1);
+        let expected = shown(stored.try_into().expect("a cell has six bytes"));
+        assert_eq!(cell(stream, rows, tracks, row, track), Ok(expected));
+    }
+}
+
 /// The cells of P1: row 0, track 2 is G-4 with instrument 1.
 fn g4() -> Vec<u8> {
     let mut cells = vec![0; 48];
@@ -148,9 +162,12 @@ fn p7() {
 #[test]
 fn p8() {
     let stream = [0x01, 0x41, 0x47, 0x00];
-    assert_eq!(check(&stream, 1, 4), refused(15, 0));
-    assert_eq!(unpack(&stream, 1, 4, &mut [0; 24]), refused(15, 0));
-    assert_eq!(repack(&stream, 1, 4, &mut [0; 24]), refused(15, 0));
+    let mut cells = [0; 24];
+    cells[0] = 0x47;
+    reads_as(&stream, 1, 4, &cells, &[0x01, 0x01, 0x47, 0x00]);
+    let note = G4.note;
+    assert_eq!(cell(&stream, 1, 4, 0, 1), Ok(Cell { note, ..EMPTY }));
+    assert_eq!(cell(&stream, 1, 4, 0, 2), Ok(EMPTY));
 }
 
 #[test]
@@ -205,16 +222,6 @@ fn a_track_too_high_is_broken() {
 }
 
 #[test]
-fn a_mask_with_a_high_bit_is_broken() {
-    is_broken(&[1, 0x40, 0], 1, 4, 0);
-    is_broken(&[1, 0x80, 0], 1, 4, 0);
-    is_broken(&[1, 0xC0, 0], 1, 4, 0);
-    is_broken(&[1, 0xFF, 1, 2, 3, 4, 5, 6, 0], 1, 4, 0);
-    is_broken(&[0, 3, 0x3F, 1, 2, 3, 4, 5, 6, 2, 0x81, 9, 0], 2, 4, 9);
-    assert_eq!(check(&[1, 0x3F, 1, 2, 3, 4, 5, 6, 0], 1, 4), Ok(()));
-}
-
-#[test]
 fn a_stream_cut_after_a_track_is_broken_there() {
     is_broken(&[1], 1, 4, 0);
     is_broken(&[0, 4], 2, 4, 1);
@@ -261,10 +268,148 @@ fn with_no_rows_any_byte_is_left_over() {
 
 #[test]
 fn the_first_fault_is_reported() {
-    is_broken(&[5, 0xC0, 6, 0], 1, 4, 0);
-    is_broken(&[1, 0, 5, 0, 1, 0xC0, 0], 1, 4, 2);
-    is_broken(&[0, 1, 0x40], 2, 4, 1);
-    is_broken(&[1, 0x40], 2, 4, 0);
+    // A track that is too high, then another one; then a cut entry; then row ends that are missing.
+    is_broken(&[5, 0, 6, 0], 1, 4, 0);
+    is_broken(&[1, 0, 5, 0, 1, 0x01], 1, 4, 2);
+    is_broken(&[0, 5, 0], 3, 4, 1);
+    // A cut entry, and row ends that are missing.
+    is_broken(&[0, 1, 0x01], 3, 4, 1);
+    is_broken(&[1, 0x01], 2, 4, 0);
+}
+
+// Bits 6 and 7 of a mask.
+
+/// The three ways to set one of the two bits or both.
+const UPPER: [u8; 3] = [0x40, 0x80, 0xC0];
+
+/// An entry, and the cell that it gives. The fields are named by the mask's bits 0 to 5, and the value of each is its place in the cell
+/// twice: 0x11 for the note, 0x66 for parameter 2.
+fn entry(track: u8, mask: u8) -> (Vec<u8>, [u8; 6]) {
+    let (mut entry, mut cell) = (vec![track, mask], [0; 6]);
+    for (field, stored) in cell.iter_mut().enumerate() {
+        if (mask & 63) >> field & 1 == 1 {
+            *stored = 0x11 * (field as u8 + 1);
+            entry.push(*stored);
+        }
+    }
+    (entry, cell)
+}
+
+#[test]
+fn the_upper_bits_name_no_field() {
+    for upper in UPPER {
+        reads_as(&[1, upper, 0], 1, 4, &[0; 24], &[0]);
+        let full = [1, upper | 0x3F, 1, 2, 3, 4, 5, 6, 0];
+        let mut cells = [0; 24];
+        cells[..6].copy_from_slice(&[1, 2, 3, 4, 5, 6]);
+        reads_as(&full, 1, 4, &cells, &[1, 0x3F, 1, 2, 3, 4, 5, 6, 0]);
+        // The byte after the mask is a track, or a row end.
+        reads_as(&[1, upper, 1, 0, 0], 1, 4, &[0; 24], &[0]);
+        reads_as(&[1, upper, 0, 0], 2, 4, &[0; 48], &[0, 0]);
+    }
+    let stream = [0, 3, 0x3F, 1, 2, 3, 4, 5, 6, 2, 0x81, 9, 0];
+    let mut cells = [0; 48];
+    cells[30] = 9;
+    cells[36..42].copy_from_slice(&[1, 2, 3, 4, 5, 6]);
+    let bytes = [0, 2, 0x01, 9, 3, 0x3F, 1, 2, 3, 4, 5, 6, 0];
+    reads_as(&stream, 2, 4, &cells, &bytes);
+}
+
+/// An entry with the upper bits stores its fields over those of an earlier entry, and the others stay.
+#[test]
+fn the_upper_bits_change_no_field() {
+    for upper in UPPER {
+        let stream = [1, upper | 0x3F, 1, 2, 3, 4, 5, 6, 1, upper | 0x14, 7, 8, 0];
+        assert_eq!(unpacked(&stream, 1, 4)[..6], [1, 2, 7, 4, 8, 6]);
+        assert_eq!(repacked(&stream, 1, 4), [1, 0x3F, 1, 2, 7, 4, 8, 6, 0]);
+        let stream = [1, 0x3F, 1, 2, 3, 4, 5, 6, 1, upper, 0];
+        assert_eq!(unpacked(&stream, 1, 4)[..6], [1, 2, 3, 4, 5, 6]);
+    }
+}
+
+/// All 256 masks, as the only entry of a row, between two others, and in the second row.
+#[test]
+fn every_mask() {
+    for mask in 0..=255 {
+        let (given, stored) = entry(2, mask);
+        let own = match mask & 63 {
+            0 => vec![],
+            low => entry(2, low).0,
+        };
+        let mut cells = [0; 48];
+        cells[6..12].copy_from_slice(&stored);
+        let alone = [&given[..], &[0]].concat();
+        reads_as(&alone, 1, 4, &cells[..24], &[&own[..], &[0]].concat());
+        let (first, last) = ([1, 0xC1, 7], [4, 0x60, 9]);
+        let between = [&first[..], &given, &last, &[0], &given, &[0]].concat();
+        let bytes = [&[1, 0x01, 7], &own[..], &[4, 0x20, 9, 0], &own, &[0]].concat();
+        (cells[0], cells[23]) = (7, 9);
+        cells[30..36].copy_from_slice(&stored);
+        reads_as(&between, 2, 4, &cells, &bytes);
+    }
+}
+
+/// Two rows of three entries. The upper bits are set in each choice of the six.
+#[test]
+fn the_upper_bits_in_any_entries() {
+    let plain = [
+        1, 0x01, 7, 2, 0x12, 8, 9, 3, 0x20, 10, 0, //
+        1, 0x02, 11, 3, 0x0C, 12, 13, 4, 0x3F, 1, 2, 3, 4, 5, 6, 0,
+    ];
+    let masks = [1, 4, 8, 12, 15, 19];
+    let cells = [
+        7, 0, 0, 0, 0, 0, 0, 8, 0, 0, 9, 0, 0, 0, 0, 0, 0, 10, 0, 0, 0, 0, 0, 0, //
+        0, 11, 0, 0, 0, 0, 0, 0, 0, 0, 0, 0, 0, 0, 12, 13, 0, 0, 1, 2, 3, 4, 5, 6,
+    ];
+    for chosen in 0..64 {
+        for upper in UPPER {
+            let mut stream = plain;
+            for (index, mask) in masks.into_iter().enumerate() {
+                stream[mask] |= if chosen >> index & 1 == 1 { upper } else { 0 };
+            }
+            reads_as(&stream, 2, 4, &cells, &plain);
+        }
+    }
+}
+
+/// `01 C0` is a whole entry. `01 41` is cut, since bit 0 names a field.
+#[test]
+fn cut_entries_with_upper_bits() {
+    is_broken(&[0x01, 0xC0], 1, 4, 2);
+    is_broken(&[0x01, 0x41], 1, 4, 0);
+    is_broken(&[0x01, 0xFF, 1, 2, 3, 4, 5], 1, 4, 0);
+    is_broken(&[0x01, 0xFF, 1, 2, 3, 4, 5, 6], 1, 4, 8);
+    is_broken(&[0x05, 0xC0, 0x00], 1, 4, 0);
+    is_broken(&[0x01, 0xC0, 0x05, 0xC0, 0x00], 1, 4, 2);
+    is_broken(&[0x01, 0xC0, 0x00, 0x00], 1, 4, 3);
+    is_broken(&[0x01, 0xC0, 0x00], 2, 4, 3);
+}
+
+/// Every cut of an entry with each of the 256 masks. The whole entry without a row end is broken at the stream's length.
+#[test]
+fn every_cut_of_every_mask() {
+    for mask in 0..=255 {
+        let (given, _) = entry(3, mask);
+        for before in [&[][..], &[0], &[1, 0xFF, 1, 2, 3, 4, 5, 6, 0]] {
+            let rows = 1 + u64::from(!before.is_empty());
+            for cut in 1..given.len() {
+                let stream = [before, &given[..cut]].concat();
+                is_broken(&stream, rows, 4, before.len() as u64);
+            }
+            let stream = [before, &given].concat();
+            is_broken(&stream, rows, 4, stream.len() as u64);
+        }
+    }
+}
+
+/// A track that is too high, with each of the 256 masks.
+#[test]
+fn a_track_too_high_with_every_mask() {
+    for mask in 0..=255 {
+        let (given, _) = entry(5, mask);
+        is_broken(&[&[0], &given[..], &[0]].concat(), 2, 4, 1);
+        assert_eq!(check(&[&given[..], &[0]].concat(), 1, 6), Ok(()));
+    }
 }
 
 // Refusal 16.

@@ -341,7 +341,7 @@ fn refusals_write_nothing() {
         (with(&good, 558, &[0, 5]), 12, 558),
         (with(&good, 613, &[0, 65]), 13, 613),
         (with(&good, 623, &[0, 0, 0, 4]), 14, 581),
-        (with(&good, 452, &[0x47]), 15, 445),
+        (with(&good, 451, &[5]), 15, 445),
     ];
     for (module, number, place) in wrong {
         for room in [0, 1, 637, 638, 642, 1_000] {

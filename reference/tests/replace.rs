@@ -621,7 +621,7 @@ fn the_modules_own_refusals_come_first() {
         (with(&good, 579, &[0, 3]), 12, 579),
         (with(&good, 581, &[0, 65]), 13, 581),
         (with(&good, 591, &[0, 0, 0, 4]), 14, 549),
-        (with(&good, 452, &[0x47]), 15, 445),
+        (with(&good, 451, &[5]), 15, 445),
     ];
     for (module, number, place) in wrong {
         for sample in [0, 1, 2, 3, u64::MAX] {

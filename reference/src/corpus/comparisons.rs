@@ -1,6 +1,6 @@
 //! The cases for comparing two modules.
 
-use super::modules::small;
+use super::modules::{small, with_upper_bits};
 use super::replacements::FAULTS;
 use super::Case;
 use crate::compare::compare;
@@ -8,6 +8,7 @@ use crate::draft::{Envelope, Instrument, Pattern, Song, Tune};
 use crate::generate::{tune, Random};
 use crate::module::check;
 use crate::pairs::{in_the_other_version, pair, Pair, Relation, CHANGES, FEW, RELATIONS};
+use crate::repack::repack;
 use crate::replace::replace_sample;
 use crate::tunes::{files, frames_file};
 
@@ -30,6 +31,7 @@ pub(super) fn cases() -> Vec<Case> {
     builder.refused();
     builder.large_numbers();
     builder.drawn();
+    builder.upper_bits();
     builder.cases
 }
 
@@ -217,6 +219,26 @@ impl CaseBuilder {
                 let (first, second) = self.short_pair(|random| Some(pair(random, relation)));
                 self.case(&first, &second);
             }
+        }
+    }
+
+    /// Masks with bits 6 and 7, compared with the same stream without them, with the repacked module, and with streams of which one field, one
+    /// track or one mask also differs.
+    fn upper_bits(&mut self) {
+        let given = with_upper_bits();
+        let bytes = given.bytes();
+        let mut low = given.clone();
+        for place in [1, 4, 7, 10] {
+            low.patterns[0].stream[place] &= 0x3F;
+        }
+        self.case(&bytes, &low.bytes());
+        let mut packed = vec![0; bytes.len()];
+        let length = repack(&bytes, &mut packed).expect("the module is valid");
+        self.case(&bytes, &packed[..length as usize]);
+        for (place, byte) in [(2, 0x48), (6, 3), (0, 3), (1, 0x02), (16, 0)] {
+            let mut other = low.clone();
+            other.patterns[0].stream[place] = byte;
+            self.case(&bytes, &other.bytes());
         }
     }
 }

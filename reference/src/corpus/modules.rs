@@ -52,6 +52,7 @@ pub(super) fn cases() -> Vec<Case> {
     builder.same_chunk_pairs();
     builder.late_pairs();
     builder.drawn();
+    builder.upper_bits();
     builder.cases
 }
 
@@ -72,6 +73,18 @@ pub(super) fn small() -> Tune {
         }],
         patterns: vec![Pattern::new(1, &[0])],
         samples: vec![Sample::new(1, &[0x40, 0xC0])],
+        ..Tune::default()
+    }
+}
+
+/// One pattern and one sample. Bits 6 and 7 are set in the masks of the first, the second and the last entry of a row, and in the next row.
+pub(super) fn with_upper_bits() -> Tune {
+    let stream = [
+        4, 0xC1, 0x47, 2, 0x42, 9, 1, 0x80, 0, 3, 0x7F, 0x11, 0x12, 0x13, 0x14, 0x15, 0x16, 0,
+    ];
+    Tune {
+        patterns: vec![Pattern::new(2, &stream)],
+        samples: vec![Sample::new(1, &[0x21, 0x22, 0x23])],
         ..Tune::default()
     }
 }

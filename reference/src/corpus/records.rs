@@ -1,6 +1,6 @@
 //! The cases for the records of a module.
 
-use super::modules::REVERSED;
+use super::modules::{with_upper_bits, REVERSED};
 use super::{Case, Query};
 use crate::draft::{Chunk, Draft, Envelope, Instrument, Pattern, Sample, Song, Tune};
 use crate::generate::{module, Limits, Random};
@@ -61,6 +61,7 @@ pub(super) fn cases() -> Vec<Case> {
     builder.samples();
     builder.refused();
     builder.drawn();
+    builder.upper_bits();
     builder.cases
 }
 
@@ -555,6 +556,19 @@ impl CaseBuilder {
                 frame: random.below(4),
             };
             let room = random.pick(&[6, 10, 24, 48, 72, 144]);
+            self.add_case(&module, room, query);
+        }
+    }
+
+    /// Cells whose entries have masks with bits 6 and 7, with outputs around the needed length.
+    fn upper_bits(&mut self) {
+        let module = with_upper_bits().bytes();
+        for (row, track, room) in [(0, 1, 47), (0, 2, 48), (0, 4, 49), (1, 3, 48)] {
+            let query = Query {
+                row,
+                track,
+                ..FIRST
+            };
             self.add_case(&module, room, query);
         }
     }

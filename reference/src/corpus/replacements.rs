@@ -1,6 +1,6 @@
 //! The cases for replacing a sample.
 
-use super::modules::{small, REVERSED};
+use super::modules::{small, with_upper_bits, REVERSED};
 use super::records::whole;
 use super::Case;
 use crate::chunks::{Name, AFTER_INFO};
@@ -49,6 +49,7 @@ pub(super) fn cases() -> Vec<Case> {
     builder.large_numbers();
     builder.refused();
     builder.drawn();
+    builder.upper_bits();
     builder.cases
 }
 
@@ -430,6 +431,16 @@ impl CaseBuilder {
             let length = 2 * self.random.below(7) + u64::from(self.random.chance(8));
             let frames = bytes(&mut self.random, length);
             self.case(&module, sample, &frames);
+        }
+    }
+
+    /// Masks with bits 6 and 7, in patterns before SMPL and after it. They stay.
+    fn upper_bits(&mut self) {
+        let draft = with_upper_bits().draft();
+        for module in [draft.bytes(), draft.ordered(&REVERSED).bytes()] {
+            for bytes in [0, 2, 4] {
+                self.case(&module, 1, &frames(bytes));
+            }
         }
     }
 }

@@ -1,8 +1,9 @@
 //! Cases for songs, instruments, patterns and samples.
 
 use super::envelopes::{enveloped, plain_envelope};
-use super::{small, CaseBuilder};
+use super::{small, with_upper_bits, CaseBuilder};
 use crate::chunks::Name;
+use crate::corpus::entry_of;
 use crate::draft::{Instrument, Pattern, Sample, Song, Tune};
 
 impl CaseBuilder {
@@ -418,7 +419,7 @@ impl CaseBuilder {
     /// A broken stream in each of three patterns, and in two of them; and together with a loop outside its sample.
     fn several_patterns(&mut self) {
         let valid = Pattern::new(2, &[0x02, 0x03, 0x47, 0x01, 0x00, 0x00]);
-        let broken = Pattern::new(2, &[0x02, 0x43, 0x47, 0x01, 0x00, 0x00]);
+        let broken = Pattern::new(2, &[0x05, 0x03, 0x47, 0x01, 0x00, 0x00]);
         for faults in 0..8 {
             let patterns = (0..3)
                 .map(|index| [&valid, &broken][faults >> index & 1].clone())
@@ -438,6 +439,35 @@ impl CaseBuilder {
                 });
             }
         }
+    }
+
+    /// Bits 6 and 7 of masks. Every mask byte in a row of its own; and some masks in entries that are whole, that are cut at each byte, and
+    /// whose track is too high.
+    pub(super) fn upper_bits(&mut self) {
+        let values = [0x51, 0x52, 0x53, 0x54, 0x55, 0x56];
+        for upper in [0x00, 0x40, 0x80, 0xC0] {
+            let row = |low: u8| [entry_of(1 + low % 4, upper | low, &values), vec![0]].concat();
+            self.one_pattern(64, &(0..64).flat_map(row).collect::<Vec<u8>>());
+        }
+        self.module(&with_upper_bits().bytes());
+        for mask in [0x40, 0x80, 0xC0, 0x41, 0x82, 0xFF] {
+            let entry = entry_of(4, mask, &values);
+            for cut in 1..=entry.len() {
+                self.one_pattern(1, &entry[..cut]);
+            }
+            self.one_pattern(1, &[&entry[..], &[0]].concat());
+            let too_high = entry_of(5, mask, &values);
+            self.one_pattern(1, &[&too_high[..], &[0]].concat());
+        }
+    }
+
+    /// A module with one pattern of four tracks.
+    fn one_pattern(&mut self, rows: u16, stream: &[u8]) {
+        let tune = Tune {
+            patterns: vec![Pattern::new(rows, stream)],
+            ..Tune::default()
+        };
+        self.module(&tune.bytes());
     }
 
     /// Valid and invalid flags, of the only, the first and the last sample.
