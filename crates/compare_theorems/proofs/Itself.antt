@@ -4,15 +4,14 @@ use mathlib.Core.Path.{_≡_, refl, ap, _∙_}
 use mathlib.Core.List.{List, [], _∷_, _++_}
 use mathlib.Core.Bool.{Bool, true, cond, not, _&&_}
 use native.Mathlib.Omega.{arith}
-use lib.ListN.{getD}
 use borrow.Author.Tests.{eq-eqb, le-leb, lt-ltb}
-use Rattle.cells.specs.Cells.{Cell, Row, emptyCell}
+use Rattle.cells.specs.Cells.{Row}
 use Rattle.differences.specs.Differences.{wholeDifference, differenceIf}
 use Rattle.differences.specs.declared.Difference.{Difference}
 use Rattle.differences.proofs.EqualBytes.{same-equal}
 use Rattle.packed_rows.specs.Entries.{rowsFrom}
 use Rattle.packed_rows.specs.Stream.{readStream, entriesRead}
-use Rattle.packed_rows.specs.Comparing.{fieldDifference, cellDifferences, rowDifferences, patternDifferences, streamDifferences}
+use Rattle.packed_rows.specs.Comparing.{streamDifferences}
 use Rattle.layout.specs.declared.Layout.{Layout}
 use Rattle.layout.specs.declared.Outline.{Outline}
 use Rattle.layout.specs.declared.Outline.the-variants.{Found, Refused}
@@ -26,25 +25,12 @@ use Rattle.summary.specs.Shown.{nameOf}
 use Rattle.compare.specs.Compared.{kindOf, numberDifferences, comparedRecord, recordDifferences, sizesSame}
 use Rattle.compare.specs.Compared.{patternsDifferences, blockDifferences, numberedDifferences, kindDifferences, differences, moduleDifferences}
 use Rattle.packed_rows.proofs.EachFrom.{joined-empty}
+use Rattle.packed_rows.proofs.EqualPatterns.{pattern-itself}
 use Rattle.compare_theorems.proofs.BothOpen.{both-found, first-refused}
 
 -- A test that finds two things equal gives no entry.
 no-difference : {same : Bool} (d : Difference) → same ≡ true → differenceIf (not same) d ≡ []
 no-difference d e = ap (λ (same : Bool). differenceIf (not same) d) e
-
--- G5: equal patterns.
-module _ (pattern : ℕ) where
-  cell-itself : (row track : ℕ) (a : Cell) → cellDifferences pattern row track a a ≡ []
-  cell-itself row track a =
-      joined-empty (fieldDifference pattern row track a a) 6 1
-      (λ field low high. no-difference (record { kind = 8; number = pattern; row = row; track = track; field = field })
-      (eq-eqb (getD a (field - 1) 0) (getD a (field - 1) 0) refl))
-
-  row-itself : (tracks row : ℕ) (a : Row) → rowDifferences pattern tracks row a a ≡ []
-  row-itself tracks row a = joined-empty _ tracks 1 (λ track low high. cell-itself row track (getD a (track - 1) emptyCell))
-
-  pattern-itself : (rows tracks : ℕ) (a : List Row) → patternDifferences pattern rows tracks a a ≡ []
-  pattern-itself rows tracks a = joined-empty _ rows 0 (λ row low high. row-itself tracks row (getD a row []))
 
 -- Two lists that are both empty, one after the other.
 nothing-more : {xs ys : List Difference} → xs ≡ [] → ys ≡ [] → xs ++ ys ≡ []
@@ -64,7 +50,7 @@ module _ (m : List ℕ) (l : Layout) where
       let rows : List Row = rowsFrom (l .tracks) (entriesRead (readStream (patternRows m at) (l .tracks) (packedBytes m at))) in
       let same : sizesSame m l m l at at ≡ true = simp (eq-eqb (l .tracks) (l .tracks) refl, eq-eqb (patternRows m at) (patternRows m at) refl) in
       ap (λ (b : Bool). cond b (streamDifferences (packedBytes m at) (packedBytes m at) (patternRows m at) (l .tracks) number) whole) same
-      ∙ pattern-itself number (patternRows m at) (l .tracks) rows
+      ∙ pattern-itself number (l .tracks) (patternRows m at) rows
 
   block-itself : (kind : RecordKind) (number at : ℕ) → blockDifferences m l m l kind number at at ≡ []
   block-itself Song number at = record-itself Song number at

@@ -109,10 +109,11 @@ outside = content [] (instrument 1 (0 ∷ 0 ∷ 0 ∷ 2 ∷ []) (0 ∷ 0 ∷ 0 �
 listedRows : List WorkedComparison
 unfolding lists entry songs instruments patterns samples named sixTracks volume panning song instrument fullInstrument plain pattern sample
 listedRows =
-    -- Nothing differs: a module and itself; a missing name and zeros; other packing.
+    -- Nothing differs: a module and itself; a missing name and zeros; other packing; other upper bits in a mask.
     lists (samples (sample 1 1 (7 ∷ []) ∷ [])) (samples (sample 1 1 (7 ∷ []) ∷ [])) []
     ∷ lists (named (0 ∷ [])) (samples []) []
     ∷ lists (patterns (pattern 2 (2 ∷ 3 ∷ 0x47 ∷ 1 ∷ 0 ∷ 0 ∷ []) ∷ [])) (patterns (pattern 2 (2 ∷ 1 ∷ 0x47 ∷ 2 ∷ 2 ∷ 1 ∷ 0 ∷ 0 ∷ []) ∷ [])) []
+    ∷ lists (patterns (pattern 1 (1 ∷ 0x41 ∷ 0x47 ∷ 0 ∷ []) ∷ [])) (patterns (pattern 1 (1 ∷ 0x81 ∷ 0x47 ∷ 0 ∷ []) ∷ [])) []
     -- 1: the name.
     ∷ lists (named (65 ∷ [])) (named (66 ∷ [])) (entry 1 0 0 0 0 ∷ [])
     ∷ lists (named (65 ∷ [])) (samples []) (entry 1 0 0 0 0 ∷ [])
@@ -165,7 +166,8 @@ refusedRows =
     ∷ outputs (samples []) outside 3 (replicate 3 170)
     ∷ []
 
--- Two streams: 16 for the rows; the first stream's 15, also if both are broken; the second's; the entries for which there is room.
+-- Two streams: 16 for the rows; the first stream's 15, also if both are broken; the second's; the entries for which there is room; a field
+-- that differs beside upper bits of a mask.
 streamRows : List WorkedComparison
 unfolding streams entry
 streamRows =
@@ -177,6 +179,7 @@ streamRows =
     ∷ streams (1 ∷ 3 ∷ 7 ∷ 8 ∷ 0 ∷ []) (0 ∷ []) 1 25 (0 ∷ 0 ∷ 2 ∷ []) (entry 8 5 0 1 1 ++ (entry 8 5 0 1 2 ++ replicate 5 170))
     ∷ streams (1 ∷ 3 ∷ 7 ∷ 8 ∷ 0 ∷ []) (0 ∷ []) 1 15 (0 ∷ 0 ∷ 2 ∷ []) (entry 8 5 0 1 1 ++ replicate 5 170)
     ∷ streams (1 ∷ 3 ∷ 7 ∷ 8 ∷ 0 ∷ []) (0 ∷ []) 1 9 (0 ∷ 0 ∷ 2 ∷ []) (replicate 9 170)
+    ∷ streams (1 ∷ 0xC3 ∷ 7 ∷ 8 ∷ 0 ∷ []) (1 ∷ 1 ∷ 7 ∷ 0 ∷ []) 1 15 (0 ∷ 0 ∷ 1 ∷ []) (entry 8 5 0 1 2 ++ replicate 5 170)
     ∷ []
 
 -- The table.

@@ -11,12 +11,12 @@ use lib.ListN.{length, getD, take, drop, length-map, take-append-drop, drop-of-l
 use lib.Seq.{length-take-le, drop-drop}
 use lib.Dec.{eqb}
 use Rattle.vocabulary.specs.Lists.{joined, Every, none, also}
-use Rattle.vocabulary.proofs.EveryOne.{every-of, every-first, every-rest}
+use Rattle.vocabulary.proofs.EveryOne.{every-first, every-rest}
 use Rattle.numbers.specs.Numbers.{byteAt, Bytes, number16, number32, eachFrom, bytesFrom, bytes16, bytes32}
 use Rattle.numbers.proofs.Parts.{bytes-part}
 use Rattle.numbers.proofs.Each.{each-length}
 use Rattle.numbers.proofs.Stored.{number16-stored, number32-stored}
-use Rattle.numbers.proofs.AllBytes.{bytes-rest, bytes-take, bytes-front, bytes-after, number16-below, number32-below}
+use Rattle.numbers.proofs.AllBytes.{bytes-take, bytes-front, bytes-after, number16-below, number32-below}
 use Rattle.acceptance.specs.Rules.{InfoRules, SongRules, InstrumentRules, PatternRules, SampleRules, EnvelopeRules}
 use Rattle.repack_theorems.proofs.PackedBytes.{stream-bytes}
 use Rattle.format.specs.Description.{Info, Song, Instrument, Pattern, Width, eight, sixteen, thirtyTwo, Sample, Point, Envelope}
@@ -210,8 +210,7 @@ module _ (tracks : ℕ) {block : List ℕ} (r : PatternRules tracks block) where
       many = rw (r .sound .count) (number-fits (r .front) front-bytes sixteen 0);
       packed = rw (← r .sound .bytes, ← r .packed) (number-fits (r .front) front-bytes thirtyTwo 2);
       sound = r .sound .sound;
-      fields = every-of (λ es. every-of (λ e h. bytes-rest (e .mask) (e .fields) (bytes-rest (e .track) (e .mask ∷ e .fields) h)))
-          (stream-bytes (r .entries) .1 (subst Bytes (r .sound .bytes) (bytes-front (r .stream) (r .filler) rest-bytes)));
+      bytes = stream-bytes (r .entries) .1 (subst Bytes (r .sound .bytes) (bytes-front (r .stream) (r .filler) rest-bytes));
       filler = (rw (← r .sound .bytes) (r .odd), bytes-after (r .stream) (r .filler) rest-bytes);
     }
 

@@ -3,26 +3,22 @@
 use Prim.Native.Nat.{ℕ, _+_, _-_, _≤_, _<_}
 use mathlib.Core.Path.{_≡_, refl, sym, ap, _∙_}
 use mathlib.Core.Logic.{_⊎_, inl, inr}
-use mathlib.Core.List.{List, [], _∷_, _++_, map, append-assoc}
-use mathlib.Core.Bool.{true}
+use mathlib.Core.List.{List, [], _++_, map, append-assoc}
 use native.Mathlib.Omega.{arith}
 use lib.ListN.{length, getD, length-append, length-map}
 use lib.Seq.{take-at}
-use Rattle.vocabulary.specs.Lists.{joined, Every, none, also}
+use Rattle.vocabulary.specs.Lists.{joined, Every}
 use Rattle.vocabulary.specs.Letters.{infoLetters}
 use Rattle.vocabulary.proofs.EveryOne.{every-at, every-of}
 use Rattle.vocabulary.proofs.MappedLists.{every-map}
 use Rattle.numbers.specs.Numbers.{byteAt, Bytes, number16, number32, bytes16, bytes32}
 use Rattle.numbers.proofs.Stored.{bytes16-again, bytes32-again}
 use Rattle.numbers.proofs.AllBytes.{bytes-nil, bytes-cons, bytes-append, bytes-joined, bytes16-bytes, bytes32-bytes}
-use Rattle.packed_rows.specs.Entries.{Entry, soundEntry, streamOf}
-use Rattle.packed_rows.specs.Theorems.{every, allSound}
-use Rattle.packed_rows.proofs.Reading.{and-true}
+use Rattle.packed_rows.specs.Entries.{streamOf}
 use Rattle.packed_rows.proofs.Shapes.{getD-mapped}
-use Rattle.packed_rows.proofs.Soundness.{sound-facts}
 use Rattle.acceptance.specs.Rules.{Filled, InfoRules, SongRules, InstrumentRules, PatternRules, SampleRules, EnvelopeRules, EnvelopesRules}
 use Rattle.acceptance.proofs.Locating.{bytes16-number}
-use Rattle.repack_theorems.proofs.PackedBytes.{EntriesBytes, stream-bytes}
+use Rattle.repack_theorems.proofs.PackedBytes.{stream-bytes}
 use Rattle.format.specs.Description.{Info, Song, Instrument, Pattern, Width, eight, sixteen, thirtyTwo, Sample, Point, Envelope, INFO}
 use Rattle.format.specs.Encoding.{infoBytes, songBytes, instrumentBytes, patternBytes, flagsOf, frameBytes, sampleBytes}
 use Rattle.format.specs.Encoding.{pointBytes, envelopeBytes, envelopesBytes, chunkBytes}
@@ -129,26 +125,12 @@ module _ (samples : List Sample) (i : Instrument) (fits : InstrumentFits samples
 
 -- B4, V7: the encoding of a pattern.
 module _ (tracks : ℕ) where
-  entries-bytes : tracks ≤ 254 → (es : List Entry) → every (soundEntry tracks) es ≡ true → Every (λ e. Bytes (e .fields)) es → EntriesBytes es
-  entries-bytes few [] sound fields = none
-  entries-bytes few (e ∷ es) sound (also field fields) =
-      let parts = and-true _ _ sound in
-      let one = sound-facts tracks e (parts .0) in
-      also (bytes-cons (e .track) (e .mask ∷ e .fields) (omega (arith, one .high)) (bytes-cons (e .mask) (e .fields) (omega (arith, one .small)) field))
-      (entries-bytes few es (parts .1) fields)
-
-  rows-bytes : tracks ≤ 254 → (rows : List (List Entry)) → allSound tracks rows ≡ true → Every (Every (λ e. Bytes (e .fields))) rows → Every EntriesBytes rows
-  rows-bytes few [] sound fields = none
-  rows-bytes few (es ∷ rows) sound (also field fields) =
-      let parts = and-true _ _ sound in
-      also (entries-bytes few es (parts .0) field) (rows-bytes few rows (parts .1) fields)
-
   module _ (p : Pattern) (fits : PatternFits tracks p) where
-    pub pattern-bytes : tracks ≤ 254 → Bytes (patternBytes p)
-    pattern-bytes few =
+    pub pattern-bytes : Bytes (patternBytes p)
+    pattern-bytes =
         bytes-append (bytes16 (length (p .rows))) _ (bytes16-bytes _ (fits .many))
         (bytes-append (bytes32 (length (streamOf (p .rows)))) _ (bytes32-bytes _ (fits .packed))
-        (bytes-append (streamOf (p .rows)) (p .filler) (stream-bytes (p .rows) .0 (rows-bytes few (p .rows) (fits .sound) (fits .fields))) (fits .filler .1)))
+        (bytes-append (streamOf (p .rows)) (p .filler) (stream-bytes (p .rows) .0 (fits .bytes)) (fits .filler .1)))
 
     pub pattern-rules : PatternRules tracks (patternBytes p)
     unfolding byteAt number16 number32

@@ -139,7 +139,7 @@ module _ (d : Description) (w : WellFormed d) where
       (all-bytes instrumentBytes (λ n h. instrument-bytes (w .samples) n h few-samples) (w .instruments) (w .lists .instrumentsFit))
   held-bytes (PATT held) i =
       same-bytes i (w .patternsThere) Covered.patt refl
-      (all-bytes patternBytes (λ p h. pattern-bytes (w .info .tracks) p h (w .lists .infoFits .tracks .1)) (w .patterns) (w .lists .patternsFit))
+      (all-bytes patternBytes (λ p h. pattern-bytes (w .info .tracks) p h) (w .patterns) (w .lists .patternsFit))
   held-bytes (SMPL held) i = same-bytes i (w .samplesThere) Covered.smpl refl (all-bytes sampleBytes sample-bytes (w .samples) (w .lists .samplesFit))
   held-bytes (VENV held) i = envelopes-bytes (length (w .instruments)) _ held (w .volumeEnvelopes held i) few-instruments
   held-bytes (PENV held) i = envelopes-bytes (length (w .instruments)) _ held (w .panningEnvelopes held i) few-instruments

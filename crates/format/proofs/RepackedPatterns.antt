@@ -5,10 +5,8 @@ use mathlib.Core.List.{List, [], _∷_, _++_, map}
 use mathlib.Core.Bool.{true}
 use native.Mathlib.Omega.{arith}
 use lib.ListN.{length, length-map, length-replicate}
-use Rattle.vocabulary.specs.Lists.{Every}
-use Rattle.vocabulary.proofs.EveryOne.{every-of}
-use Rattle.numbers.specs.Numbers.{number16, partOf, bytes16, bytes32}
-use Rattle.numbers.proofs.AllBytes.{bytes-rest, bytes-front, bytes-after, bytes-replicate}
+use Rattle.numbers.specs.Numbers.{number16, partOf, bytes16}
+use Rattle.numbers.proofs.AllBytes.{bytes-replicate}
 use Rattle.packed_rows.specs.Entries.{Entry, rowFrom, rowsFrom, streamOf}
 use Rattle.packed_rows.specs.Stream.{whole, readStream, entriesRead, AcceptedAs}
 use Rattle.packed_rows.specs.Packer.{packedEntries, packedStream, packedLength}
@@ -22,14 +20,13 @@ use Rattle.packed_rows.proofs.Accepted.{accepted-rows}
 use Rattle.packed_rows.proofs.Theorems.{none-shorter, reads-exactly}
 use Rattle.blocks.specs.StoredFields.{packedBytes}
 use Rattle.repack.specs.Repacked.{packed}
-use Rattle.repack_theorems.proofs.PackedBytes.{EntriesBytes, stream-bytes, repacked-bytes}
+use Rattle.repack_theorems.proofs.PackedBytes.{repacked-bytes}
 use Rattle.repack_theorems.proofs.RewrittenBlock.{rewrittenBlock}
 use Rattle.format.specs.Description.{Pattern}
 use Rattle.format.specs.Encoding.{patternBytes}
 use Rattle.format.specs.WellFormed.{PatternFits}
 use Rattle.format.specs.Repacked.{repackedPattern}
 use Rattle.format.proofs.ReadingBlocks.{pattern-rows, pattern-packed, pattern-stream}
-use Rattle.format.proofs.EncodedBlocks.{pattern-bytes}
 
 -- The number of rows is unchanged.
 pub rows-many : (tracks : ℕ) (rows : List (List Entry)) → length (map packedEntries (rowsFrom tracks rows)) ≡ length rows
@@ -69,18 +66,11 @@ module _ (tracks : ℕ) (p : Pattern) (fits : PatternFits tracks p) where
         ap packedLength (accepted-rows accepted),
       )
 
-  entries-are-bytes : tracks ≤ 254 → Every EntriesBytes (p .rows)
-  entries-are-bytes few =
-      stream-bytes (p .rows) .1
-      (bytes-front (streamOf (p .rows)) (p .filler)
-      (bytes-after (bytes16 (length (p .rows)) ++ bytes32 (length (streamOf (p .rows)))) (streamOf (p .rows) ++ p .filler) (pattern-bytes tracks p fits few)))
-
   pub pattern-fits : tracks ≤ 254 → PatternFits tracks (repackedPattern tracks p)
   pattern-fits few = record {
     many = rw (rows-many tracks (p .rows)) (fits .many);
     packed = omega (arith, shorter, fits .packed);
     sound = rows-sound tracks (p .rows);
-    fields = every-of (λ es h. every-of (λ e b. bytes-rest (e .mask) (e .fields) (bytes-rest (e .track) (e .mask ∷ e .fields) b)) h)
-        (repacked-bytes tracks few (p .rows) (entries-are-bytes few));
+    bytes = repacked-bytes tracks few (p .rows) (fits .bytes);
     filler = (length-replicate (length (streamOf rewritten) % 2) 0, bytes-replicate (length (streamOf rewritten) % 2));
   }

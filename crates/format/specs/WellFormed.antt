@@ -9,7 +9,7 @@ use mathlib.Core.Bool.{true}
 use lib.ListN.{length, getD}
 use Rattle.vocabulary.specs.Lists.{Every}
 use Rattle.numbers.specs.Numbers.{Bytes}
-use Rattle.packed_rows.specs.Entries.{Entry, streamOf}
+use Rattle.packed_rows.specs.Entries.{Entry, entryBytes, streamOf}
 use Rattle.packed_rows.specs.Theorems.{allSound}
 use Rattle.acceptance.specs.Rules.{Covered, NeedsInfo, PanningFits, VolumeFits, PanningValueFits}
 use Rattle.format.specs.Description.{Info, Song, Instrument, Pattern, Width, eight, sixteen, thirtyTwo, Sample, Point}
@@ -69,12 +69,12 @@ pub record InstrumentFits (samples : List Sample) (i : Instrument) : Type 0 wher
   pub flags : i .flags < 4
   pub loop : Looped i → (1 ≤ i .sample) × (i .loopStart + i .loopLength ≤ framesOf samples (i .sample))
 
--- B4, V7: rows of sound entries (R2 to R4), whose fields are bytes, and a filler byte exactly if the length of the stream is odd.
+-- B4, V7: rows of sound entries (R2 to R4), whose numbers are bytes, and a filler byte exactly if the length of the stream is odd.
 pub record PatternFits (tracks : ℕ) (p : Pattern) : Type 0 where
   pub many : Fits16 (length (p .rows))
   pub packed : Fits32 (length (streamOf (p .rows)))
   pub sound : allSound tracks (p .rows) ≡ true
-  pub fields : Every (Every (λ (e : Entry). Bytes (e .fields))) (p .rows)
+  pub bytes : Every (Every (λ (e : Entry). Bytes (entryBytes e))) (p .rows)
   pub filler : ManyBytes (length (streamOf (p .rows)) % 2) (p .filler)
 
 -- B5: a frame fits its width.

@@ -4,7 +4,6 @@ use mathlib.Core.Path.{_≡_, refl, sym, ap, _∙_}
 use mathlib.Core.List.{List, [], _∷_, _++_, append-assoc}
 use mathlib.Core.Bool.{Bool, true, false}
 use native.Mathlib.Omega.{arith}
-use borrow.Author.Tests.{lt-ltb}
 use native.Mathlib.Nat.{zero-add, zero-mul, suc-mul, add-comm, add-assoc}
 use lib.ListN.{length, getD, take, drop, set, length-append, length-drop}
 use lib.Seq.{drop-drop, take-at, drop-at, take-add, length-take-le}
@@ -118,14 +117,13 @@ module _ (s : List ℕ) (tracks left at : ℕ) (es : List Entry) (later : List (
     pub named-inside : at + 2 + fieldsNamed (getD s (at + 1) 0) < length s
     pub track-low : 1 ≤ getD s at 0
     pub track-high : getD s at 0 ≤ tracks
-    pub entry-long : entryLength (getD s (at + 1) 0) ≡ 2 + fieldsNamed (getD s (at + 1) 0)
 
   module _ (more : getD s at 0 ≡ 0 → ⊥) (found : NextEntry) where
     sized : Sound tracks (found .e)
     sized = sound-facts tracks (found .e) (found .found .sound)
 
     pub entry-steps : (n : ℕ) → n ≡ entryLength (getD s (at + 1) 0) → n ≡ length (entryBytes (found .e))
-    entry-steps n l = l ∙ rw (found .found .mask-is, lt-ltb _ 64 (sized .small)) (omega (arith, sized .filled))
+    entry-steps n l = l ∙ rw (found .found .mask-is) (omega (arith, sized .filled))
 
 -- The row's bytes with an entry's fields stored are the row with the entry carried out.
 pub carries : (s : List ℕ) (tracks at : ℕ) (e : Entry) (bytes row : List ℕ) → EntryAt tracks s bytes at e
@@ -163,7 +161,6 @@ entry-met s tracks left at es later reads more =
       named-inside = rw mask (omega (arith, on, sound .filled));
       track-low = rw track (sound .low);
       track-high = rw track (sound .high);
-      entry-long = rw (mask, lt-ltb _ 64 (sound .small));
     }
 
 module _ (s : List ℕ) (start : ℕ) (row₀ : List ℕ) (ahead : RowAhead s start (length row₀)) where

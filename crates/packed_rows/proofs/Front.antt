@@ -9,7 +9,7 @@ use lib.ListN.{length, getD, take, drop, length-drop, drop-of-length-le}
 use lib.Seq.{drop-cons, length-take-le}
 use lib.Dec.{eqb, leb}
 use borrow.Author.Tests.{leb-true, leb-false, lt-leb, le-leb, eqb-true}
-use Rattle.packed_rows.specs.Entries.{soundMask, fieldsNamed}
+use Rattle.packed_rows.specs.Entries.{fieldsNamed}
 use Rattle.packed_rows.specs.Stream.{front}
 use Rattle.packed_rows.specs.Steps.{pieceLength, frontLength}
 
@@ -19,28 +19,21 @@ module _ (tracks track mask : ℕ) (rest : List ℕ) where
   front-pair = byEnd (eqb track 0) refl
     where
       bySize : (b : Bool) → leb (fieldsNamed mask) (length rest) ≡ b → eqb track 0 ≡ false → leb track tracks ≡ true
-          → soundMask mask ≡ true
           → frontLength (front tracks (track ∷ mask ∷ rest))
           ≡ cond (leb track tracks && leb (pieceLength track mask) (2 + length rest)) (pieceLength track mask) 0
-      bySize true e z t m =
+      bySize true e z t =
           let l : 2 + fieldsNamed mask ≤ 2 + length rest = omega (arith, leb-true (fieldsNamed mask) (length rest) e) in
           let n : length (take (fieldsNamed mask) rest) ≡ fieldsNamed mask =
           length-take-le (fieldsNamed mask) rest (leb-true (fieldsNamed mask) (length rest) e) in
-          simp (z, t, m, e, le-leb (2 + fieldsNamed mask) (2 + length rest) l, n) (omega arith)
-      bySize false e z t m =
+          simp (z, t, e, le-leb (2 + fieldsNamed mask) (2 + length rest) l, n) (omega arith)
+      bySize false e z t =
           let l : 2 + length rest < 2 + fieldsNamed mask = omega (arith, leb-false (fieldsNamed mask) (length rest) e) in
-          simp (z, t, m, e, lt-leb (2 + fieldsNamed mask) (2 + length rest) l)
-
-      byMask : (b : Bool) → soundMask mask ≡ b → eqb track 0 ≡ false → leb track tracks ≡ true
-          → frontLength (front tracks (track ∷ mask ∷ rest))
-          ≡ cond (leb track tracks && leb (pieceLength track mask) (2 + length rest)) (pieceLength track mask) 0
-      byMask true m z t = bySize (leb (fieldsNamed mask) (length rest)) refl z t m
-      byMask false m z t = simp (z, t, m, le-leb 0 (2 + length rest) (omega arith))
+          simp (z, t, e, lt-leb (2 + fieldsNamed mask) (2 + length rest) l)
 
       byTrack : (b : Bool) → leb track tracks ≡ b → eqb track 0 ≡ false
           → frontLength (front tracks (track ∷ mask ∷ rest))
           ≡ cond (leb track tracks && leb (pieceLength track mask) (2 + length rest)) (pieceLength track mask) 0
-      byTrack true t z = byMask (soundMask mask) refl z t
+      byTrack true t z = bySize (leb (fieldsNamed mask) (length rest)) refl z t
       byTrack false t z = simp (z, t)
 
       byEnd : (b : Bool) → eqb track 0 ≡ b

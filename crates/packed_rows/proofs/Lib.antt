@@ -12,6 +12,7 @@ pub mod Soundness
 pub mod Accepted
 pub mod AnyOrder
 pub mod Bits
+pub mod UpperBits
 pub mod LastEntry
 pub mod PackedRow
 pub mod Shortest
@@ -28,6 +29,8 @@ pub mod Writing
 pub mod Repacking
 pub mod EachFrom
 pub mod ListingCells
+pub mod EqualPatterns
+pub mod IgnoredBits
 pub mod ListingGroups
 pub mod MarkingRows
 pub mod ListingRows

@@ -9,7 +9,7 @@ use lib.ListN.{length, take, drop, length-append, take-append-drop}
 use lib.Dec.{eqb, leb}
 use lib.Seq.{length-take-le, take-at, drop-at}
 use borrow.Author.Tests.{leb-true, eqb-true, eqb-false, le-leb, eq-eqb, ne-eqb}
-use Rattle.packed_rows.specs.Entries.{Entry, soundMask, fieldsNamed, entryBytes, soundEntry}
+use Rattle.packed_rows.specs.Entries.{Entry, fieldsNamed, entryBytes, soundEntry}
 use Rattle.packed_rows.specs.Stream.{Front, nothing, rowEnd, entry, fault, frontEntry, front, Reading, brokenAt, whole}
 use Rattle.packed_rows.specs.Stream.{newRow, addEntry, readOn, readFrom, reading}
 
@@ -29,19 +29,18 @@ FrontSays tracks s fault = Unit {0}
 
 frontEntry-says : (tracks b : ℕ) (s : List ℕ) → 1 ≤ b → FrontSays tracks (b ∷ s) (frontEntry tracks b s)
 frontEntry-says tracks b [] h = tt
-frontEntry-says tracks b (mask ∷ s) h = go (leb b tracks && (soundMask mask && leb (fieldsNamed mask) (length s))) refl
+frontEntry-says tracks b (mask ∷ s) h = go (leb b tracks && leb (fieldsNamed mask) (length s)) refl
   where
     n : ℕ
     n = fieldsNamed mask
 
-    go : (t : Bool) → leb b tracks && (soundMask mask && leb n (length s)) ≡ t
+    go : (t : Bool) → leb b tracks && leb n (length s) ≡ t
         → FrontSays tracks (b ∷ mask ∷ s) (cond t (entry (record { track = b; mask = mask; fields = take n s }) (drop n s)) fault)
     go false e = tt
     go true e =
-        let u = and-true (leb b tracks) (soundMask mask && leb n (length s)) e in
-        let v = and-true (soundMask mask) (leb n (length s)) (u .1) in
-        let l = eq-eqb (length (take n s)) n (length-take-le n s (leb-true n (length s) (v .1))) in
-        (true-and (le-leb 1 b h) (true-and (u .0) (true-and (v .0) l)), simp take-append-drop)
+        let u = and-true (leb b tracks) (leb n (length s)) e in
+        let l = eq-eqb (length (take n s)) n (length-take-le n s (leb-true n (length s) (u .1))) in
+        (true-and (le-leb 1 b h) (true-and (u .0) l), simp take-append-drop)
 
 pub front-says : (tracks : ℕ) (s : List ℕ) → FrontSays tracks s (front tracks s)
 front-says tracks [] = refl
@@ -67,14 +66,13 @@ front-row-end tracks rest = refl
 
 pub front-entry : (tracks : ℕ) (e : Entry) (rest : List ℕ) → soundEntry tracks e ≡ true → front tracks (entryBytes e ++ rest) ≡ entry e rest
 front-entry tracks e rest h =
-    let u = and-true (leb 1 (e .track)) (leb (e .track) tracks && (soundMask (e .mask) && eqb (length (e .fields)) n)) h in
-    let v = and-true (leb (e .track) tracks) (soundMask (e .mask) && eqb (length (e .fields)) n) (u .1) in
-    let w = and-true (soundMask (e .mask)) (eqb (length (e .fields)) n) (v .1) in
-    let l : length (e .fields) ≡ n = eqb-true (length (e .fields)) n (w .1) in
+    let u = and-true (leb 1 (e .track)) (leb (e .track) tracks && eqb (length (e .fields)) n) h in
+    let v = and-true (leb (e .track) tracks) (eqb (length (e .fields)) n) (u .1) in
+    let l : length (e .fields) ≡ n = eqb-true (length (e .fields)) n (v .1) in
     let some : 1 ≤ e .track = leb-true 1 (e .track) (u .0) in
     simp (
       ne-eqb (e .track) 0 (omega arith),
-      true-and (v .0) (true-and (w .0) (le-leb n (length (e .fields ++ rest)) (simp length-append (omega arith)))),
+      true-and (v .0) (le-leb n (length (e .fields ++ rest)) (simp length-append (omega arith))),
       take-at (e .fields) rest n l,
       drop-at (e .fields) rest n l,
     )

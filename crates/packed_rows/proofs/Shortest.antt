@@ -1,7 +1,7 @@
 -- No accepted stream is shorter than the packer's (W5), and those of the same length are the packer's entries in another order within the
--- rows (W6). Carrying out an entry makes a row's packed length grow by at most the entry's bytes. If it grows by that much, the cell was
--- empty and the entry is the packer's for the new cell.
-use Prim.Native.Nat.{ℕ, zero, suc, _+_, _-_, _≤_, _<_}
+-- rows (W6), but for bits 6 and 7 of masks. Carrying out an entry makes a row's packed length grow by at most the entry's bytes. If it
+-- grows by that much, the cell was empty and the entry without these bits is the packer's for the new cell.
+use Prim.Native.Nat.{ℕ, zero, suc, _+_, _-_, _%_, _≤_, _<_}
 use native.Mathlib.Nat.{add-zero, add-suc, suc-add}
 use native.Mathlib.Omega.{arith}
 use mathlib.Core.Path.{_≡_, refl, sym, ap, _∙_}
@@ -16,7 +16,7 @@ use Rattle.cells.specs.Cells.{Cell, Row, emptyCell, emptyRow, cellBytes, rowsOf
 use Rattle.packed_rows.specs.Entries.{Entry, named, count, entryBytes, soundEntry, store, carryOut, carryAll, rowFrom, rowsFrom, rowStream, streamOf}
 use Rattle.packed_rows.specs.Stream.{AcceptedAs}
 use Rattle.packed_rows.specs.Packer.{ofBits, nonZero, packedEntry, entriesFrom, packedEntries, packedStream, packedLength}
-use Rattle.packed_rows.specs.Theorems.{every, allSound, SoundStream, Reordered, end, next}
+use Rattle.packed_rows.specs.Theorems.{every, allSound, SoundStream, withoutUpperBits, Reordered, end, next}
 use Rattle.packed_rows.proofs.Shapes.{none, one, Blocks, Shaped, each-count, each-getD, each-replicate, carry-shaped, rows-shaped, bytes-rows}
 use Rattle.packed_rows.proofs.Bits.{of-bits}
 use Rattle.packed_rows.proofs.PackedRow.{packs}
@@ -24,6 +24,7 @@ use Rattle.packed_rows.proofs.Storing.{all-zeros, store-most, store-ful
 use Rattle.packed_rows.proofs.StreamLength.{cellLength, rowLength, cell-length-most, row-length-cons}
 use Rattle.packed_rows.proofs.StreamLength.{packed-length-cons, row-stream-length, entries-length}
 use Rattle.packed_rows.proofs.Soundness.{Sound, sound-facts, every-perm, entries-sound}
+use Rattle.packed_rows.proofs.UpperBits.{every-sound-low, row-from-low, packed-low}
 use Rattle.packed_rows.proofs.AnyOrder.{any-order-gives}
 use Rattle.packed_rows.proofs.Reading.{and-true, true-and}
 use Rattle.packed_rows.proofs.Grammar.{reads-exactly}
@@ -33,15 +34,16 @@ use Rattle.packed_rows.proofs.Accepted.{accepted-stream, accepted-rows}
 store-length : (ns : List Bool) (values : List ℕ) (cell : Cell) → cellLength (store ns values cell) ≤ cellLength cell + (2 + count ns)
 store-length ns values cell = omega (arith, cell-length-most (store ns values cell), store-most ns values cell)
 
--- The entry is the packer's for the new cell, and the old cell was empty.
+-- The entry is the packer's for the new cell, but for bits 6 and 7 of its mask, and the old cell was empty.
 record Packers (e : Entry) (old new : Cell) : Type 0 where
   empty : nonEmpty old ≡ false
   filled : nonEmpty new ≡ true
-  same : e ≡ packedEntry (e .track) new
+  same : withoutUpperBits e ≡ packedEntry (e .track) new
 
-packed-same : (e : Entry) (new : Cell) → map nonZero new ≡ named (e .mask) → nonZeros new ≡ e .fields → e .mask < 64 → e ≡ packedEntry (e .track) new
-packed-same e new p q small =
-    let mask : e .mask ≡ ofBits (map nonZero new) = sym (ap ofBits p ∙ of-bits 6 (e .mask) small) in
+packed-same : (e : Entry) (new : Cell) → map nonZero new ≡ named (e .mask) → nonZeros new ≡ e .fields
+    → withoutUpperBits e ≡ packedEntry (e .track) new
+packed-same e new p q =
+    let mask : e .mask % 64 ≡ ofBits (map nonZero new) = sym (ap ofBits p ∙ of-bits 6 (e .mask)) in
     λ i. record { track = e .track; mask = mask i; fields = sym q i }
 
 store-packers : (tracks : ℕ) (e : Entry) (old : Cell) → Sound tracks e → length old ≡ 6
@@ -54,10 +56,10 @@ store-packers tracks e old s l h = go (nonEmpty old) (nonEmpty new) refl refl h
     most : length (nonZeros new) ≤ length (nonZeros old) + length (e .fields)
     most = omega (arith, store-most (named (e .mask)) (e .fields) old, s .filled)
 
-    same : old ≡ emptyCell → length (e .fields) ≤ length (nonZeros new) → e ≡ packedEntry (e .track) new
+    same : old ≡ emptyCell → length (e .fields) ≤ length (nonZeros new) → withoutUpperBits e ≡ packedEntry (e .track) new
     same z m =
         let full = store-full (named (e .mask)) (e .fields) (s .filled) (rw (z, s .filled) at m) in
-        rw z (packed-same e (store (named (e .mask)) (e .fields) emptyCell) (full .0) (full .1) (s .small))
+        rw z (packed-same e (store (named (e .mask)) (e .fields) emptyCell) (full .0) (full .1))
 
     go : (a b : Bool) → nonEmpty old ≡ a → nonEmpty new ≡ b → cond a 2 0 + length (nonZeros old) + length (entryBytes e) ≤ cond b 2 0 + length (nonZeros new)
         → Packers e old new
@@ -96,7 +98,8 @@ module _ (tracks : ℕ) (e : Entry) (row : Row) (s : Sound tracks e) (b : Blocks
         set-length row (e .track - 1) (store (named (e .mask)) (e .fields) (getD row (e .track - 1) emptyCell)) here,
       )
 
-  carry-packers : rowLength row + length (entryBytes e) ≤ rowLength (carryOut e row) → List·Permᴰ (e ∷ packedEntries row) (packedEntries (carryOut e row))
+  carry-packers : rowLength row + length (entryBytes e) ≤ rowLength (carryOut e row)
+      → List·Permᴰ (withoutUpperBits e ∷ packedEntries row) (packedEntries (carryOut e row))
   carry-packers h =
       let here : e .track - 1 < length row = omega (arith, s .low, s .high, each-count b) in
       let old : Cell = getD row (e .track - 1) emptyCell in
@@ -104,7 +107,8 @@ module _ (tracks : ℕ) (e : Entry) (row : Row) (s : Sound tracks e) (b : Blocks
       let packers : Packers e old new =
       store-packers tracks e old s (each-getD (e .track - 1) emptyCell refl b)
       (omega (arith, set-length row (e .track - 1) new here)) in
-      let same : e ≡ packedEntry (1 + (e .track - 1)) new = packers .same ∙ ap (λ (t : ℕ). packedEntry t new) (omega (arith, s .low)) in
+      let same : withoutUpperBits e ≡ packedEntry (1 + (e .track - 1)) new =
+      packers .same ∙ ap (λ (t : ℕ). packedEntry t new) (omega (arith, s .low)) in
       List·Permᴰ·trans (List·Permᴰ·cons same (Permᴰ·refl (packedEntries row))) (set-perm 1 row (e .track - 1) new here (packers .empty) (packers .filled))
 
 -- All entries of a row.
@@ -121,7 +125,8 @@ carry-all-length tracks (e ∷ es) row h b =
     )
 
 carry-all-packers : (tracks : ℕ) (es : List Entry) (row : Row) → every (soundEntry tracks) es ≡ true → Blocks tracks 6 row
-    → rowLength row + length (joined (map entryBytes es)) ≤ rowLength (carryAll es row) → List·Permᴰ (es ++ packedEntries row) (packedEntries (carryAll es row))
+    → rowLength row + length (joined (map entryBytes es)) ≤ rowLength (carryAll es row)
+    → List·Permᴰ (map withoutUpperBits es ++ packedEntries row) (packedEntries (carryAll es row))
 carry-all-packers tracks [] row h b l = Permᴰ·refl (packedEntries row)
 carry-all-packers tracks (e ∷ es) row h b l =
     let s = and-true (soundEntry tracks e) (every (soundEntry tracks) es) h in
@@ -130,8 +135,9 @@ carry-all-packers tracks (e ∷ es) row h b l =
     let first = carry-length tracks e row sound b in
     let others = carry-all-length tracks es (carryOut e row) (s .1) shaped in
     let total = length-append (entryBytes e) (joined (map entryBytes es)) in
-    List·Permᴰ·trans (Permᴰ·symm (Permᴰ·middle e es (packedEntries row)))
-    (List·Permᴰ·trans (Permᴰ·append-left es (carry-packers tracks e row sound b (omega arith)))
+    let low = map withoutUpperBits es in
+    List·Permᴰ·trans (Permᴰ·symm (Permᴰ·middle (withoutUpperBits e) low (packedEntries row)))
+    (List·Permᴰ·trans (Permᴰ·append-left low (carry-packers tracks e row sound b (omega arith)))
     (carry-all-packers tracks es (carryOut e row) (s .1) shaped (omega arith)))
 
 -- An empty row has no entries.
@@ -168,7 +174,7 @@ stream-packers tracks (es ∷ entries) h l =
     let empty = empty-length tracks in
     let first = carry-all-length tracks es (emptyRow tracks) (s .0) shaped in
     let others = stream-length tracks entries (s .1) in
-    next es (rw (empty-entries 1 tracks, append-nil es) at (carry-all-packers tracks es (emptyRow tracks) (s .0) shaped (omega arith)))
+    next es (rw (empty-entries 1 tracks, append-nil (map withoutUpperBits es)) at (carry-all-packers tracks es (emptyRow tracks) (s .0) shaped (omega arith)))
     (stream-packers tracks entries (s .1) (omega arith))
 
 reordered-entries : {rows tracks : ℕ} {pattern : List Row} {stream : List ℕ} → Shaped rows tracks pattern → Reordered pattern stream
@@ -179,11 +185,12 @@ reordered-entries {tracks = tracks} (one b s) (next es d r) =
       es ∷ rest .0,
       record {
         count = ap suc (rest .1 .count);
-        sound = true-and (every-perm (soundEntry tracks) d ∙ entries-sound tracks (packs 1 _) b (omega arith) (omega arith))
+        sound = true-and
+            (sym (every-sound-low tracks es) ∙ every-perm (soundEntry tracks) d ∙ entries-sound tracks (packs 1 _) b (omega arith) (omega arith))
             (rest .1 .sound);
         bytes = ap (λ (s : List ℕ). rowStream es ++ s) (rest .1 .bytes);
       },
-      rw (any-order-gives b d, rest .2),
+      rw (sym (row-from-low tracks es) ∙ any-order-gives b d, rest .2),
     )
 
 pub none-shorter : (rows tracks : ℕ) (stream cells : List ℕ) → AcceptedAs rows tracks stream cells → packedLength (rowsOf rows tracks cells) ≤ length stream
@@ -209,10 +216,11 @@ equal-length rows tracks stream cells l e = (there, reordered-accepted rows trac
         (stream-packers tracks (accepted .entries) (read .sound) (omega (arith, ap length (read .bytes), ap packedLength (accepted-rows accepted))))
 
 -- The packer's own order is one of the orders.
-pub packed-reordered : (pattern : List Row) → Reordered pattern (packedStream pattern)
-packed-reordered [] = end
-packed-reordered (row ∷ pattern) = next (packedEntries row) (Permᴰ·refl (packedEntries row)) (packed-reordered pattern)
+packed-reordered : {rows tracks : ℕ} {pattern : List Row} → Shaped rows tracks pattern → Reordered pattern (packedStream pattern)
+packed-reordered none = end
+packed-reordered (one {x = row} b s) = next {row = row} (packedEntries row) (rw (packed-low row b) (Permᴰ·refl (packedEntries row))) (packed-reordered s)
 
 pub round-trip : (rows tracks : ℕ) (cells : List ℕ) → length cells ≡ cellBytes rows tracks
     → AcceptedAs rows tracks (packedStream (rowsOf rows tracks cells)) cells
-round-trip rows tracks cells l = reordered-accepted rows tracks (packedStream (rowsOf rows tracks cells)) cells l (packed-reordered (rowsOf rows tracks cells))
+round-trip rows tracks cells l =
+    reordered-accepted rows tracks (packedStream (rowsOf rows tracks cells)) cells l (packed-reordered (rows-shaped rows tracks cells l))

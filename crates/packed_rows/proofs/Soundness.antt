@@ -4,7 +4,7 @@ use native.Mathlib.Omega.{arith}
 use mathlib.Core.Path.{_≡_, refl, sym, _∙_}
 use mathlib.Core.List.{List, map, List·Permᴰ, List·Permᴰ·nil, List·Permᴰ·cons, List·Permᴰ·swap, List·Permᴰ·trans}
 use mathlib.Core.Bool.{Bool, true, false, _&&_}
-use borrow.Author.Tests.{leb-true, ltb-true, eqb-true, le-leb, lt-ltb, eq-eqb}
+use borrow.Author.Tests.{leb-true, eqb-true, le-leb, eq-eqb}
 use lib.ListN.{length, length-map}
 use Rattle.cells.specs.Cells.{Cell, Row}
 use Rattle.packed_rows.specs.Entries.{Entry, named, fieldsNamed, soundEntry}
@@ -19,22 +19,19 @@ use Rattle.packed_rows.proofs.Storing.{count-non-zero}
 pub record Sound (tracks : ℕ) (e : Entry) : Type 0 where
   pub low : 1 ≤ e .track
   pub high : e .track ≤ tracks
-  pub small : e .mask < 64
   pub filled : length (e .fields) ≡ fieldsNamed (e .mask)
 
 pub sound-facts : (tracks : ℕ) (e : Entry) → soundEntry tracks e ≡ true → Sound tracks e
 sound-facts tracks e h =
     let t = and-true _ _ h in
     let u = and-true _ _ (t .1) in
-    let v = and-true _ _ (u .1) in
-    record { low = leb-true 1 (e .track) (t .0); high = leb-true (e .track) tracks (u .0); small = ltb-true (e .mask) 64 (v .0); filled = eqb-true _ _ (v .1) }
+    record { low = leb-true 1 (e .track) (t .0); high = leb-true (e .track) tracks (u .0); filled = eqb-true _ _ (u .1) }
 
 pub facts-sound : (tracks : ℕ) (e : Entry) → Sound tracks e → soundEntry tracks e ≡ true
 facts-sound tracks e s =
     simp (
       le-leb 1 (e .track) (s .low),
       le-leb (e .track) tracks (s .high),
-      lt-ltb (e .mask) 64 (s .small),
       eq-eqb (length (e .fields)) (fieldsNamed (e .mask)) (s .filled),
     )
 
@@ -43,13 +40,11 @@ pub named-packed : (cell : Cell) → length cell ≡ 6 → named (ofBits (map no
 named-packed cell l = bits-of 6 (map nonZero cell) (length-map cell nonZero ∙ l)
 
 pub packed-sound : (tracks track : ℕ) (cell : Cell) → 1 ≤ track → track ≤ tracks → length cell ≡ 6 → Sound tracks (packedEntry track cell)
-packed-sound tracks track cell low high l =
-    record {
-      low = low;
-      high = high;
-      small = of-bits-below 6 (map nonZero cell) (length-map cell nonZero ∙ l);
-      filled = rw (named-packed cell l) (sym (count-non-zero cell));
-    }
+packed-sound tracks track cell low high l = record { low = low; high = high; filled = rw (named-packed cell l) (sym (count-non-zero cell)) }
+
+-- The packer's masks have no upper bits.
+pub packed-mask : (track : ℕ) (cell : Cell) → length cell ≡ 6 → packedEntry track cell .mask < 64
+packed-mask track cell l = of-bits-below 6 (map nonZero cell) (length-map cell nonZero ∙ l)
 
 pub entries-sound : (tracks : ℕ) {track n : ℕ} {row : Row} {es : List Entry} → Packs track row es → Blocks n 6 row → 1 ≤ track
     → track + n ≤ suc tracks

@@ -6,8 +6,8 @@
 --     rows × (1 + 8 × tracks). The length that packing answers and the place of its refusal 17 are the packed length.
 --  3. A stream that is accepted as certain cells is never shorter than the packer's stream of these cells.
 --  4. A stream of exactly that length is accepted as the cells exactly when it is, row by row, the packer's entries for that row,
---     each once and unchanged, in some order, and then the row end. And unpacking a stream into enough room succeeds with
---     certain cells exactly when the stream is accepted as these cells.
+--     each once and unchanged but for bits 6 and 7 of the mask, in some order, and then the row end. And unpacking a stream into
+--     enough room succeeds with certain cells exactly when the stream is accepted as these cells.
 --  5. In an accepted stream, a field of a cell holds what the last entry of its row and track that names the field stored there,
 --     and 0 if none names it.
 --  6. A stream is read as rows of entries exactly when there are as many of these rows as the pattern has, all of their entries
@@ -20,23 +20,28 @@
 -- 25. Packing any pattern into enough room and unpacking what was written into enough room gives the pattern's bytes; the rest of
 --     both outputs is unchanged. This is for rows and tracks that fit, for cells of these rows and tracks, and for every output of at
 --     least the packed length and every other output of at least the length of the cells.
+-- 29. Bits 6 and 7 of masks are ignored. Rows of sound entries are accepted as certain cells exactly when the same rows without these
+--     bits are. For two streams that are the same but for these bits, broken streams too, the check answers the same; unpacking,
+--     repacking and reading one cell answer the same and leave the same in every output; and the patterns that the streams hold have no
+--     differences. The packer's entries have none of these bits.
 --
 -- The reader is `readStream`, the packer `packedStream`, the length `packedLength`: the definitions that the contracts cite.
 use Prim.Native.Nat.{ℕ, _+_, _-_, _*_, _<_, _≤_}
 use mathlib.Core.Logic.{_↔_}
 use mathlib.Core.Path.{_≡_}
-use mathlib.Core.List.{List, [], _++_}
+use mathlib.Core.List.{List, [], _++_, map}
 use mathlib.Core.Bool.{true}
 use lib.ListN.{length, getD, take}
 use Rattle.refusal.specs.Numbers.{refusal}
 use Rattle.refusal.specs.declared.Reason.the-variants.{Stream, Room}
 use Rattle.refusal.specs.declared.Verdict.the-variants.{Accepted, Refused}
 use Rattle.cells.specs.Cells.{sizesFit, cellBytes, rowsOf, groupsOf, nonZeros, nonEmptyCells}
-use Rattle.packed_rows.specs.Entries.{Entry}
+use Rattle.packed_rows.specs.Entries.{Entry, streamOf}
 use Rattle.packed_rows.specs.Stream.{readStream, whole, brokenAt, AcceptedAs}
-use Rattle.packed_rows.specs.Packer.{packedStream, packedLength}
+use Rattle.packed_rows.specs.Packer.{packedEntries, packedStream, packedLength}
 use Rattle.packed_rows.specs.Answers.{checkAnswer, unpackAnswer, unpackOutput, packAnswer}
-use Rattle.packed_rows.specs.Theorems.{SoundStream, Reordered, LastStored, StreamBroken, PackedAndUnpacked}
+use Rattle.packed_rows.specs.Theorems.{allSound, SoundStream, withoutUpperBits, Reordered, SameButUpperBits, LastStored, StreamBroken}
+use Rattle.packed_rows.specs.Theorems.{PackedAndUnpacked, SameAnswers}
 use Rattle.packed_rows.specs.declared.Unpacking.the-variants.{Unpacked}
 use Rattle.packed_rows.specs.declared.Packing.the-variants.{Packed, Refused as PackingRefused}
 use Rattle.packed_rows.proofs.Grammar as Grammar
@@ -46,6 +51,9 @@ use Rattle.packed_rows.proofs.LastEntry as LastEntry
 use Rattle.packed_rows.proofs.Unpacks as Unpacks
 use Rattle.packed_rows.proofs.Verdicts as Verdicts
 use Rattle.packed_rows.proofs.PackedUnpacked as PackedUnpacked
+use Rattle.packed_rows.proofs.Shapes as Shapes
+use Rattle.packed_rows.proofs.UpperBits as UpperBits
+use Rattle.packed_rows.proofs.IgnoredBits as IgnoredBits
 
 module _ (rows tracks : ℕ) where
   -- 1.
@@ -126,3 +134,15 @@ module _ (rows tracks : ℕ) where
   pub packed-unpacked : (cells out back : List ℕ) → sizesFit rows tracks ≡ true → length cells ≡ cellBytes rows tracks
       → packedLength (rowsOf rows tracks cells) ≤ length out → cellBytes rows tracks ≤ length back → PackedAndUnpacked rows tracks cells out back
   packed-unpacked = PackedUnpacked.packed-unpacked rows tracks
+
+  -- 29.
+  pub upper-bits-ignored : (entries : List (List Entry)) (cells : List ℕ) → allSound tracks entries ≡ true
+      → AcceptedAs rows tracks (streamOf entries) cells ↔ AcceptedAs rows tracks (streamOf (map (map withoutUpperBits) entries)) cells
+  upper-bits-ignored = IgnoredBits.upper-bits-ignored rows tracks
+
+  pub same-but-upper-bits : (stream stream′ : List ℕ) → SameButUpperBits tracks stream stream′ → SameAnswers rows tracks stream stream′
+  same-but-upper-bits = IgnoredBits.same-answers rows tracks
+
+  pub packed-without-upper-bits : (cells : List ℕ) → length cells ≡ cellBytes rows tracks
+      → map (map withoutUpperBits) (map packedEntries (rowsOf rows tracks cells)) ≡ map packedEntries (rowsOf rows tracks cells)
+  packed-without-upper-bits cells l = UpperBits.packed-rows-low (rowsOf rows tracks cells) (Shapes.rows-shaped rows tracks cells l)

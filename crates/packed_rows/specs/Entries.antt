@@ -4,7 +4,7 @@ use Prim.Native.Nat.{ℕ, zero, suc, _-_, _/_, _%_}
 use mathlib.Core.List.{List, [], _∷_, _++_, map}
 use mathlib.Core.Bool.{Bool, true, false, _&&_}
 use lib.ListN.{length, getD, drop, set}
-use lib.Dec.{eqb, leb, ltb}
+use lib.Dec.{eqb, leb}
 use Rattle.vocabulary.specs.Lists.{joined}
 use Rattle.cells.specs.Cells.{Cell, Row, emptyCell, emptyRow}
 
@@ -13,13 +13,10 @@ abbrev pub bits : ℕ → ℕ → List Bool
 bits zero m = []
 bits (suc n) m = eqb (m % 2) 1 ∷ bits n (m / 2)
 
--- R3, document 01's "named" fields: which of the six fields a mask names, in cell order.
+-- R3, document 01's "named" fields: which of the six fields a mask names, in cell order. The bits above bit 5 name nothing (document 02,
+-- K3).
 abbrev pub named : ℕ → List Bool
 named mask = bits 6 mask
-
--- R3, a sound "mask": bits 6 and 7 are 0.
-abbrev pub soundMask : ℕ → Bool
-soundMask mask = ltb mask 64
 
 abbrev pub count : List Bool → ℕ
 count [] = 0
@@ -30,7 +27,7 @@ count (false ∷ bs) = count bs
 abbrev pub fieldsNamed : ℕ → ℕ
 fieldsNamed mask = count (named mask)
 
--- R4, document 01's "entry": a track, its mask and the named fields after it.
+-- R4, document 01's "entry": a track, its mask as stored and the named fields after it.
 pub record Entry : Type 0 where
   pub track : ℕ
   pub mask : ℕ
@@ -39,11 +36,10 @@ pub record Entry : Type 0 where
 abbrev pub entryBytes : Entry → List ℕ
 entryBytes e = e .track ∷ e .mask ∷ e .fields
 
--- R2 to R4, a sound entry (any other is document 01's "faulty entry"): a track from 1 to the pattern's tracks, a sound mask, and as many
--- fields as the mask names.
+-- R2 to R4, a sound entry (any other is document 01's "faulty entry"): a track from 1 to the pattern's tracks, and as many fields as the
+-- mask names.
 abbrev pub soundEntry : ℕ → Entry → Bool
-soundEntry tracks e =
-    leb 1 (e .track) && (leb (e .track) tracks && (soundMask (e .mask) && eqb (length (e .fields)) (fieldsNamed (e .mask))))
+soundEntry tracks e = leb 1 (e .track) && (leb (e .track) tracks && eqb (length (e .fields)) (fieldsNamed (e .mask)))
 
 -- R5: a cell after the named fields are stored in it; the other fields are unchanged.
 abbrev pub store : List Bool → List ℕ → Cell → Cell

@@ -8,19 +8,20 @@ use lib.ListN.{length, getD, take, drop}
 use lib.Dec.{eqb}
 use Rattle.vocabulary.specs.Lists.{joined}
 use Rattle.cells.specs.Cells.{Cell, Row, rowOf, nonEmpty, emptyCell}
-use Rattle.packed_rows.specs.Entries.{Entry, soundMask, fieldsNamed, named, entryBytes, store, carryAll, rowFrom, rowsFrom}
+use Rattle.packed_rows.specs.Entries.{Entry, fieldsNamed, named, entryBytes, store, carryAll, rowFrom, rowsFrom}
 use Rattle.packed_rows.specs.Packer.{nonZero, packedEntry}
 use Rattle.packed_rows.specs.Stream.{Front, nothing, rowEnd, entry, fault, reading, whole, readStream, entriesRead}
 
--- The length of an entry with this mask; 0 if the mask is not sound.
+-- The length of an entry with this mask.
 abbrev pub entryLength : ℕ → ℕ
-entryLength mask = cond (soundMask mask) (2 + fieldsNamed mask) 0
+entryLength mask = 2 + fieldsNamed mask
 
--- The lengths for the sound masks, in order.
+-- The lengths for the masks from the given one on, in order.
 abbrev pub lengthsFrom : ℕ → ℕ → List ℕ
 lengthsFrom zero mask = []
 lengthsFrom (suc n) mask = entryLength mask ∷ lengthsFrom n (suc mask)
 
+-- The lengths for the masks without bits 6 and 7.
 abbrev pub entryLengths : List ℕ
 entryLengths = lengthsFrom 64 0
 

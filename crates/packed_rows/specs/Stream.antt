@@ -6,7 +6,7 @@ use mathlib.Core.Bool.{cond, _&&_}
 use lib.ListN.{length, take, drop}
 use lib.Dec.{eqb, leb}
 use Rattle.cells.specs.Cells.{bytesOf}
-use Rattle.packed_rows.specs.Entries.{Entry, soundMask, fieldsNamed, entryBytes, rowsFrom}
+use Rattle.packed_rows.specs.Entries.{Entry, fieldsNamed, entryBytes, rowsFrom}
 
 -- The front of the rest of a stream: no byte, a row end, a sound entry, or a fault; and the bytes after it.
 pub data Front : Type 0 where
@@ -19,7 +19,7 @@ pub data Front : Type 0 where
 abbrev pub frontEntry : ℕ → ℕ → List ℕ → Front
 frontEntry tracks track [] = fault
 frontEntry tracks track (mask ∷ s) =
-    cond (leb track tracks && (soundMask mask && leb (fieldsNamed mask) (length s)))
+    cond (leb track tracks && leb (fieldsNamed mask) (length s))
     (entry (record { track = track; mask = mask; fields = take (fieldsNamed mask) s }) (drop (fieldsNamed mask) s))
     fault
 

@@ -1,6 +1,6 @@
 -- The terms that the theorems of proofs/Theorems.antt use besides those of the reader and the packer. None of them reads a stream, except
--- the last record, which is about the answers of two calls.
-use Prim.Native.Nat.{ℕ, _<_}
+-- the last two records, which are about the answers of calls.
+use Prim.Native.Nat.{ℕ, _%_, _≤_, _<_}
 use mathlib.Core.Path.{_≡_}
 use mathlib.Core.List.{List, [], _∷_, _++_, map, List·Permᴰ}
 use mathlib.Core.Bool.{Bool, true, false, _&&_}
@@ -10,7 +10,9 @@ use Rattle.vocabulary.specs.Lists.{joined}
 use Rattle.cells.specs.Cells.{Row, cellBytes, rowsOf}
 use Rattle.packed_rows.specs.Entries.{Entry, named, count, entryBytes, soundEntry, rowStream, streamOf}
 use Rattle.packed_rows.specs.Packer.{packedEntries, packedStream, packedLength}
-use Rattle.packed_rows.specs.Answers.{packAnswer, packOutput, unpackAnswer, unpackOutput}
+use Rattle.packed_rows.specs.Answers.{checkAnswer, packAnswer, packOutput, unpackAnswer, unpackOutput}
+use Rattle.packed_rows.specs.Answers.{repackStreamAnswer, repackStreamOutput, cellOf}
+use Rattle.packed_rows.specs.Comparing.{streamDifferences}
 use Rattle.packed_rows.specs.declared.Packing.the-variants.{Packed}
 use Rattle.packed_rows.specs.declared.Unpacking.the-variants.{Unpacked}
 
@@ -30,12 +32,27 @@ pub record SoundStream (rows tracks : ℕ) (stream : List ℕ) (entries : List (
   pub sound : allSound tracks entries ≡ true
   pub bytes : stream ≡ streamOf entries
 
--- W6: the stream is, row by row, the packer's entries for that row, each once and unchanged, in some order, and then the row end.
+-- R3: the entry with only bits 0 to 5 of its mask.
+abbrev pub withoutUpperBits : Entry → Entry
+withoutUpperBits e = record { track = e .track; mask = e .mask % 64; fields = e .fields }
+
+-- W6: the stream is, row by row, the packer's entries for that row, each once and unchanged but for bits 6 and 7 of the mask, in some
+-- order, and then the row end.
 pub data Reordered : List Row → List ℕ → Type 0 where
   end : Reordered [] []
   next : {row : Row} {rows : List Row} {stream : List ℕ} (entries : List Entry)
-      → List·Permᴰ entries (packedEntries row) → Reordered rows stream
+      → List·Permᴰ (map withoutUpperBits entries) (packedEntries row) → Reordered rows stream
       → Reordered (row ∷ rows) (rowStream entries ++ stream)
+
+-- R3: two streams are the same but for bits 6 and 7 of masks. Up to the last mask that differs they are row ends and sound entries; the
+-- entry of that mask may be faulty.
+pub data SameButUpperBits (tracks : ℕ) : List ℕ → List ℕ → Type 0 where
+  unchanged : (s : List ℕ) → SameButUpperBits tracks s s
+  withRowEnd : {s s′ : List ℕ} → SameButUpperBits tracks s s′ → SameButUpperBits tracks (0 ∷ s) (0 ∷ s′)
+  withEntry : {s s′ : List ℕ} (e e′ : Entry) → soundEntry tracks e ≡ true → withoutUpperBits e ≡ withoutUpperBits e′
+      → SameButUpperBits tracks s s′ → SameButUpperBits tracks (entryBytes e ++ s) (entryBytes e′ ++ s′)
+  withMask : (track mask mask′ : ℕ) (s : List ℕ) → 1 ≤ track → mask % 64 ≡ mask′ % 64
+      → SameButUpperBits tracks (track ∷ mask ∷ s) (track ∷ mask′ ∷ s)
 
 -- R3: the entry has this track and names this field (0 to 5).
 abbrev pub names : ℕ → ℕ → Entry → Bool
@@ -91,3 +108,13 @@ pub record PackedAndUnpacked (rows tracks : ℕ) (cells out back : List ℕ) : T
   pub written : writtenTo cells rows tracks out ≡ packedStream (rowsOf rows tracks cells)
   pub unpacks : unpackAnswer (writtenTo cells rows tracks out) rows tracks (length back) ≡ Unpacked (cellBytes rows tracks)
   pub unpacked : unpackOutput (writtenTo cells rows tracks out) rows tracks back ≡ cells ++ drop (cellBytes rows tracks) back
+
+-- Every call answers the same for two streams and leaves the same in an output, and the patterns that they hold have no differences.
+pub record SameAnswers (rows tracks : ℕ) (s s′ : List ℕ) : Type 0 where
+  pub checks : checkAnswer s rows tracks ≡ checkAnswer s′ rows tracks
+  pub unpacks : (room : ℕ) → unpackAnswer s rows tracks room ≡ unpackAnswer s′ rows tracks room
+  pub unpacked : (out : List ℕ) → unpackOutput s rows tracks out ≡ unpackOutput s′ rows tracks out
+  pub repacks : (room : ℕ) → repackStreamAnswer s rows tracks room ≡ repackStreamAnswer s′ rows tracks room
+  pub repacked : (out : List ℕ) → repackStreamOutput s rows tracks out ≡ repackStreamOutput s′ rows tracks out
+  pub cells : (row track : ℕ) → cellOf s rows tracks row track ≡ cellOf s′ rows tracks row track
+  pub differences : (pattern : ℕ) → streamDifferences s s′ rows tracks pattern ≡ []

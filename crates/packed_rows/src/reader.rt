@@ -15,7 +15,7 @@ ghost use Rattle.packed_rows.specs.Steps.{entryLengths, entryLength, pie
 ghost use Rattle.packed_rows.specs.Steps.{RowAhead, Carried, Loaded, Skipped, MoreRows, AfterRows};
 ghost use Rattle.packed_rows.specs.ComparingSteps.{Marked};
 
-// The length in bytes of an entry with each sound mask: the track, the mask and the named fields.
+// The length in bytes of an entry by bits 0 to 5 of its mask: the track, the mask and the named fields.
 const LENGTHS: [u8; 64] = [
     2,
     3,
@@ -90,16 +90,12 @@ pub fn wide(x: u8) -> usize
     x as usize
 }
 
-// The length of an entry with this mask; 0 if the mask is not sound.
+// The length of an entry with this mask. Bits 6 and 7 of the mask are ignored.
 fn entry_length(mask: u8, lengths: &[u8]) -> usize
     requires { ⌜ now lengths ≡ entryLengths ⌝ }
     ensures { λ r. ⌜ (r ≡ entryLength mask) × (r < 9) ⌝ }
 {
-    if 63 < mask {
-        0
-    } else {
-        wide(lengths[wide(mask)])
-    }
+    wide(lengths[wide(mask % 64)])
 }
 
 // The length of a row end or an entry that begins with these two bytes.

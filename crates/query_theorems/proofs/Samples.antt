@@ -1,7 +1,7 @@
--- The register samples P1 to P12 (document 01, "Register samples"), as the rows of one table under one statement: what the definitions
--- give, as numbers, is what the register says. P1 to P9 are streams, P10 to P12 small modules, written out byte by byte. Rows with the
--- number 0 are not in the register: notes at the ends of the octaves and semitones, a cell of six different fields, and a row whose
--- packed bytes show the order of tracks.
+-- The register samples P1 to P12 (document 01, "Register samples"; P8 as document 02, K3, changes it), as the rows of one table under one
+-- statement: what the definitions give, as numbers, is what the register says. P1 to P9 are streams, P10 to P12 small modules, written out
+-- byte by byte. Rows with the number 0 are not in the register: notes at the ends of the octaves and semitones, a cell of six different
+-- fields, a row whose packed bytes show the order of tracks, and masks with bits 6 and 7.
 use Prim.Native.Nat.{ℕ, suc}
 use mathlib.Core.Path.{_≡_, refl}
 use mathlib.Core.List.{List, [], _∷_, _++_, map}
@@ -83,6 +83,13 @@ emptyCells = replicate 24 0
 sixFields : List ℕ
 sixFields = 0x01 ∷ 0x3F ∷ 0x47 ∷ 0x02 ∷ 0x03 ∷ 0x04 ∷ 0x05 ∷ 0x06 ∷ 0x00 ∷ []
 
+-- The same with bits 6 and 7 of the mask set; and an entry whose mask has only these two bits.
+sixFieldsUpper : List ℕ
+sixFieldsUpper = 0x01 ∷ 0xFF ∷ 0x47 ∷ 0x02 ∷ 0x03 ∷ 0x04 ∷ 0x05 ∷ 0x06 ∷ 0x00 ∷ []
+
+upperAlone : List ℕ
+upperAlone = 0x01 ∷ 0xC0 ∷ 0x00 ∷ []
+
 -- One row of 4 cells, all non-empty except the second, and its packed stream: tracks 1, 3 and 4, with masks $01, $22 and $3F.
 threeCells : List ℕ
 threeCells =
@@ -138,7 +145,7 @@ unfolding smallModule
 p12 flags frame = smallModule 3 0 1 [] (0 ∷ 0 ∷ 0 ∷ flags ∷ 0 ∷ 0 ∷ 0 ∷ 1 ∷ frame) []
 
 pub samples : List Sample
-unfolding checked repacked p1 p2 p3 p4 p5 p7 p8 p9 g4Cells emptyCells sixFields threeCells threePacked
+unfolding checked repacked p1 p2 p3 p4 p5 p7 p8 p9 g4Cells emptyCells sixFields sixFieldsUpper upperAlone threeCells threePacked
     noteShown accepted moduleChecked valueNumbers frameShown p10 p11 p12
 samples =
     record { number = 1; found = checked 2 4 p1; registered = accepted }
@@ -161,7 +168,10 @@ samples =
     ∷ record { number = 6; found = checked 0 4 (0 ∷ []); registered = 15 ∷ 0 ∷ [] }
     ∷ record { number = 7; found = checked 1 4 p7; registered = 15 ∷ 0 ∷ [] }
     ∷ record { number = 7; found = checked 1 6 p7; registered = accepted }
-    ∷ record { number = 8; found = checked 1 4 p8; registered = 15 ∷ 0 ∷ [] }
+    ∷ record { number = 8; found = checked 1 4 p8; registered = accepted }
+    ∷ record { number = 8; found = cellNumbers (cellOf p8 1 4 0 1); registered = 0 ∷ 0 ∷ 2 ∷ 4 ∷ 7 ∷ 0 ∷ 0 ∷ 0 ∷ 0 ∷ 0 ∷ 0 ∷ [] }
+    ∷ record { number = 8; found = cellsRead 1 4 p8; registered = 0x47 ∷ replicate 23 0 }
+    ∷ record { number = 8; found = repacked 1 4 p8; registered = 0x01 ∷ 0x01 ∷ 0x47 ∷ 0x00 ∷ [] }
     ∷ record { number = 9; found = checked 2 4 p9; registered = 15 ∷ 1 ∷ [] }
     ∷ record { number = 10; found = moduleChecked (p10 (0 ∷ 0 ∷ 0 ∷ 90 ∷ []) (0 ∷ 0 ∷ 0 ∷ 10 ∷ [])); registered = accepted }
     ∷ record { number = 10; found = moduleChecked (p10 (0 ∷ 0 ∷ 0 ∷ 90 ∷ []) (0 ∷ 0 ∷ 0 ∷ 11 ∷ [])); registered = 14 ∷ 42 ∷ [] }
@@ -180,6 +190,10 @@ samples =
     ∷ record { number = 0; found = noteShown 0x8C; registered = 3 ∷ 0 ∷ 0 ∷ 0x8C ∷ [] }
     ∷ record { number = 0; found = noteShown 0x90; registered = 3 ∷ 0 ∷ 0 ∷ 0x90 ∷ [] }
     ∷ record { number = 0; found = cellNumbers (cellOf sixFields 1 4 0 1); registered = 0 ∷ 0 ∷ 2 ∷ 4 ∷ 7 ∷ 0 ∷ 2 ∷ 3 ∷ 4 ∷ 5 ∷ 6 ∷ [] }
+    ∷ record { number = 0; found = checked 1 4 sixFieldsUpper; registered = accepted }
+    ∷ record { number = 0; found = repacked 1 4 sixFieldsUpper; registered = sixFields }
+    ∷ record { number = 0; found = checked 1 4 upperAlone; registered = accepted }
+    ∷ record { number = 0; found = repacked 1 4 upperAlone; registered = 0 ∷ [] }
     ∷ record { number = 0; found = packedStream (rowsOf 1 4 threeCells); registered = threePacked }
     ∷ record { number = 0; found = cellsRead 1 4 threePacked; registered = threeCells }
     ∷ []

@@ -388,6 +388,9 @@ loopAndStreamFaults =
     -- The fault may be anywhere in the stream; and a filler is not a row end.
     ∷ checkGives (content [] [] (pattern 2 (0 ∷ 5 ∷ 1 ∷ 0 ∷ []) ∷ []) [] []) 15 50
     ∷ checkGives (content [] [] (pattern 2 (0 ∷ []) ∷ []) [] []) 15 50
+    -- Bits 6 and 7 of a mask are not a fault; and they name no field, so that an entry with bit 0 and without a field is cut.
+    ∷ checkGives (content [] [] (pattern 1 (1 ∷ 0x41 ∷ 0x47 ∷ 2 ∷ 0xC0 ∷ 0 ∷ []) ∷ []) [] []) 0 0
+    ∷ checkGives (content [] [] (pattern 1 (2 ∷ 0xC0 ∷ 1 ∷ 0x41 ∷ []) ∷ []) [] []) 15 50
     ∷ []
 
 -- The number and place of a query's answer; and for a cell that is refused, also that each of its values is 0.
@@ -525,14 +528,17 @@ streams =
     ∷ gives (checked 1 2 broken) 16 0
     ∷ gives (checked 1 5 broken) 16 0
     ∷ gives (checked 1 256 broken) 16 0
-    -- 15 at the faulty entry: a track that does not exist, bit 6 set in the mask, cut within its fields, cut before its mask.
+    -- 15 at the faulty entry: a track that does not exist, also with bits 6 and 7 set in the mask; cut within its fields, also with bit 6
+    -- set; cut before its mask.
     ∷ gives (checked 2 4 (0 ∷ 5 ∷ 0 ∷ 0 ∷ [])) 15 1
-    ∷ gives (checked 1 4 (1 ∷ 1 ∷ 0x47 ∷ 2 ∷ 0x41 ∷ 0x47 ∷ 0 ∷ [])) 15 3
+    ∷ gives (checked 2 4 (0 ∷ 5 ∷ 0xC0 ∷ 0 ∷ [])) 15 1
     ∷ gives (checked 1 4 (1 ∷ 0 ∷ 2 ∷ 3 ∷ 0x47 ∷ [])) 15 2
+    ∷ gives (checked 1 4 (1 ∷ 1 ∷ 0x47 ∷ 2 ∷ 0x43 ∷ 0x47 ∷ [])) 15 3
     ∷ gives (checked 2 4 (0 ∷ 1 ∷ [])) 15 1
     -- 15 at the first byte left over, and at the stream's length if row ends are missing.
     ∷ gives (checked 1 4 (1 ∷ 0 ∷ 0 ∷ 0 ∷ 5 ∷ [])) 15 3
     ∷ gives (checked 1 4 (1 ∷ 0 ∷ [])) 15 2
+    ∷ gives (checked 1 4 (1 ∷ 0xC0 ∷ [])) 15 2
     -- Unpacking: 16 before 17 and before 15; 17 before 15; 15.
     ∷ gives (unpacked broken 65536 4 0) 16 0
     ∷ gives (unpacked broken 1 2 0) 16 0

@@ -23,7 +23,7 @@ use Rattle.packed_rows.specs.Answers.{checkAnswer}
 use Rattle.packed_rows.proofs.Sizes.{sizes}
 use Rattle.packed_rows.proofs.Shapes.{Each, none as no-cell, one as one-cell, Blocks, each-set, each-getD, each-replicate, row-from-shaped}
 use Rattle.packed_rows.proofs.PackedRow.{Packs, done, written, passed, packs}
-use Rattle.packed_rows.proofs.Soundness.{packed-sound}
+use Rattle.packed_rows.proofs.Soundness.{packed-mask}
 use Rattle.packed_rows.proofs.Accepted.{accepted-stream}
 use Rattle.acceptance.proofs.BlockStreams.{accepted-sizes, holds}
 
@@ -73,26 +73,25 @@ non-zeros-bytes (f ∷ fs) h = go (eqb f 0) (non-zeros-bytes fs (bytes-rest f fs
     go true ih = ih
     go false ih = bytes-cons f (nonZeros fs) (bytes-first f fs h) ih
 
-packed-entry-bytes : (track : ℕ) (cell : Cell) → 1 ≤ track → track < 256 → length cell ≡ 6 → Bytes cell → Bytes (entryBytes (packedEntry track cell))
-packed-entry-bytes track cell low high l c =
+packed-entry-bytes : (track : ℕ) (cell : Cell) → track < 256 → length cell ≡ 6 → Bytes cell → Bytes (entryBytes (packedEntry track cell))
+packed-entry-bytes track cell high l c =
     let e = packedEntry track cell in
-    let small = packed-sound track track cell low (omega arith) l .small in
-    bytes-cons track (e .mask ∷ e .fields) high (bytes-cons (e .mask) (e .fields) (omega arith) (non-zeros-bytes cell c))
+    bytes-cons track (e .mask ∷ e .fields) high (bytes-cons (e .mask) (e .fields) (omega (arith, packed-mask track cell l)) (non-zeros-bytes cell c))
 
 entries-bytes : {track n : ℕ} {row : Row} {es : List Entry} → Packs track row es → Blocks n 6 row → Each Bytes n row
-    → 1 ≤ track → track + n ≤ 256
+    → track + n ≤ 256
     → EntriesBytes es
-entries-bytes done no-cell no-cell low fits = none
-entries-bytes (written {track = track} {cell = cell} q p) (one-cell l b) (one-cell c cs) low fits =
-    also (packed-entry-bytes track cell low (omega arith) l c) (entries-bytes p b cs (omega arith) (omega arith))
-entries-bytes (passed q p) (one-cell l b) (one-cell c cs) low fits = entries-bytes p b cs (omega arith) (omega arith)
+entries-bytes done no-cell no-cell fits = none
+entries-bytes (written {track = track} {cell = cell} q p) (one-cell l b) (one-cell c cs) fits =
+    also (packed-entry-bytes track cell (omega arith) l c) (entries-bytes p b cs (omega arith))
+entries-bytes (passed q p) (one-cell l b) (one-cell c cs) fits = entries-bytes p b cs (omega arith)
 
 pub repacked-bytes : (tracks : ℕ) → tracks ≤ 254 → (entries : List (List Entry)) → Every EntriesBytes entries
     → Every EntriesBytes (map packedEntries (rowsFrom tracks entries))
 repacked-bytes tracks few entries h =
     every-map packedEntries (rowsFrom tracks entries) .1
     (every-map (rowFrom tracks) entries .1
-    (every-of (λ es e. entries-bytes (packs 1 (rowFrom tracks es)) (row-from-shaped tracks es) (row-from-bytes tracks es e) (omega arith) (omega arith)) h))
+    (every-of (λ es e. entries-bytes (packs 1 (rowFrom tracks es)) (row-from-shaped tracks es) (row-from-bytes tracks es e) (omega arith)) h))
 
 -- The packer's stream of an accepted stream of bytes consists of bytes.
 pub packed-bytes : (rows tracks : ℕ) (stream : List ℕ) → checkAnswer stream rows tracks ≡ Accepted → Bytes stream
