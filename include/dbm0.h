@@ -58,7 +58,7 @@ extern "C" {
 #endif
 
 /* The version of this interface: major x 10000 + minor x 100 + patch. */
-#define DBM0_VERSION 10500
+#define DBM0_VERSION 10600
 
 /* The most bytes that a module may have. */
 #define DBM0_MODULE_MOST_BYTES 16777216
@@ -118,7 +118,8 @@ extern "C" {
 /* A loop lies outside its sample. The place is the instrument's block. */
 #define DBM0_MODULE_LOOP 14
 
-/* A packed stream is broken. The place is the pattern's block. */
+/* A packed stream is broken (DBM0_PATTERN_STREAM_BROKEN says how). The place
+ * is the pattern's block. */
 #define DBM0_MODULE_STREAM_BROKEN 15
 
 /* An output is shorter than needed. The place is the needed length. */

@@ -10,10 +10,10 @@
  *
  * A packed stream is read from the front. A byte 0 ends a row. Any other byte
  * begins an entry: the track, from 1 to the pattern's tracks; a mask whose
- * bits 0 to 5 name fields of the cell in the order above (bits 6 and 7 are 0);
- * and the fields that it names. Fields that are not named do not change; every
- * cell starts as zeros. The stream has exactly the pattern's number of
- * row ends, and the last one is its last byte.
+ * bits 0 to 5 name fields of the cell in the order above (bits 6 and 7 are
+ * ignored); and the fields that it names. Fields that are not named do not
+ * change; every cell starts as zeros. The stream has exactly the pattern's
+ * number of row ends, and the last one is its last byte.
  *
  * What holds for all three calls:
  *
@@ -44,17 +44,16 @@ extern "C" {
 #endif
 
 /* The version of this interface: major x 10000 + minor x 100 + patch. */
-#define DBM0_PATTERN_VERSION 10001
+#define DBM0_PATTERN_VERSION 10100
 
 /* No refusal. */
 #define DBM0_PATTERN_OK 0
 
 /*
  * The packed stream is broken. The place is that of the first fault found
- * reading forward: the first byte of a faulty entry (its track is too high,
- * its mask has bit 6 or 7, or the stream ends inside it), the first byte that
- * is left over after the last row end, or the stream's length if row ends are
- * missing.
+ * reading forward: the first byte of a faulty entry (its track is too high, or
+ * the stream ends inside it), the first byte that is left over after the last
+ * row end, or the stream's length if row ends are missing.
  */
 #define DBM0_PATTERN_STREAM_BROKEN 15
 
@@ -117,9 +116,10 @@ dbm0_pattern_answer dbm0_unpack_pattern(
 
 /*
  * Packs cells: rows in order, in each row one entry for each cell that is not
- * all zeros, tracks ascending, naming exactly the fields that are not 0. No
- * stream for the same cells is shorter. Its length is the number of rows, plus
- * two for each such cell, plus one for each field that is not 0.
+ * all zeros, tracks ascending, naming exactly the fields that are not 0. Bits
+ * 6 and 7 of every mask are 0. No stream for the same cells is shorter. Its
+ * length is the number of rows, plus two for each such cell, plus one for each
+ * field that is not 0.
  *
  * Refusals, the first that applies: 16, 17 (the place is that length).
  * Time: linear in cells_length. No allocation.

@@ -138,11 +138,11 @@ static void refused_modules(void)
     CHANGED(235, 2, DBM0_MODULE_REFERENCE, 234);
     CHANGED(244, 1, DBM0_MODULE_FIELD_RANGE, 244);
     CHANGED(529, 4, DBM0_MODULE_LOOP, 484);
-    CHANGED(558, 0x47, DBM0_MODULE_STREAM_BROKEN, 551);
+    CHANGED(557, 7, DBM0_MODULE_STREAM_BROKEN, 551);
     /* Two faults: the first in the order of the checks is reported. */
-    module[558] = 0x47;
+    module[557] = 7;
     CHANGED(529, 4, DBM0_MODULE_LOOP, 484);
-    module[558] = 0x03;
+    module[557] = 2;
     memcpy(module + 534, "NAME", 4);
     refused(DBM0_MODULE_CHUNK_REPEATED, 534, 700, __LINE__);
     memcpy(module + 534, "ABCD", 4);
@@ -152,6 +152,10 @@ static void refused_modules(void)
     refused(DBM0_MODULE_CHUNK_LENGTH, 8, 700, __LINE__);
     memcpy(module + 8, "VENV", 4);
     written(FULL_3_RECORDS, 502, 502, __LINE__);
+    /* Bits 6 and 7 of a mask are ignored. */
+    module[558] = 0xC3;
+    written(FULL_3_RECORDS, 502, 502, __LINE__);
+    module[558] = 0x03;
     length = 608;
     refused(DBM0_MODULE_CHUNK_CUT, 571, 700, __LINE__);
 }

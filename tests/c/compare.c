@@ -229,6 +229,29 @@ static void patterns(void)
     FLIP(567, 568, '\xFF', SAME);
 }
 
+/* Bits 6 and 7 of a mask are no difference. */
+static void upper_bits(void)
+{
+    static char one[sizeof(BASE) - 1], other[sizeof(BASE) - 1];
+
+    CHANGE(551, "\x43", SAME);
+    CHANGE(551, "\x83", SAME);
+    CHANGE(551, "\xC3", SAME);
+    CHANGE(556, "\x60", SAME);
+    CHANGE(556, "\xA0", SAME);
+    /* A field and a mask that differ beside them. */
+    CHANGE(551, "\xC3\x48", FIELD("\0", "\0", "\x01", "\x01"));
+    CHANGE(556, "\xE0\xFF", FIELD("\0", "\x01", "\x04", "\x06"));
+    CHANGE(551, "\xC5", FIELD("\0", "\0", "\x01", "\x02") FIELD("\0", "\0", "\x01", "\x03"));
+    /* Both modules have them, in different masks. */
+    memcpy(one, BASE, sizeof one);
+    memcpy(other, BASE, sizeof other);
+    one[551] = '\x43', other[551] = '\x83', other[556] = '\xE0';
+    differ(one, sizeof one, other, sizeof other, SAME, sizeof(SAME) - 1, __LINE__);
+    other[553] = 2;
+    differ(one, sizeof one, other, sizeof other, FIELD("\0", "\0", "\x01", "\x02"), 10, __LINE__);
+}
+
 static void samples(void)
 {
     FLIP(584, 588, 1, WHOLE("\x07", "\x01"));
@@ -751,6 +774,7 @@ int main(void)
     instruments();
     envelopes();
     patterns();
+    upper_bits();
     samples();
     header();
     many_kinds();

@@ -492,8 +492,13 @@ static void broken_stream(void)
     CHECK(PATTERN("\0\x04", "\0\0\0\x0A", "\0\x01" "\0\0\0\x04" "\x05\x01\x47\0"), 15, 50);
     ACCEPTS(PATTERN("\0\x06", "\0\0\0\x0A", "\0\x01" "\0\0\0\x04" "\x05\x01\x47\0"));
     HOLDS(alone.number == 15 && alone.place == 0);
-    /* P8: a mask with bit 6. P9: 2 rows, one row end. */
-    CHECK(PATTERN("\0\x04", "\0\0\0\x0A", "\0\x01" "\0\0\0\x04" "\x01\x41\x47\0"), 15, 50);
+    /* P8: bit 6 of a mask is ignored, and so is bit 7. P9: 2 rows, one row end. */
+    ACCEPTS(PATTERN("\0\x04", "\0\0\0\x0A", "\0\x01" "\0\0\0\x04" "\x01\x41\x47\0"));
+    ACCEPTS(PATTERN("\0\x04", "\0\0\0\x0A", "\0\x01" "\0\0\0\x04" "\x01\x81\x47\0"));
+    ACCEPTS(PATTERN("\0\x04", "\0\0\0\x0A", "\0\x01" "\0\0\0\x03" "\x01\xC0\0" "\0"));
+    CHECK(PATTERN("\0\x04", "\0\0\0\x08", "\0\x01" "\0\0\0\x02" "\x01\xC0"), 15, 50);
+    CHECK(PATTERN("\0\x04", "\0\0\0\x08", "\0\x01" "\0\0\0\x02" "\x01\x41"), 15, 50);
+    CHECK(PATTERN("\0\x04", "\0\0\0\x0A", "\0\x01" "\0\0\0\x03" "\x05\xC0\0" "\0"), 15, 50);
     CHECK(PATTERN("\0\x04", "\0\0\0\x08", "\0\x02" "\0\0\0\x01" "\0" "\0"), 15, 50);
     /* The filler is not a row end, and the packed length does not include it. */
     CHECK(PATTERN("\0\x04", "\0\0\0\x08", "\0\x01" "\0\0\0\x02" "\0" "\0"), 15, 50);
@@ -504,6 +509,27 @@ static void broken_stream(void)
                    "\0\x01" "\0\0\0\x02" "\0" "\0" "\0\x01" "\0\0\0\x01" "\x02" "\x02"), 15, 58);
     CHECK(PATTERNS("\0\x03", "\0\x04", "\0\0\0\x18", "\0\x01" "\0\0\0\x01" "\0" "\x01"
                    "\0\x02" "\0\0\0\x02" "\0" "\0" "\0\x01" "\0\0\0\x01" "\x02" "\x02"), 15, 66);
+}
+
+/* Each of the 256 masks in the only entry of a row. Its fields, and the row end after them, are zeros. */
+static void every_mask(void)
+{
+    unsigned mask, fields, bit;
+
+    for (mask = 0; mask < 256; mask++) {
+        char given[] = PATTERN("\0\x04", "\0\0\0\x10", "\0\x01" "\0\0\0\x09" "\x03\0" "\0\0\0\0\0\0\0" "\0");
+
+        for (bit = fields = 0; bit < 6; bit++)
+            fields += mask >> bit & 1;
+        given[57] = (char)mask;
+        /* With all six fields the stream is accepted, otherwise bytes are left over. */
+        check(__LINE__, given, sizeof given - 1, fields == 6 ? 0 : 15, fields == 6 ? 0 : 50);
+        /* One row end for each byte that is not a field. */
+        given[51] = (char)(7 - fields);
+        check(__LINE__, given, sizeof given - 1, 0, 0);
+        given[51] = (char)(8 - fields);
+        check(__LINE__, given, sizeof given - 1, 15, 50);
+    }
 }
 
 /*
@@ -578,6 +604,7 @@ int main(void)
     wrong_field();
     loop_outside();
     broken_stream();
+    every_mask();
     macros();
     not_read();
     return counted();

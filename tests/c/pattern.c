@@ -128,12 +128,14 @@ static void register_samples(void)
     static const uint8_t empty[48];
     uint8_t g4[48] = {0};
     uint8_t fifth[36] = {0};
+    uint8_t first[24] = {0};
     uint8_t full[24];
     uint8_t at;
 
     g4[6] = 0x47;
     g4[7] = 0x01;
     fifth[24] = 0x47;
+    first[0] = 0x47;
     for (at = 0; at < 24; at++)
         full[at] = (uint8_t)(at + 1);
 
@@ -154,7 +156,8 @@ static void register_samples(void)
     unpacks(__LINE__, BYTES(0x05, 0x01, 0x47, 0x00), 1, 6, fifth, 36);
     packs(__LINE__, fifth, 36, 1, 6, BYTES(0x05, 0x01, 0x47, 0x00));
     /* P8, P9 */
-    broken(__LINE__, BYTES(0x01, 0x41, 0x47, 0x00), 1, 4, 0);
+    unpacks(__LINE__, BYTES(0x01, 0x41, 0x47, 0x00), 1, 4, first, 24);
+    packs(__LINE__, first, 24, 1, 4, BYTES(0x01, 0x01, 0x47, 0x00));
     broken(__LINE__, BYTES(0x00), 2, 4, 1);
     /* No field zero: 33 bytes. */
     packs(__LINE__, full, 24, 1, 4,
@@ -195,10 +198,6 @@ static void broken_streams(void)
     /* A track that is too high. */
     broken(__LINE__, BYTES(5, 0, 0), 1, 4, 0);
     broken(__LINE__, BYTES(0, 1, 1, 0x47, 255, 0, 0), 2, 4, 4);
-    /* Bits 6 and 7 of the mask. */
-    broken(__LINE__, BYTES(1, 0x40, 0), 1, 4, 0);
-    broken(__LINE__, BYTES(1, 0x80, 0), 1, 4, 0);
-    broken(__LINE__, BYTES(0, 3, 0x3F, 1, 2, 3, 4, 5, 6, 2, 0xC1, 9, 0), 2, 4, 9);
     /* Cut after the track, and inside the fields. */
     broken(__LINE__, BYTES(0, 4), 2, 4, 1);
     broken(__LINE__, BYTES(1, 0x01), 1, 4, 0);
@@ -212,6 +211,66 @@ static void broken_streams(void)
     broken(__LINE__, BYTES(0, 0), 1, 4, 1);
     broken(__LINE__, BYTES(2, 1, 0x47, 0, 0, 0xFF, 0), 2, 4, 5);
     broken(__LINE__, BYTES(7), 0, 4, 0);
+}
+
+/* Bits 6 and 7 of the mask are ignored, and the packer writes them as 0. */
+static void upper_bits(void)
+{
+    static const uint8_t empty[48];
+    static const uint8_t cells[48] = {[30] = 9, [36] = 1, 2, 3, 4, 5, 6};
+
+    unpacks(__LINE__, BYTES(1, 0x40, 0), 1, 4, empty, 24);
+    unpacks(__LINE__, BYTES(1, 0x80, 0), 1, 4, empty, 24);
+    unpacks(__LINE__, BYTES(1, 0xC0, 0), 1, 4, empty, 24);
+    unpacks(__LINE__, BYTES(1, 0xC0, 0, 0), 2, 4, empty, 48);
+    packs(__LINE__, empty, 24, 1, 4, BYTES(0));
+    unpacks(__LINE__, BYTES(0, 3, 0x3F, 1, 2, 3, 4, 5, 6, 2, 0xC1, 9, 0), 2, 4, cells, 48);
+    unpacks(__LINE__, BYTES(0, 3, 0xFF, 1, 2, 3, 4, 5, 6, 2, 0x41, 9, 0), 2, 4, cells, 48);
+    unpacks(__LINE__, BYTES(1, 0x40, 0, 2, 0x81, 9, 3, 0x7F, 1, 2, 3, 4, 5, 6, 4, 0xC0, 0), 2, 4,
+            cells, 48);
+    packs(__LINE__, cells, 48, 2, 4, BYTES(0, 2, 0x01, 9, 3, 0x3F, 1, 2, 3, 4, 5, 6, 0));
+    /* Whole entries without fields and with all; cut entries; a track that is too high; a byte left over. */
+    broken(__LINE__, BYTES(0x01, 0xC0), 1, 4, 2);
+    broken(__LINE__, BYTES(0x01, 0xFF, 1, 2, 3, 4, 5, 6), 1, 4, 8);
+    broken(__LINE__, BYTES(0x01, 0x41), 1, 4, 0);
+    broken(__LINE__, BYTES(0x01, 0xFF, 1, 2, 3, 4, 5), 1, 4, 0);
+    broken(__LINE__, BYTES(0x05, 0xC0, 0x00), 1, 4, 0);
+    broken(__LINE__, BYTES(0x01, 0xC0, 0x00, 0x00), 1, 4, 3);
+}
+
+/*
+ * Each of the 256 masks in an entry of track 3, after a row of one entry. The
+ * entry has as many fields as bits 0 to 5 name. It is whole, or it is cut at
+ * each byte. The packer writes the low six bits.
+ */
+static void every_mask(void)
+{
+    unsigned mask, bit;
+
+    for (mask = 0; mask < 256; mask++) {
+        uint8_t stream[16] = {2, 0xC2, 7, 0, 3, (uint8_t)mask};
+        uint8_t packed[16] = {2, 0x02, 7, 0, 3, (uint8_t)(mask & 63)};
+        uint8_t cells[48] = {[7] = 7};
+        size_t end = 6, cut;
+
+        for (bit = 0; bit < 6; bit++)
+            if (mask >> bit & 1) {
+                uint8_t field = (uint8_t)(0xF1 + bit);
+
+                stream[end] = packed[end] = cells[36 + bit] = field;
+                end++;
+            }
+        unpacks(__LINE__, stream, end + 1, 2, 4, cells, 48);
+        if ((mask & 63) == 0)
+            packs(__LINE__, cells, 48, 2, 4, BYTES(2, 0x02, 7, 0, 0));
+        else
+            packs(__LINE__, cells, 48, 2, 4, packed, end + 1);
+        for (cut = 5; cut < end; cut++)
+            broken(__LINE__, stream, cut, 2, 4, 4);
+        broken(__LINE__, stream, end, 2, 4, end);
+        stream[4] = 5;
+        broken(__LINE__, stream, end + 1, 2, 4, 4);
+    }
 }
 
 static void out_of_range(void)
@@ -348,6 +407,8 @@ int main(void)
     carrying_out();
     last_track();
     broken_streams();
+    upper_bits();
+    every_mask();
     out_of_range();
     null_with_length_0();
     largest();

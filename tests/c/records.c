@@ -230,6 +230,7 @@ static void patterns(void)
 {
     dbm0_rows_answer rows = dbm0_rows(module, length, 0);
     dbm0_cell_answer cell;
+    unsigned upper;
 
     HOLDS(FOUND(rows) && rows.rows == 2);
     rows = dbm0_rows(module, length, 1);
@@ -252,6 +253,17 @@ static void patterns(void)
     HOLDS(FOUND(cell) && cell.kind == DBM0_NOTE_UNKNOWN && cell.unknown == 0x4C);
     HOLDS(cell.octave == 0 && cell.semitone == 0);
     module[317] = 0x47;
+    /* The mask is at 316. Its bits 6 and 7 are ignored. */
+    HOLDS(module[316] == 0x01);
+    for (upper = 1; upper < 4; upper++) {
+        module[316] = (uint8_t)(upper << 6 | 0x01);
+        cell = dbm0_cell(module, length, 0, 1, 2);
+        HOLDS(FOUND(cell) && cell.kind == DBM0_NOTE_PITCH && cell.octave == 4 && cell.semitone == 7);
+        HOLDS(zeros(&cell.instrument, 5));
+        cell = dbm0_cell(module, length, 0, 1, 3);
+        HOLDS(FOUND(cell) && cell.kind == DBM0_NOTE_NONE && zeros(&cell.octave, 8));
+    }
+    module[316] = 0x01;
     /* No such row, track or pattern. */
     HOLDS(dbm0_cell(module, length, 0, 2, 1).number == 18);
     HOLDS(dbm0_cell(module, length, 0, 0, 0).number == 18);

@@ -63,6 +63,18 @@ static void streams(void)
             ONE("\0\0\0\x0C" "\0\x01" "\0\0\0\x05" "\x01\x03\x07\x06\0" "\0"));
 }
 
+/* Bits 6 and 7 of masks are written as 0: in the first, the second and the last entry of a row, and in two rows. */
+static void upper_bits(void)
+{
+    BECOMES(ONE("\0\0\0\x0A" "\0\x01" "\0\0\0\x04" "\x01\x41\x47\0"),
+            ONE("\0\0\0\x0A" "\0\x01" "\0\0\0\x04" "\x01\x01\x47\0"));
+    BECOMES(ONE("\0\0\0\x0A" "\0\x01" "\0\0\0\x03" "\x01\xC0\0" "\x99"), ONE(EMPTY_ROW));
+    BECOMES(ONE("\0\0\0\x18" "\0\x02" "\0\0\0\x12" "\x04\xC1\x47\x02\x42\x09\x01\x80\0"
+                "\x03\x7F\x11\x12\x13\x14\x15\x16\0"),
+            ONE("\0\0\0\x16" "\0\x02" "\0\0\0\x10" "\x02\x02\x09\x04\x01\x47\0"
+                "\x03\x3F\x11\x12\x13\x14\x15\x16\0"));
+}
+
 /* No patterns: 58 bytes. */
 #define SMALLEST \
     "DBM0" "\x03\0\0\0" "INFO" "\0\0\0\x0A" "\0\0\0\0\0\0\0\0\0\x04" \
@@ -193,11 +205,11 @@ static void refused_modules(void)
     CHANGED(223, 4, DBM0_MODULE_REFERENCE, 222);
     CHANGED(278, 65, DBM0_MODULE_FIELD_RANGE, 277);
     CHANGED(290, 4, DBM0_MODULE_LOOP, 245);
-    CHANGED(147, 0x47, DBM0_MODULE_STREAM_BROKEN, 140);
+    CHANGED(146, 5, DBM0_MODULE_STREAM_BROKEN, 140);
     /* Two faults: the first in the order of the checks is reported. */
-    module[147] = 0x47;
+    module[146] = 5;
     CHANGED(290, 4, DBM0_MODULE_LOOP, 245);
-    module[147] = 0x07;
+    module[146] = 2;
     memcpy(module + 295, "INFO", 4);
     refused(DBM0_MODULE_CHUNK_REPEATED, 295, 400, __LINE__);
     memcpy(module + 295, "ZZZZ", 4);
@@ -214,6 +226,7 @@ int main(void)
     if (!ready())
         return 1;
     streams();
+    upper_bits();
     modules();
     as_long_as_before();
     shown();

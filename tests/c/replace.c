@@ -159,6 +159,21 @@ static void samples(void)
     BOTH(3, "\xFE\xDC", INSTRUMENTS, SAMPLES, 0);
 }
 
+/* One pattern with these nine bytes, whose masks have bits 6 and 7, and a sample: PATT is before SMPL, or after it. */
+#define MASKS "PATT" "\0\0\0\x10" "\0\x02" "\0\0\0\x09" "\x04\xC1\x47\x01\x80\0\x02\x40\0" "\x77"
+#define WITH_MASKS(before, after) \
+    "DBM0" "\x03\0\0\0" "INFO" "\0\0\0\x0A" "\0\0" "\0\x01" "\0\0" "\0\x01" "\0\x04" \
+    "SONG" "\0\0\0\0" "INST" "\0\0\0\0" before after
+
+/* The masks stay as they are. */
+static void upper_bits(void)
+{
+    BECOMES(WITH_MASKS(MASKS, "SMPL" "\0\0\0\x0C" BITS_8), 1, "AB",
+            WITH_MASKS(MASKS, "SMPL" "\0\0\0\x0A" "\0\0\0\x02" "\0\0\0\x01" "AB"), 0);
+    BECOMES(WITH_MASKS("SMPL" "\0\0\0\x0C" BITS_8, MASKS), 1, "ABCDEF",
+            WITH_MASKS("SMPL" "\0\0\0\x0E" "\0\0\0\x02" "\0\0\0\x03" "ABCDEF", MASKS), 0);
+}
+
 /* One sample and one instrument with this loop and these flags; SMPL is the last chunk. */
 #define ONE(loop, flags, smpl) \
     "DBM0" "\x02\x99\0\0" "INFO" "\0\0\0\x0A" "\0\x01" "\0\x01" "\0\0" "\0\0" "\0\x04" \
@@ -251,7 +266,7 @@ static void refused_modules(void)
             CHANGED(73, 4, DBM0_MODULE_REFERENCE, 72);
             CHANGED(75, 65, DBM0_MODULE_FIELD_RANGE, 74);
             CHANGED(83, 1, DBM0_MODULE_LOOP, 42);
-            CHANGED(307, 0x41, DBM0_MODULE_STREAM_BROKEN, 300);
+            CHANGED(306, 5, DBM0_MODULE_STREAM_BROKEN, 300);
             memcpy(module + 360, "NAME", 4);
             refused(DBM0_MODULE_CHUNK_LENGTH, 360, 500, __LINE__);
             memcpy(module + 360, "SMPL", 4);
@@ -545,6 +560,7 @@ int main(void)
     if (!ready() || !make_frames_memory())
         return 1;
     samples();
+    upper_bits();
     loops();
     refused_arguments();
     refused_modules();

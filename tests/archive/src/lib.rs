@@ -6,6 +6,7 @@ pub mod all_records;
 pub mod compare;
 pub mod comparing;
 pub mod large;
+pub mod masks;
 pub mod modules;
 pub mod queries;
 pub mod records;

@@ -9,6 +9,7 @@ use archive::comparing::{
     agrees, byte_values, changed_pair, compared, enough, entries, library, list, pair_agrees,
     CompareAnswer, FIRST, SECOND,
 };
+use archive::masks::{places_in_module, NO_UPPER_BITS, UPPER_BITS};
 use archive::modules::{self, at_every_alignment, file};
 use archive::replacing::{self, module_with_many_loops};
 use archive::seeds::for_seeds;
@@ -33,7 +34,7 @@ const LIST: &[u8; 80] = b"\
 
 archive::tests_on_modules! {
     agrees: agrees,
-    cut: [&FIRST[..], SECOND],
+    cut: [&FIRST[..], SECOND, UPPER_BITS],
     valid modules: 3_000,
     damaged modules: 6_000,
 }
@@ -119,6 +120,39 @@ fn the_carousel() {
     let refused = CompareAnswer::refused;
     for (first, second) in [(&carousel, &old), (&old, &carousel)] {
         assert_eq!(interface::compare(first, second, &mut []), refused(17, 180));
+    }
+}
+
+/// Bits 6 and 7 of masks are no difference, and real differences of the same entries are listed.
+#[test]
+fn upper_bits_of_masks() {
+    differ(UPPER_BITS, NO_UPPER_BITS, &[]);
+    let mut repacked = [0; 103];
+    let length = interface::repack(UPPER_BITS, &mut repacked).length as usize;
+    differ(UPPER_BITS, &repacked[..length], &[]);
+    let with = |module: &[u8], place: usize, byte: u8| {
+        let mut module = module.to_vec();
+        module[place] = byte;
+        module
+    };
+    for other in [&UPPER_BITS[..], NO_UPPER_BITS] {
+        differ(UPPER_BITS, &with(other, 72, 0x96), &[[8, 0, 1, 3, 6]]);
+        let track = with(other, 56, 1);
+        differ(UPPER_BITS, &track, &[[8, 0, 0, 1, 1], [8, 0, 0, 4, 1]]);
+        let mask = with(other, 57, other[57] ^ 3);
+        differ(UPPER_BITS, &mask, &[[8, 0, 0, 4, 1], [8, 0, 0, 4, 2]]);
+    }
+    // Each of the masks changed to every value.
+    for place in places_in_module(UPPER_BITS) {
+        for mask in modules::all_values(0) {
+            let changed = with(UPPER_BITS, place, mask);
+            for other in [&UPPER_BITS[..], NO_UPPER_BITS] {
+                pair_agrees(&changed, other, &mut Random::new(1)).unwrap();
+            }
+            if mask & 63 == NO_UPPER_BITS[place] {
+                differ(&changed, NO_UPPER_BITS, &[]);
+            }
+        }
     }
 }
 

@@ -1,19 +1,21 @@
 //! Tests of the comparison of two modules: it finds no difference between the reference and itself, and it detects each of these wrong
 //! libraries.
 
-use std::collections::BTreeSet;
+use std::collections::{BTreeMap, BTreeSet};
 use std::ops::Range;
 use std::sync::OnceLock;
 
 use archive::compare::GuardedOutput;
 use archive::comparing;
 use archive::comparing::{compared, list, reference, some_pairs, CompareAnswer};
+use archive::masks;
 use archive::writing::{answering, WritingAnswer};
 use reference::blocks::{Envelope, Sample, POINTS};
 use reference::compare::{
     differences, Difference, ENTRY_BYTES, INFO, INSTRUMENT, NAME, PANNING_ENVELOPE, PATTERN,
     SAMPLE, SONG, VOLUME_ENVELOPE,
 };
+use reference::generate::fields_named;
 use reference::module::{check, read, Module};
 use reference::pairs::Pair;
 use reference::pattern::fields;
@@ -1190,6 +1192,50 @@ fn patterns_of_other_shapes() {
             entry[0] != PATTERN || is_field(entry) || cells(first) != cells(second)
         });
     });
+}
+
+/// Each cell also has bits 6 and 7 of its last mask, and a difference of them is listed as one of its last field. Modules that have them are
+/// refused.
+#[test]
+fn upper_bits_of_masks() {
+    notices_found(|first, second, entries| {
+        for number in 0..first.patterns.len().min(second.patterns.len()) {
+            if shapes(first, second, number).is_none() {
+                let [one, other] = [first, second].map(|module| {
+                    let pattern = &module.patterns[number];
+                    last_upper_bits(pattern.stream)
+                });
+                let cells: BTreeSet<_> = one.keys().chain(other.keys()).collect();
+                for cell in cells {
+                    if one.get(cell).unwrap_or(&0) != other.get(cell).unwrap_or(&0) {
+                        entries.push([PATTERN, number as u16, cell.0, cell.1, 6]);
+                    }
+                }
+            }
+        }
+        entries.sort_unstable();
+        entries.dedup();
+    });
+    notices(&|first, second, output| {
+        let refusals = [first, second].map(masks::check_module::<0xC0, 63>);
+        match refusals.into_iter().find(|refusal| refusal.number != 0) {
+            Some(refusal) => CompareAnswer::refused(refusal.number, refusal.place as usize),
+            None => reference(first, second, output),
+        }
+    });
+}
+
+/// Bits 6 and 7 of the last mask of each row and track that has one.
+fn last_upper_bits(stream: &[u8]) -> BTreeMap<(u16, u16), u8> {
+    let mut bits = BTreeMap::new();
+    let (mut row, mut end) = (0, 0);
+    for place in masks::places(stream) {
+        // The row ends between the last entry and this one.
+        row += (place - 1 - end) as u16;
+        bits.insert((row, stream[place - 1].into()), stream[place] & 0xC0);
+        end = place + 1 + fields_named(stream[place]);
+    }
+    bits
 }
 
 /// The first entry of a track in a row counts and not the last one; entries add up; fields that are not named become 0.

@@ -1,6 +1,7 @@
 //! Tests of the comparison: it finds no difference between the reference and itself, and it detects each of these wrong libraries.
 
 use archive::compare::{self, GuardedOutput, Library, REFERENCE};
+use archive::masks;
 use archive::writing::writing;
 use interface::Answer;
 use reference::corpus::{pattern_cases, Case};
@@ -219,4 +220,57 @@ fn a_round_trip_that_loses_a_field() {
     let library = Library { pack, ..REFERENCE };
     assert!(compare::round_trip(library, &[1; 24], 1, 4).is_err());
     assert!(differences(library) > 50);
+}
+
+/// The number of cases of the corpus that differ for a reader with another rule for masks, in its check and in its unpacker.
+fn differences_in_masks<const REFUSED: u8, const COUNTED: u8>() -> [usize; 2] {
+    let check = masks::check::<REFUSED, COUNTED>;
+    let unpack = masks::unpacked::<REFUSED, COUNTED>;
+    [
+        differences(Library { check, ..REFERENCE }),
+        differences(Library {
+            unpack,
+            ..REFERENCE
+        }),
+    ]
+}
+
+/// A reader that refuses masks with bit 6, with bit 7 or with both, and one that counts bit 6, bit 7 or both as fields. The right one shows no
+/// differences.
+#[test]
+fn another_rule_for_the_upper_bits_of_masks() {
+    assert_eq!(differences_in_masks::<0, 63>(), [0, 0]);
+    for found in [
+        differences_in_masks::<0x40, 63>(),
+        differences_in_masks::<0x80, 63>(),
+        differences_in_masks::<0xC0, 63>(),
+        differences_in_masks::<0, 127>(),
+        differences_in_masks::<0, 191>(),
+        differences_in_masks::<0, 255>(),
+    ] {
+        assert!(found.iter().all(|&count| count > 200), "{found:?}");
+    }
+}
+
+/// The packer writes bit 6, bit 7 or both in each mask. The round trip alone does not detect it.
+#[test]
+fn a_packer_that_writes_the_upper_bits() {
+    fn wrong<const UPPER: u8>(
+        cells: &[u8],
+        rows: u64,
+        tracks: u64,
+        output: &mut GuardedOutput,
+    ) -> Answer {
+        let answer = (REFERENCE.pack)(cells, rows, tracks, output);
+        let packed = &mut output.slice()[..answer.length as usize];
+        for place in masks::places(packed) {
+            packed[place] |= UPPER;
+        }
+        answer
+    }
+    for pack in [wrong::<0x40>, wrong::<0x80>, wrong::<0xC0>] {
+        let library = Library { pack, ..REFERENCE };
+        assert!(differences(library) > 100);
+        assert_eq!(compare::round_trip(library, &[7; 24], 1, 4), Ok(()));
+    }
 }

@@ -4,6 +4,7 @@
 mod large;
 
 use archive::compare::{self, ARCHIVE};
+use archive::masks::{self, UPPER_BITS};
 use archive::modules;
 use archive::seeds::for_seeds;
 use interface::ModuleAnswer;
@@ -218,6 +219,36 @@ fn every_change_of_a_byte() {
         let module = small(version, Sample::new(1, &[0x40, 0x80, 0xC0]));
         accepted(&module).unwrap();
         modules::every_change(&module, modules::all_values, agrees);
+    }
+    accepted(UPPER_BITS).unwrap();
+    modules::every_change(UPPER_BITS, modules::all_values, agrees);
+}
+
+/// A pattern whose second row has an entry with each mask byte: whole, cut at every byte, and with a track that is too high.
+#[test]
+fn every_mask() {
+    let with_row = |row: &[u8]| {
+        let stream = [&[2, 0xC3, 5, 6, 0], row].concat();
+        let tune = Tune {
+            patterns: vec![Pattern::new(2, &stream)],
+            ..Tune::default()
+        };
+        tune.bytes()
+    };
+    let broken = ModuleAnswer {
+        number: 15,
+        place: 50,
+    };
+    for mask in 0..=255 {
+        let entry = masks::entry(4, mask);
+        accepted(&with_row(&[&entry[..], &[0]].concat())).unwrap();
+        let too_high = [&masks::entry(5, mask)[..], &[0]].concat();
+        let cuts = (0..=entry.len()).map(|cut| &entry[..cut]);
+        for row in cuts.chain([&too_high[..]]) {
+            let module = with_row(row);
+            compare::module(ARCHIVE, &module).unwrap();
+            assert_eq!(interface::check_module(&module), broken, "{row:02x?}");
+        }
     }
 }
 

@@ -1,6 +1,7 @@
 //! Tests of the comparison of modules: it finds no difference between the reference and itself, and it detects each of these wrong checks.
 
 use archive::compare::{self, Library, REFERENCE};
+use archive::masks;
 use interface::ModuleAnswer;
 use reference::chunks::Chunks;
 use reference::corpus::module_cases;
@@ -142,6 +143,21 @@ fn a_check_that_adds_at_32_bits() {
         }
     };
     assert!(differences(check_module) >= 1);
+}
+
+/// The patterns are checked by a reader that refuses masks with bit 6 or 7, or counts these bits as fields. The right one shows no differences.
+#[test]
+fn another_rule_for_the_upper_bits_of_masks() {
+    assert_eq!(differences(masks::check_module::<0, 63>), 0);
+    for wrong in [
+        masks::check_module::<0x40, 63>,
+        masks::check_module::<0x80, 63>,
+        masks::check_module::<0, 127>,
+        masks::check_module::<0, 191>,
+    ] {
+        let found = differences(wrong);
+        assert!(found >= 10, "{found}");
+    }
 }
 
 /// The word after the revision is not examined.

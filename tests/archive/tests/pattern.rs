@@ -1,8 +1,10 @@
 //! libpattern.a against the reference. DBM0_CASES is the number of random cases and DBM0_SEED the first seed.
 
 use archive::compare::{self, answer, ARCHIVE, REFERENCE};
+use archive::masks::entry;
 use archive::seeds::for_seeds;
 use archive::writing::writes;
+use interface::Answer;
 use reference::corpus::{pattern_cases, Case};
 use reference::generate::{bytes, cells, damaged, likely_bytes, valid_stream, Random};
 use reference::pattern::{check, pack, repack, unpack};
@@ -191,6 +193,83 @@ fn every_track_and_mask() {
                 compare::stream(ARCHIVE, &stream[..1 + fields], 1, 4, 24).unwrap();
             }
         }
+    }
+}
+
+/// Every mask byte in each of the three entries of two rows, with outputs around the needed length, and cut at every byte.
+#[test]
+fn every_mask_at_every_place() {
+    for mask in 0..=255 {
+        let given = entry(2, mask);
+        for chosen in 0..6 {
+            let row = |first: usize| -> Vec<u8> {
+                let entries = (first..first + 3).flat_map(|index| match index == chosen {
+                    true => given.clone(),
+                    false => vec![1 + index as u8 % 4, 0x0A, 7, 8],
+                });
+                entries.chain([0]).collect()
+            };
+            let stream = [row(0), row(3)].concat();
+            check(&stream, 2, 4).expect("it is valid");
+            for room in [0, 47, 48, 49] {
+                compare::stream(ARCHIVE, &stream, 2, 4, room).unwrap();
+            }
+            for cut in 0..stream.len() {
+                compare::stream(ARCHIVE, &stream[..cut], 2, 4, 48).unwrap();
+            }
+        }
+    }
+}
+
+/// Every value of each byte of an entry whose mask has bits 6 and 7, in a stream of one and of two rows.
+#[test]
+fn every_byte_of_an_entry() {
+    let stream = [1, 0xC5, 7, 0, 3, 0xFF, 1, 2, 3, 4, 5, 6, 0];
+    for place in 0..stream.len() {
+        for byte in 0..=255 {
+            let mut stream = stream;
+            stream[place] = byte;
+            for rows in [1, 2, 3] {
+                compare::stream(ARCHIVE, &stream, rows, 4, 72).unwrap();
+            }
+        }
+    }
+}
+
+/// The answers that the request names: bits 6 and 7 are ignored, also when the length of an entry is measured, and are written as 0.
+#[test]
+fn upper_bits_of_masks() {
+    let mut cells = [0; 24];
+    let unpacks = |stream: &[u8], cells: &[u8]| {
+        assert_eq!(interface::check_pattern(stream, 1, 4), Answer::written(0));
+        writes(cells, |output| {
+            interface::unpack_pattern(stream, 1, 4, output.slice())
+        });
+    };
+    for stream in [[0x01, 0x40, 0x00], [0x01, 0x80, 0x00], [0x01, 0xC0, 0x00]] {
+        unpacks(&stream, &cells);
+    }
+    writes(&[0x00], |output| {
+        interface::pack_pattern(&cells, 1, 4, output.slice())
+    });
+    cells[0] = 0x47;
+    unpacks(&[0x01, 0x41, 0x47, 0x00], &cells);
+    writes(&[0x01, 0x01, 0x47, 0x00], |output| {
+        interface::pack_pattern(&cells, 1, 4, output.slice())
+    });
+    for (stream, place) in [
+        (&[0x01, 0xC0][..], 2),
+        (&[0x01, 0x41], 0),
+        (&[0x01, 0xFF, 1, 2, 3, 4, 5], 0),
+        (&[0x01, 0xFF, 1, 2, 3, 4, 5, 6], 8),
+        (&[0x05, 0xC0, 0x00], 0),
+        (&[0x01, 0xC0, 0x00, 0x00], 3),
+    ] {
+        let refused = Answer::refused(15, place);
+        assert_eq!(interface::check_pattern(stream, 1, 4), refused);
+        let mut out = [0xAA; 24];
+        assert_eq!(interface::unpack_pattern(stream, 1, 4, &mut out), refused);
+        assert_eq!(out, [0xAA; 24]);
     }
 }
 

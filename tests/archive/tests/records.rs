@@ -1,7 +1,8 @@
 //! The queries of libdbm0.a against the reference. DBM0_CASES is the number of random cases and DBM0_SEED the first seed. Modules of the
 //! maximum length are in large_records.rs.
 
-use archive::modules::{self, at_every_alignment, every_change, file};
+use archive::masks::{places_in_module, UPPER_BITS, UPPER_BITS_CELLS};
+use archive::modules::{self, all_values, at_every_alignment, every_change, file};
 use archive::queries::ARCHIVE;
 use archive::records::all;
 use archive::writing::writes;
@@ -54,6 +55,24 @@ fn every_change_of_a_byte() {
         let mut module = file("old.dbm");
         module[4] = version;
         every_change(&module, |stored| [stored ^ 1, 0x80, 0xFF], agrees);
+    }
+}
+
+/// Masks with bits 6 and 7: the cells, into outputs of every length, and the queries with each of the masks changed to every value.
+#[test]
+fn upper_bits_of_masks() {
+    writes(&UPPER_BITS_CELLS, |output| {
+        interface::cells(UPPER_BITS, 0, output.slice())
+    });
+    writes(&[0; 24], |output| {
+        interface::cells(UPPER_BITS, 1, output.slice())
+    });
+    for place in places_in_module(UPPER_BITS) {
+        for mask in all_values(0) {
+            let mut module = UPPER_BITS.to_vec();
+            module[place] = mask;
+            agrees(&module, &mut Random::new(1)).unwrap();
+        }
     }
 }
 

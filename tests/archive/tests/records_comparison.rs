@@ -2,6 +2,7 @@
 //! queries.
 
 use archive::compare::GuardedOutput;
+use archive::masks;
 use archive::modules;
 use archive::queries::{refused, success, Queries, REFERENCE};
 use archive::records::all;
@@ -52,6 +53,29 @@ fn one_record_for_everything() {
     always!(sample, |_, _|);
     always!(frames, |_, _|);
     always!(frame, |_, _, _|);
+}
+
+/// The query about rows and the one about cells refuse modules with bit 6 or 7 in a mask.
+#[test]
+fn upper_bits_of_masks() {
+    fn refusal(module: &[u8]) -> Option<usize> {
+        let refusal = masks::check_module::<0xC0, 63>(module);
+        (refusal.number == 15).then_some(refusal.place as usize)
+    }
+    noticed(Queries {
+        rows: |module, pattern| match refusal(module) {
+            Some(place) => refused(15, place as u64),
+            None => (REFERENCE.rows)(module, pattern),
+        },
+        ..REFERENCE
+    });
+    noticed(Queries {
+        cells: |module, pattern, output| match refusal(module) {
+            Some(place) => Answer::refused(15, place),
+            None => (REFERENCE.cells)(module, pattern, output),
+        },
+        ..REFERENCE
+    });
 }
 
 type Filling = fn(&[u8], usize, &mut GuardedOutput) -> Answer;

@@ -1,6 +1,7 @@
 //! Repacking a whole module: libdbm0.a against the reference, and its own properties. DBM0_CASES is the number of random cases and
 //! DBM0_SEED the first seed. Modules of the maximum length are in large_repack.rs.
 
+use archive::masks::{NO_UPPER_BITS, UPPER_BITS};
 use archive::modules::{all_values, every_change};
 use archive::repacking::REPACK;
 use archive::seeds::for_seeds;
@@ -31,12 +32,22 @@ const AFTER: &[u8; 114] = b"DBM0\x02\x21\xDE\xAD\
     SMPL\x00\x00\x00\x0C\x00\x00\x00\x02\x00\x00\x00\x02PATT\
     PNAM\x00\x00\x00\x02\x80\x81";
 
+/// The patterns of `UPPER_BITS` and `NO_UPPER_BITS` are packed to these: bits 6 and 7 of the masks are 0.
+const PACKED: &[u8; 99] = b"DBM0\x03\x00\x00\x00\
+    INFO\x00\x00\x00\x0A\x00\x00\x00\x01\x00\x00\x00\x02\x00\x04\
+    SONG\x00\x00\x00\x00INST\x00\x00\x00\x00\
+    PATT\x00\x00\x00\x1E\
+    \x00\x02\x00\x00\x00\x10\
+    \x02\x02\x09\x04\x01\x47\x00\x03\x3F\x11\x12\x13\x14\x15\x16\x00\
+    \x00\x01\x00\x00\x00\x01\x00\x00\
+    SMPL\x00\x00\x00\x0B\x00\x00\x00\x01\x00\x00\x00\x03\x21\x22\x23";
+
 archive::tests_of_a_call! {
     call: REPACK,
-    typed: [(&BEFORE[..], &AFTER[..]), (AFTER, AFTER)],
+    typed: [(&BEFORE[..], &AFTER[..]), (AFTER, AFTER), (UPPER_BITS, PACKED), (NO_UPPER_BITS, PACKED)],
     into null: interface::repack_into_null,
     of null: interface::repack_null,
-    cut: [&BEFORE[..], AFTER],
+    cut: [&BEFORE[..], AFTER, UPPER_BITS],
     valid modules: 4_000,
     damaged modules: 10_000,
 }
@@ -85,14 +96,19 @@ fn many_chunks_and_patterns() {
     });
 }
 
-/// A module with each byte changed to every value.
+/// Two modules with each byte changed to every value.
 #[test]
 fn every_change_of_a_byte() {
-    every_change(BEFORE, all_values, |module, _| {
-        [0, 113, 114, 116, 130]
-            .into_iter()
-            .try_for_each(|room| REPACK.into_room(module, room))
-    });
+    for (module, rooms) in [
+        (&BEFORE[..], [0, 113, 114, 116, 130]),
+        (UPPER_BITS, [0, 98, 99, 103, 110]),
+    ] {
+        every_change(module, all_values, |module, _| {
+            rooms
+                .into_iter()
+                .try_for_each(|room| REPACK.into_room(module, room))
+        });
+    }
 }
 
 /// PATT at each place after INFO, with an empty chunk and one of one byte around it.

@@ -2,6 +2,7 @@
 //! repackers.
 
 use archive::compare::GuardedOutput;
+use archive::masks;
 use archive::repacking::REPACK;
 use archive::writing::writing;
 use interface::Answer;
@@ -125,6 +126,34 @@ fn the_first_pattern_only() {
         .concat();
         writing(&made, output)
     });
+}
+
+/// Bits 6 and 7 of masks are set, or are kept in the first entry of a pattern if it has the same track.
+#[test]
+fn upper_bits_of_masks() {
+    REPACK.notices_beside_the_reference(&REPACK.changed(|_, out| {
+        for place in masks::places_in_module(out) {
+            out[place] |= 0x40;
+        }
+    }));
+    REPACK.notices_beside_the_reference(&REPACK.changed(|module, out| {
+        for ((old, _), (begin, end)) in streams(module).into_iter().zip(streams(out)) {
+            if begin < end && out[begin] != 0 && out[begin] == module[old] {
+                out[begin + 1] |= module[old + 1] & 0xC0;
+            }
+        }
+    }));
+}
+
+/// Modules with bits 6 or 7 in a mask are refused.
+#[test]
+fn upper_bits_of_masks_refused() {
+    REPACK.notices(
+        &|module, output| match masks::check_module::<0xC0, 63>(module) {
+            refusal if refusal.number == 15 => Answer::refused(15, refusal.place as usize),
+            _ => (REPACK.reference)(module, output),
+        },
+    );
 }
 
 #[test]

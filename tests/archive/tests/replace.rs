@@ -2,6 +2,7 @@
 //! DBM0_SEED the first seed. Modules of the maximum length are in large_replace.rs.
 
 use archive::compare::GuardedOutput;
+use archive::masks::{places_in_module, UPPER_BITS};
 use archive::modules::{all_values, at_every_alignment, every_change, file};
 use archive::queries::ARCHIVE;
 use archive::replacing;
@@ -47,7 +48,7 @@ const FRAME: &[u8] = b"\x80\x01";
 
 archive::tests_on_modules! {
     agrees: agrees,
-    cut: [&BEFORE[..], AFTER],
+    cut: [&BEFORE[..], AFTER, UPPER_BITS],
     valid modules: 6_000,
     damaged modules: 10_000,
 }
@@ -106,6 +107,38 @@ fn memory_of_no_bytes() {
     let by_null = interface::replace_sample_by_null(BEFORE, 2, &mut out);
     assert_eq!(by_null, replaced(238, 2));
     replacing!(2, b"").answers(BEFORE, replaced(238, 2), &out[..238]);
+}
+
+/// `UPPER_BITS` with another sample. The masks keep bits 6 and 7.
+const UPPER_BITS_KEPT: &[u8; 104] = b"DBM0\x03\x00\x00\x00\
+    INFO\x00\x00\x00\x0A\x00\x00\x00\x01\x00\x00\x00\x02\x00\x04\
+    SONG\x00\x00\x00\x00INST\x00\x00\x00\x00\
+    PATT\x00\x00\x00\x22\
+    \x00\x02\x00\x00\x00\x12\
+    \x04\xC1\x47\x02\x42\x09\x01\x80\x00\x03\x7F\x11\x12\x13\x14\x15\x16\x00\
+    \x00\x01\x00\x00\x00\x03\x01\xC0\x00\x99\
+    SMPL\x00\x00\x00\x0C\x00\x00\x00\x02\x00\x00\x00\x02\x80\x01\x7F\xFE";
+
+/// Into outputs of every length, and with each of the masks changed to every value.
+#[test]
+fn upper_bits_of_masks() {
+    let frames = b"\x80\x01\x7F\xFE";
+    writes(UPPER_BITS_KEPT, |output| {
+        clears(0, library(UPPER_BITS, 1, frames, output))
+    });
+    for place in places_in_module(UPPER_BITS) {
+        for mask in all_values(0) {
+            let mut module = UPPER_BITS.to_vec();
+            module[place] = mask;
+            let call = replacing!(1, frames);
+            call.agrees(&module, &mut Random::new(1)).unwrap();
+            if mask & 63 == UPPER_BITS[place] & 63 {
+                let mut kept = UPPER_BITS_KEPT.to_vec();
+                kept[place] = mask;
+                call.answers(&module, replaced(104, 0), &kept);
+            }
+        }
+    }
 }
 
 /// The numbers that the request for this call names.

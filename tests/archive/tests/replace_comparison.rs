@@ -2,6 +2,7 @@
 //! of these wrong libraries.
 
 use archive::compare::GuardedOutput;
+use archive::masks;
 use archive::queries::REFERENCE;
 use archive::replacing;
 use archive::replacing::{
@@ -336,6 +337,22 @@ fn a_sample_that_is_not_there() {
 fn another_header() {
     notices_change(|_, out| out[6..8].fill(0x11));
     notices_change(|_, out| out[4] ^= 1);
+}
+
+/// Bits 6 and 7 of masks are cleared, or modules that have them are refused.
+#[test]
+fn upper_bits_of_masks() {
+    notices_change(|_, out| {
+        for place in masks::places_in_module(out) {
+            out[place] &= 63;
+        }
+    });
+    notices(
+        &|module, output| match masks::check_module::<0xC0, 63>(module) {
+            refusal if refusal.number == 15 => ReplaceAnswer::refused(15, refusal.place as usize),
+            _ => reference(module, 1, FRAME, output),
+        },
+    );
 }
 
 /// Fillers and streams of patterns.

@@ -157,10 +157,16 @@ fn all_patterns() {
     accepted(&module);
     let block = pattern.bytes().len();
     let (first, last) = (MOST - 1_024 * block, MOST - block);
-    // The last row end, a track that is too high, a mask with bit 7; and a fault in the first pattern comes before one in the last.
+    // Bits 6 and 7 of the last mask have no effect.
+    let mask = MOST - 1 - 7;
+    for upper in [0x7F, 0xBF, 0xFF] {
+        module[mask] = upper;
+        accepted(&module);
+    }
+    // The last row end, a track that is too high, a field more than is there; and a fault in the first pattern comes before one in the last.
     refused_with(&mut module, MOST - 1, 1, (15, last));
     refused_with(&mut module, last + 6, 255, (15, last));
-    refused_with(&mut module, last + 7, 0xBF, (15, last));
+    refused_with(&mut module, mask, 0xDF, (15, last));
     module[MOST - 1] = 1;
     refused_with(&mut module, first + 1, 7, (15, first));
     module[MOST - 1] = 0;
