@@ -420,12 +420,7 @@ fn stream_fault(stream: &[u8], rows: u64, tracks: u64, at: usize) -> Option<Stri
     let fault = if track > tracks {
         format!("is about track {track}, there are {tracks}")
     } else {
-        match stream.get(at.checked_add(1)?) {
-            Some(mask) if mask & 0xC0 != 0 => {
-                format!("for track {track} has the mask {mask:02x}, bits 6 and 7 must be 0")
-            }
-            _ => format!("for track {track} is cut by the end"),
-        }
+        format!("for track {track} is cut by the end")
     };
     Some(format!("an entry of row {row} {fault}"))
 }

@@ -221,10 +221,13 @@ pub fn blocks<'m>(
     })
 }
 
+/// The bits of a mask that name fields. Bits 6 and 7 are ignored.
+const FIELD_BITS: u8 = 0x3F;
+
 /// The length of the row end or of the entry at a place of packed rows.
 pub fn entry_length(stream: &[u8], place: usize) -> Option<usize> {
     match *stream.get(place)? {
         0 => Some(1),
-        _ => Some(2 + stream.get(place + 1)?.count_ones() as usize),
+        _ => Some(2 + (stream.get(place + 1)? & FIELD_BITS).count_ones() as usize),
     }
 }

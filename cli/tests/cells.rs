@@ -236,6 +236,49 @@ fn every_byte_of_every_field() {
     assert!(text.contains("\n71      G-4 47 [47]B8 [B8]47\n"), "{text}");
 }
 
+/// A row for each of the 256 masks. Bits 6 and 7 name no fields.
+#[test]
+fn every_mask() {
+    /// The value of each field, and its text if it is named and if it is not.
+    const FIELDS: [(u8, &str, &str); 6] = [
+        (0x11, "C#1 ", "--- "),
+        (0x12, "12 ", "00 "),
+        (3, "3", "0"),
+        (0x14, "14 ", "00 "),
+        (5, "5", "0"),
+        (0x16, "16", "00"),
+    ];
+    let mut stream = Vec::new();
+    let mut expected = String::from("pattern 0: 256 rows, 4 tracks\nrow     track 2\n");
+    for mask in 0u8..=255 {
+        stream.extend([2, mask]);
+        expected += &format!("{mask:<6}  ");
+        for (field, (value, named, not_named)) in FIELDS.into_iter().enumerate() {
+            if mask >> field & 1 == 1 {
+                stream.push(value);
+                expected += named;
+            } else {
+                expected += not_named;
+            }
+        }
+        stream.push(0);
+        expected += "\n";
+    }
+    // Three rows, typed by hand.
+    for line in [
+        "65      C#1 00 000 000",
+        "192     --- 00 000 000",
+        "255     C#1 12 314 516",
+    ] {
+        assert!(expected.contains(&format!("\n{line}\n")), "{line}");
+    }
+    let tune = Tune {
+        patterns: vec![Pattern::new(256, &stream)],
+        ..Tune::default()
+    };
+    run_on(&["cells", "-", "0", "--tracks", "2"], &tune.bytes()).is(0, &expected, "");
+}
+
 /// Every cell of generated modules is printed as the second program shows it.
 #[test]
 fn modules_of_the_generator() {

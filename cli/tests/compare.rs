@@ -669,6 +669,42 @@ fn not_compared() {
     differ(&named.bytes(), &draft.bytes(), &[]);
 }
 
+/// Bits 6 and 7 of masks are not compared. A difference beside them has its row, its track and its values, as without them.
+#[test]
+fn upper_bits_of_masks() {
+    let module = |bits: u8, notes: [u8; 2]| {
+        let [a, b] = notes;
+        let rows: [&[u8]; 5] = [
+            &[2, bits | 0x23, 0x47, 1, 5, 0],
+            &[1, bits, 4, bits, 0],
+            &[4, bits | 0x3F, 0x8B, 2, 3, 4, 5, 6, 1, bits | 1, a, 0],
+            &[3, bits | 1, 0x30, 3, bits | 2, 7, 0],
+            &[2, bits | 1, b, 0],
+        ];
+        let tune = Tune {
+            patterns: vec![Pattern::new(5, &rows.concat())],
+            ..Tune::default()
+        };
+        tune.bytes()
+    };
+    let all_bits = [0, 0x40, 0x80, 0xC0];
+    for (one, other) in all_bits
+        .map(|one| all_bits.map(|other| (one, other)))
+        .concat()
+    {
+        let first = module(one, [0x40, 0x50]);
+        differ(&first, &module(other, [0x40, 0x50]), &[]);
+        differ(
+            &first,
+            &module(other, [0x41, 0]),
+            &[
+                "pattern 0 row 2 track 1 note: C-4, C#4",
+                "pattern 0 row 4 track 2 note: C-5, ---",
+            ],
+        );
+    }
+}
+
 /// Each of 396,240 fields differs. Every line and every number is as expected.
 #[test]
 fn many_differences() {

@@ -6,6 +6,7 @@ use std::collections::BTreeMap;
 use std::path::PathBuf;
 
 use common::{run, run_on, sample, sample_bytes, text, Folder};
+use reference::draft::{Pattern, Tune};
 use reference::generate::{self, Limits, Random};
 use reference::module;
 use reference::tunes;
@@ -143,6 +144,36 @@ fn every_byte_and_every_length() {
         modules.push(carousel[..place].to_vec());
     }
     compare(&modules);
+}
+
+/// Each of the 256 masks in the first, the second and the last entry of a pattern, whole and cut after each byte.
+#[test]
+fn every_mask_and_every_cut() {
+    let mut modules = Vec::new();
+    for mask in 0..=255 {
+        for place in 0..3 {
+            let entry = |number: u8| {
+                let mask = if number == place { mask } else { 0x85 };
+                let fields = 0x11 * (number + 1)..;
+                let named = fields.take((mask & 0x3F_u8).count_ones() as usize);
+                [number + 1, mask].into_iter().chain(named)
+            };
+            let row_end = || std::iter::once(0);
+            let first_row = entry(0).chain(entry(1)).chain(row_end());
+            let stream: Vec<u8> = first_row.chain(entry(2)).chain(row_end()).collect();
+            modules.extend((0..=stream.len()).map(|length| {
+                let tune = Tune {
+                    patterns: vec![Pattern::new(2, &stream[..length])],
+                    ..Tune::default()
+                };
+                tune.bytes()
+            }));
+        }
+    }
+    let numbers = compare(&modules);
+    assert_eq!(numbers[&0], 3 * 256, "{numbers:?}");
+    assert_eq!(numbers.len(), 2, "{numbers:?}");
+    assert!(numbers.contains_key(&15), "{numbers:?}");
 }
 
 /// Random bytes, with and without the letters at the beginning.

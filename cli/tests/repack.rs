@@ -126,6 +126,45 @@ fn modules_of_the_generator() {
     assert!(shorter > 50, "{shorter} were shorter");
 }
 
+/// Bits 6 and 7 of masks are written as 0, also where no byte is saved. Repacked again, the module stays.
+#[test]
+fn upper_bits_of_masks() {
+    let folder = Folder::new();
+    let [first, second] = ["first.dbm", "second.dbm"].map(|name| folder.0.join(name));
+    let module = |stream: &[u8]| {
+        let tune = Tune {
+            patterns: vec![Pattern::new(2, stream)],
+            ..Tune::default()
+        };
+        tune.bytes()
+    };
+    for bits in [0, 0x40, 0x80, 0xC0] {
+        let expected: [(&[u8], &[u8]); 3] = [
+            (&[1, bits | 1, 0x47, 0, 0], &[1, 1, 0x47, 0, 0]),
+            (&[1, bits, 0, 4, bits, 0], &[0, 0]),
+            (
+                &[0, 3, bits | 0x3F, 1, 2, 3, 4, 5, 6, 2, bits | 0x21, 0, 9, 0],
+                &[0, 2, 0x20, 9, 3, 0x3F, 1, 2, 3, 4, 5, 6, 0],
+            ),
+        ];
+        for (stream, packed) in expected {
+            let (given, packed) = (module(stream), module(packed));
+            let (before, after) = (given.len(), packed.len());
+            let from = folder.file("in.dbm", &given);
+            for (from, to, before) in [(&from, &first, before), (&first, &second, after)] {
+                let saved = before - after;
+                let line = format!(
+                    "{}: {before} bytes became {after}, {saved} saved\n",
+                    text(to)
+                );
+                run(&["repack", text(from), text(to)]).is(0, &line, "");
+                holds(to, &packed);
+            }
+            run(&["compare", text(&from), text(&first)]).is(0, "0 differences\n", "");
+        }
+    }
+}
+
 /// For a refused module nothing is written: no new file, and an existing file is unchanged.
 #[test]
 fn refused() {

@@ -11,7 +11,7 @@ use common::{
     as_nobody, escaped, full, holds, run, run_on, sample, sample_bytes, set_mode, text,
     through_shell, Folder, Run, PROGRAM,
 };
-use reference::draft::{Chunk, Instrument, Sample, Tune};
+use reference::draft::{Chunk, Instrument, Pattern, Sample, Tune};
 use reference::generate::{bytes, module, Limits, Random};
 use reference::records;
 use reference::replace::{replace_sample, Replaced};
@@ -183,6 +183,29 @@ const MANY_LINES: [&str; 5] = [
     "instrument 5 \"thirty bytes of a long name...\": forward loop 9 + 1 cleared",
     "instrument 8 \"new\\x0aline\": ping-pong loop 4 + 1 cleared",
 ];
+
+/// The packed rows stay byte for byte, also bits 6 and 7 of their masks.
+#[test]
+fn upper_bits_of_masks() {
+    let folder = Folder::new();
+    let to = folder.0.join("out.dbm");
+    let frames = folder.file("frames", &[1, 2, 3, 4]);
+    for bits in [0, 0x40, 0x80, 0xC0] {
+        let module = |sample: Sample| {
+            let stream = [1, bits | 1, 0x47, 2, bits, 0, 4, bits | 0x30, 5, 6, 0];
+            let tune = Tune {
+                patterns: vec![Pattern::new(2, &stream)],
+                samples: vec![sample],
+                ..Tune::default()
+            };
+            tune.bytes()
+        };
+        let from = folder.file("in.dbm", &module(Sample::new(1, &[5; 9])));
+        let line = "sample 1: 9 frames of 8 bits became 2 of 16 bits; 0 loops cleared";
+        run(&arguments(&from, "1", &frames, &to)).is(0, &after_name(text(&to), &[line]), "");
+        holds(&to, &module(Sample::new(2, &[1, 2, 3, 4])));
+    }
+}
 
 /// Several loops are cleared, with INST before and after SMPL.
 #[test]

@@ -436,6 +436,21 @@ fn names_by_hand() {
     assert_eq!(with(&[b' '; 44]), format!("name \"{}\"", " ".repeat(44)));
 }
 
+/// Bits 6 and 7 of masks are not in the report.
+#[test]
+fn upper_bits_of_masks() {
+    for bits in [0, 0x40, 0x80, 0xC0] {
+        let stream = [1, bits | 1, 0x47, 2, bits, 0, 4, bits | 0x30, 5, 6, 0];
+        let tune = Tune {
+            patterns: vec![Pattern::new(2, &stream)],
+            ..Tune::default()
+        };
+        let report = "version 3.00\nname \"\"\nbytes 76\ninstruments 0\nsamples 0\nsongs 0\npatterns 1\ntracks 4\n\
+                      volume envelopes 0\npanning envelopes 0\npattern 0: 2 rows\n";
+        run_on(&["report", "-"], &tune.bytes()).is(0, report, "");
+    }
+}
+
 /// The kinds of loops, and the stored numbers of a loop that is off.
 #[test]
 fn loops() {
