@@ -10,7 +10,7 @@
  * plain:  both rows are loaded as in repack.c. If memcmp says that they differ,
  *         they are compared field by field.
  * expert: rows that are empty in both streams are skipped, up to 16 at a time,
- *         and rows that have the same entries in both, 8 bytes at a time. Of
+ *         and rows that have the same bytes in both, 8 bytes at a time. Of
  *         other rows only the groups of 8 tracks that have an entry with fields
  *         are compared and cleared, with SSE2.
  */
@@ -332,8 +332,9 @@ INLINE uint64_t load_8(const uint8_t *from)
 }
 
 /*
- * The bytes of the next row if both streams have the same entries there. 0 if
- * they do not, or near the end of a stream.
+ * The length of the next row if both streams have the same bytes there. 0 if
+ * they do not, or near the end of a stream. Entries whose masks differ in bits
+ * 6 and 7 are not the same bytes; their rows are loaded.
  */
 INLINE size_t same_row_bytes(stream a, stream b)
 {

@@ -27,9 +27,9 @@ static void apply_entries(
             at++;
             continue;
         }
-        size_t mask = at[1];
+        size_t mask = at[1] & FIELD_BITS;
         const uint8_t *fields = at + 2;
-        at += entry_length[mask];
+        at += entry_length[at[1]];
         store_roomy(fields, mask, cells + (track - 1) * 6);
     }
     while (at < end) {

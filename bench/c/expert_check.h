@@ -2,8 +2,8 @@
  * The check of a packed stream in C tuned for speed. Rows and tracks are in
  * range.
  *
- * One table has an entry's length and whether its mask is valid. While 8 bytes
- * are left no entry can be cut, so nothing else is tested.
+ * One table has the length of an entry for each of the 256 masks. While 8 bytes
+ * are left no entry can be cut, so only the track is tested.
  */
 
 #ifndef EXPERT_CHECK_H
@@ -11,12 +11,16 @@
 
 #include "baseline.h"
 
-/* 2 + the number of fields for masks 0 to 63; 0 for the masks above. */
+/* The bits of a mask that name fields. Bits 6 and 7 are ignored. */
+enum { FIELD_BITS = 63 };
+
+/* 2 + the number of fields. All bits of the mask are the index. */
 #define LENGTHS_4(n) (n), (n) + 1, (n) + 1, (n) + 2
 #define LENGTHS_16(n) \
     LENGTHS_4(n), LENGTHS_4((n) + 1), LENGTHS_4((n) + 1), LENGTHS_4((n) + 2)
+#define LENGTHS_64 LENGTHS_16(2), LENGTHS_16(3), LENGTHS_16(3), LENGTHS_16(4)
 static const uint8_t entry_length[256] = {
-    LENGTHS_16(2), LENGTHS_16(3), LENGTHS_16(3), LENGTHS_16(4),
+    LENGTHS_64, LENGTHS_64, LENGTHS_64, LENGTHS_64,
 };
 
 static baseline_answer expert_check_stream(
@@ -32,10 +36,9 @@ static baseline_answer expert_check_stream(
             at++;
             continue;
         }
-        size_t bytes = entry_length[at[1]];
-        if (track > tracks || bytes == 0)
+        if (track > tracks)
             return broken(at - stream);
-        at += bytes;
+        at += entry_length[at[1]];
     }
     while (left > 0) {
         if (at == end)
@@ -49,7 +52,7 @@ static baseline_answer expert_check_stream(
         if (track > tracks || end - at < 2)
             return broken(at - stream);
         ptrdiff_t bytes = entry_length[at[1]];
-        if (bytes == 0 || end - at < bytes)
+        if (end - at < bytes)
             return broken(at - stream);
         at += bytes;
     }

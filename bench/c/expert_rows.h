@@ -18,8 +18,8 @@
 #include <string.h>
 
 /*
- * For a mask: the field of the first, second, .. stored byte of an entry.
- * After the last field of the mask, that field is repeated.
+ * For bits 0 to 5 of a mask: the field of the first, second, .. stored byte of
+ * an entry. After the last field of the mask, that field is repeated.
  */
 static const uint8_t named_field[64][8] = {
     {0, 0, 0, 0, 0, 0}, {0, 0, 0, 0, 0, 0}, {1, 1, 1, 1, 1, 1}, {0, 1, 1, 1, 1, 1},
@@ -81,7 +81,7 @@ static void store_fields(const uint8_t *fields, unsigned mask, uint8_t *cell)
             cell[field] = *fields++;
 }
 
-/* The same if six bytes can be read. */
+/* The same if six bytes can be read and the mask has no bits but FIELD_BITS. */
 static inline __attribute__((always_inline)) void store_roomy(
     const uint8_t *restrict fields, size_t mask, uint8_t *restrict cell)
 {
@@ -115,15 +115,15 @@ static inline __attribute__((always_inline)) const uint8_t *expert_load_marked(
         size_t track = at[0];
         if (track == 0)
             return at + 1;
-        size_t mask = at[1];
+        size_t mask = at[1] & FIELD_BITS;
         const uint8_t *fields = at + 2;
-        at += entry_length[mask];
+        at += entry_length[at[1]];
         *marks |= (uint32_t)(mask != 0) << (track - 1) / 8;
         store_roomy(fields, mask, row + (track - 1) * 6);
     }
     while (at[0] != 0) {
         size_t track = at[0];
-        size_t mask = at[1];
+        size_t mask = at[1] & FIELD_BITS;
         *marks |= (uint32_t)(mask != 0) << (track - 1) / 8;
         store_fields(at + 2, mask, row + (track - 1) * 6);
         at += entry_length[mask];

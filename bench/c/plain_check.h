@@ -23,9 +23,8 @@ static baseline_answer plain_check_stream(
         }
         if (track > tracks || length - at < 2)
             return broken(at);
+        /* Bits 6 and 7 of the mask are ignored. */
         uint8_t mask = stream[at + 1];
-        if (mask & 0xC0)
-            return broken(at);
         size_t fields = 0;
         for (int field = 0; field < 6; field++)
             fields += mask >> field & 1;

@@ -38,9 +38,19 @@ pub fn compare(corpora: &[Corpus]) -> Result<usize, String> {
         calls += compare_patterns(corpus.name, &corpus.patterns, &mut random)?;
     }
     let others = corpus::other_sizes(OTHER_SIZES);
-    Ok(calls + compare_patterns("other sizes", &others, &mut random)?)
+    calls += compare_patterns("other sizes", &others, &mut random)?;
+    let masks = corpus::every_mask();
+    calls += compare_patterns("every mask", &masks, &mut random)?;
+    for it in &masks {
+        for length in 0..it.stream.len() {
+            let cut = &it.stream[..length];
+            calls += compare_stream("every mask, cut", cut, it.rows, it.tracks)?;
+        }
+    }
+    Ok(calls)
 }
 
+/// Each pattern with its own stream, and with random bits 6 and 7 in the masks of the stream.
 fn compare_patterns(
     name: &str,
     patterns: &[Pattern],
@@ -48,8 +58,10 @@ fn compare_patterns(
 ) -> Result<usize, String> {
     let mut calls = 0;
     for (index, pattern) in patterns.iter().enumerate() {
-        calls += compare_pattern(pattern, random)
-            .map_err(|difference| format!("{name}, pattern {index}: {difference}"))?;
+        for pattern in [pattern, &pattern.with_upper_bits(random)] {
+            calls += compare_pattern(pattern, random)
+                .map_err(|difference| format!("{name}, pattern {index}: {difference}"))?;
+        }
     }
     Ok(calls)
 }
@@ -70,7 +82,8 @@ fn compare_pattern(pattern: &Pattern, random: &mut Random) -> Result<usize, Stri
     calls += same_as("unpack", cells, |one, out| {
         (one.unpack)(stream, rows, tracks, out)
     })?;
-    calls += same_as("pack", stream, |one, out| {
+    let packed = pattern.packed();
+    calls += same_as("pack", &packed, |one, out| {
         (one.pack)(cells, rows, tracks, out)
     })?;
 
@@ -78,27 +91,33 @@ fn compare_pattern(pattern: &Pattern, random: &mut Random) -> Result<usize, Stri
     calls += same("unpack, short output", |one| {
         into(short, |out| (one.unpack)(stream, rows, tracks, out))
     })?;
-    let short = random.below(stream.len() as u64 + 1) as usize;
+    let short = random.below(packed.len() as u64 + 1) as usize;
     calls += same("pack, short output", |one| {
         into(short, |out| (one.pack)(cells, rows, tracks, out))
     })?;
     calls += same("pack, one track less", |one| {
-        into(stream.len(), |out| (one.pack)(cells, rows, tracks - 1, out))
+        into(packed.len(), |out| (one.pack)(cells, rows, tracks - 1, out))
     })?;
 
     for _ in 0..DAMAGED_STREAMS {
         let damaged = damage(stream, random);
         let rows = (rows + random.below(3)).saturating_sub(1);
-        calls += same("check, damaged", |one| {
-            ((one.check)(&damaged, rows, tracks), Vec::new())
-        })?;
-        calls += same("unpack, damaged", |one| {
-            into((rows * tracks * 6) as usize, |out| {
-                (one.unpack)(&damaged, rows, tracks, out)
-            })
-        })?;
+        calls += compare_stream("damaged", &damaged, rows, tracks)?;
     }
     Ok(calls)
+}
+
+/// The check and the unpacking of a stream, which may be broken.
+fn compare_stream(what: &str, stream: &[u8], rows: u64, tracks: u64) -> Result<usize, String> {
+    let checked = same(&format!("check, {what}"), |one| {
+        ((one.check)(stream, rows, tracks), Vec::new())
+    })?;
+    let unpacked = same(&format!("unpack, {what}"), |one| {
+        into((rows * tracks * 6) as usize, |out| {
+            (one.unpack)(stream, rows, tracks, out)
+        })
+    })?;
+    Ok(checked + unpacked)
 }
 
 /// The stream with a few bytes changed, and sometimes with its end cut off.
@@ -180,7 +199,7 @@ fn same_as(
 }
 
 /// Returns the number of compared calls on modules, or the first difference. Every refusal must occur in the answers.
-pub fn compare_modules(modules: &[Module]) -> Result<usize, String> {
+pub fn compare_modules(modules: &[&Module]) -> Result<usize, String> {
     let mut compared = Compared::default();
     let mut random = Random(7);
     let mut faults = generate::Random::new(8);
@@ -203,6 +222,9 @@ pub fn compare_modules(modules: &[Module]) -> Result<usize, String> {
             compared.same(&what, &damaged_bytes(&bytes, &mut random))?;
         }
     }
+    for module in modules_of_masks() {
+        compared.same("every mask", &module)?;
+    }
     let whole = generate::module(&mut faults, &Limits::USUAL).bytes();
     for length in 0..whole.len() {
         compared.same("beginning of a module", &whole[..length])?;
@@ -219,7 +241,7 @@ pub fn compare_modules(modules: &[Module]) -> Result<usize, String> {
 }
 
 /// Returns the number of compared repack calls, or the first difference. The outputs are empty, too short, exactly long enough and longer.
-pub fn compare_repacked(modules: &[Module]) -> Result<usize, String> {
+pub fn compare_repacked(modules: &[&Module]) -> Result<usize, String> {
     let mut random = Random(9);
     let mut faults = generate::Random::new(10);
     let mut calls = 0;
@@ -239,6 +261,9 @@ pub fn compare_repacked(modules: &[Module]) -> Result<usize, String> {
             let damaged = damaged_draft(&draft, &mut faults);
             calls += same_repacked(&what, &damaged, &mut random)?;
         }
+    }
+    for module in modules_of_masks() {
+        calls += same_repacked("every mask", &module, &mut random)?;
     }
     calls += same_repacked("longest module", &longest_module(), &mut random)?;
     Ok(calls)
@@ -262,7 +287,7 @@ fn same_repacked(what: &str, module: &[u8], random: &mut Random) -> Result<usize
 
 /// Returns the number of compared calls that replace a sample, or the first difference. The outputs are empty, too short, exactly long
 /// enough and longer. Each refusal that is not the module's own must occur in the answers.
-pub fn compare_replaced(modules: &[Module]) -> Result<usize, String> {
+pub fn compare_replaced(modules: &[&Module]) -> Result<usize, String> {
     let mut compared = Compared::default();
     let mut random = Random(11);
     let mut faults = generate::Random::new(12);
@@ -314,6 +339,19 @@ pub fn compare_compared(
     let mut faults = generate::Random::new(14);
     for pair in pairs.iter().chain(others) {
         compared.same_long(pair.name, &pair.first, &pair.second)?;
+        let listed = listed_bytes(&pair.first, &pair.second);
+        if listed != pair.entries * DIFFERENCE_BYTES {
+            return Err(format!(
+                "{}: the list of differences has {listed} bytes",
+                pair.name
+            ));
+        }
+    }
+    for it in corpus::every_mask() {
+        let stored = module_of(it.rows, it.tracks, &it.stream);
+        let packed = module_of(it.rows, it.tracks, &it.packed());
+        compared.same_equal("every mask", &stored, &packed)?;
+        compared.same_equal("every mask", &packed, &stored)?;
     }
     for module in modules {
         let what = module.name;
@@ -388,8 +426,25 @@ fn copies(module: &Module, random: &mut generate::Random) -> Vec<Vec<u8>> {
     copies
 }
 
+/// A module with one pattern.
+fn module_of(rows: u64, tracks: u64, stream: &[u8]) -> Vec<u8> {
+    let tune = Tune {
+        tracks: tracks as u16,
+        patterns: vec![draft::Pattern::new(rows as u16, stream)],
+        ..Tune::default()
+    };
+    tune.bytes()
+}
+
+/// Modules with every mask in each entry, and the same with the stream cut at every length.
+fn modules_of_masks() -> impl Iterator<Item = Vec<u8>> {
+    corpus::every_mask().into_iter().flat_map(|it| {
+        (0..=it.stream.len()).map(move |length| module_of(it.rows, it.tracks, &it.stream[..length]))
+    })
+}
+
 /// Two modules with a pattern of up to 40 rows and up to 254 tracks. A row of the second module is the same as in the first, or empty, or
-/// another one, or has one more entry.
+/// another one, or has one more entry, or other bits 6 and 7 in its masks.
 fn wide_pair(random: &mut generate::Random) -> (Vec<u8>, Vec<u8>) {
     let tracks = 4 + 2 * random.below(126);
     let rows = random.below(41);
@@ -411,24 +466,18 @@ fn wide_pair(random: &mut generate::Random) -> (Vec<u8>, Vec<u8>) {
         streams.0.extend(row);
         streams.1.extend(other);
     }
-    let module = |stream: &[u8]| {
-        let tune = Tune {
-            tracks: tracks as u16,
-            patterns: vec![draft::Pattern::new(rows as u16, stream)],
-            ..Tune::default()
-        };
-        tune.bytes()
-    };
+    let module = |stream: &[u8]| module_of(rows, tracks, stream);
     (module(&streams.0), module(&streams.1))
 }
 
 fn changed_row(random: &mut generate::Random, row: &[u8], tracks: u64, most: u64) -> Vec<u8> {
     let entry = generate::entry(random, tracks);
-    match random.below(5) {
+    match random.below(6) {
         0 => vec![0],
         1 => generate::valid_stream(random, 1, tracks, most),
         2 => [&[entry[0], 0], row].concat(),
         3 => [&entry, row].concat(),
+        4 => corpus::with_upper_bits(row, || random.byte()),
         _ => [&row[..row.len() - 1], &entry, &[0]].concat(),
     }
 }
@@ -465,7 +514,7 @@ impl Compared {
     fn same_drawn(&mut self, what: &str, module: &[u8], random: &mut Random) -> Result<(), String> {
         let sample = random.below(5) as usize;
         let length = 2 * random.below(30) + u64::from(random.below(8) == 0);
-        let frames: Vec<u8> = (0..length).map(|_| random.number() as u8).collect();
+        let frames: Vec<u8> = (0..length).map(|_| random.byte()).collect();
         self.same_replaced(what, module, sample, &frames, random)
     }
 
@@ -514,22 +563,34 @@ impl Compared {
         Ok(())
     }
 
+    /// Accepted modules without differences: an output without bytes is enough.
+    fn same_equal(&mut self, what: &str, first: &[u8], second: &[u8]) -> Result<(), String> {
+        match self.same_listed(what, first, second, 0)? {
+            0 => Ok(()),
+            number => Err(format!(
+                "{what}: two equal modules are answered with {number}"
+            )),
+        }
+    }
+
     /// Long modules, with outputs that are one byte too short and exactly long enough.
     fn same_long(&mut self, what: &str, first: &[u8], second: &[u8]) -> Result<(), String> {
         let needed = listed_bytes(first, second);
         if needed > 0 {
             self.same_listed(what, first, second, needed - 1)?;
         }
-        self.same_listed(what, first, second, needed)
+        self.same_listed(what, first, second, needed)?;
+        Ok(())
     }
 
+    /// Returns the number in the answers.
     fn same_listed(
         &mut self,
         what: &str,
         first: &[u8],
         second: &[u8],
         room: usize,
-    ) -> Result<(), String> {
+    ) -> Result<u64, String> {
         let (answer, out) = same_result(what, |one| {
             into(room, |out| (one.compare_modules)(first, second, out))
         })?;
@@ -538,7 +599,7 @@ impl Compared {
         self.calls += IMPLEMENTATIONS.len();
         self.numbers.insert(answer.number);
         self.kinds.extend(kinds);
-        Ok(())
+        Ok(answer.number)
     }
 }
 
@@ -556,7 +617,7 @@ fn damaged_bytes(module: &[u8], random: &mut Random) -> Vec<u8> {
     let mut damaged = module.to_vec();
     for _ in 0..1 + random.below(3) {
         let place = random.below(damaged.len() as u64) as usize;
-        damaged[place] = random.number() as u8;
+        damaged[place] = random.byte();
     }
     if random.below(4) == 0 {
         damaged.truncate(random.below(damaged.len() as u64) as usize);

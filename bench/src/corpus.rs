@@ -1,6 +1,6 @@
 //! The three corpora: patterns as cells and as packed streams. They are the same on every run.
 
-/// One pattern.
+/// One pattern: its cells, and a stream of them. In the corpora it is the packer's stream.
 pub struct Pattern {
     pub rows: u64,
     pub tracks: u64,
@@ -17,6 +17,20 @@ impl Pattern {
             cells,
         }
     }
+
+    /// The same cells with random bits 6 and 7 in each mask of the stream.
+    pub fn with_upper_bits(&self, random: &mut Random) -> Pattern {
+        Pattern {
+            cells: self.cells.clone(),
+            stream: with_upper_bits(&self.stream, || random.byte()),
+            ..*self
+        }
+    }
+
+    /// The packer's stream.
+    pub fn packed(&self) -> Vec<u8> {
+        packed(&self.cells, self.tracks as usize)
+    }
 }
 
 pub struct Corpus {
@@ -28,6 +42,8 @@ pub const PATTERNS: usize = 200;
 pub const ROWS: usize = 64;
 pub const TRACKS: usize = 32;
 const FIELDS: usize = 6;
+/// The bits of a mask that name fields. Bits 6 and 7 name none.
+const FIELD_BITS: u8 = 0x3F;
 
 /// The commands that change neither the order of rows nor the tempo.
 const COMMANDS: [u8; 6] = [0x01, 0x02, 0x03, 0x04, 0x0A, 0x0C];
@@ -51,6 +67,16 @@ impl Corpus {
             .flat_map(|pattern| pattern.cells.chunks(FIELDS))
             .filter(|cell| cell.iter().any(|&field| field != 0))
             .count()
+    }
+
+    /// The same cells with random bits 6 and 7 in each mask of the streams.
+    pub fn with_upper_bits(&self) -> Corpus {
+        let mut random = Random(6);
+        let patterns = self.patterns.iter();
+        Corpus {
+            name: self.name,
+            patterns: patterns.map(|it| it.with_upper_bits(&mut random)).collect(),
+        }
     }
 
     /// The same patterns with another note in each n-th cell.
@@ -106,6 +132,61 @@ pub fn other_sizes(count: usize) -> Vec<Pattern> {
             Pattern::new(rows, tracks, cells)
         })
         .collect()
+}
+
+/// Patterns of two entries in row 0, one in row 1 and none in row 2. One of the entries has each of the 256 masks in turn. They are compared
+/// but not measured.
+pub fn every_mask() -> Vec<Pattern> {
+    const USUAL_MASK: u8 = 0xC5;
+    let entries = [(0, 0), (0, 1), (1, 2)];
+    let of_entries = |masks: [u8; 3]| {
+        let (rows, tracks) = (3, 4);
+        let mut cells = vec![0; rows * tracks * FIELDS];
+        let mut streams = vec![Vec::new(); rows];
+        for ((row, track), mask) in entries.into_iter().zip(masks) {
+            let stream = &mut streams[row];
+            stream.extend([track as u8 + 1, mask]);
+            for field in (0..FIELDS).filter(|field| mask >> field & 1 == 1) {
+                let value = 0x10 * (field as u8 + 1) + mask % 12;
+                stream.push(value);
+                cells[(row * tracks + track) * FIELDS + field] = value;
+            }
+        }
+        for stream in &mut streams {
+            stream.push(0);
+        }
+        Pattern {
+            rows: rows as u64,
+            tracks: tracks as u64,
+            cells,
+            stream: streams.concat(),
+        }
+    };
+    (0..=255)
+        .flat_map(|mask| {
+            [0, 1, 2].map(|place| {
+                let mut masks = [USUAL_MASK; 3];
+                masks[place] = mask;
+                of_entries(masks)
+            })
+        })
+        .collect()
+}
+
+/// A valid stream with random bits 6 and 7 in each mask.
+pub fn with_upper_bits(stream: &[u8], mut random_byte: impl FnMut() -> u8) -> Vec<u8> {
+    let mut changed = stream.to_vec();
+    let mut at = 0;
+    while at < changed.len() {
+        if changed[at] == 0 {
+            at += 1;
+            continue;
+        }
+        let named = changed[at + 1] & FIELD_BITS;
+        changed[at + 1] = named | random_byte() & !FIELD_BITS;
+        at += 2 + named.count_ones() as usize;
+    }
+    changed
 }
 
 fn random_cells(random: &mut Random, count: usize, percent_full: u64) -> Vec<u8> {
@@ -169,6 +250,10 @@ impl Random {
         mixed = (mixed ^ (mixed >> 30)).wrapping_mul(0xBF58_476D_1CE4_E5B9);
         mixed = (mixed ^ (mixed >> 27)).wrapping_mul(0x94D0_49BB_1331_11EB);
         mixed ^ (mixed >> 31)
+    }
+
+    pub fn byte(&mut self) -> u8 {
+        self.number() as u8
     }
 
     pub fn below(&mut self, limit: u64) -> u64 {

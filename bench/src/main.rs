@@ -52,16 +52,23 @@ fn main() -> ExitCode {
 
 fn agree(corpora: &[Corpus], modules: &[Module], pairs: &[Pair]) -> Result<(), String> {
     let calls = agreement::compare(corpora)?;
-    println!("Agreement: {calls} calls, other sizes, damaged streams and short outputs among them: all four give the same answers and bytes.");
-    let calls = agreement::compare_modules(modules)?;
+    println!("Agreement: {calls} calls, other sizes, every mask, damaged streams and short outputs among them: all four give the same \
+              answers and bytes.");
+    let upper_bits: Vec<Module> = corpora
+        .iter()
+        .map(|corpus| modules::of_corpus(&corpus.with_upper_bits()))
+        .collect();
+    let all: Vec<&Module> = modules.iter().chain(&upper_bits).collect();
+    let calls = agreement::compare_modules(&all)?;
     println!("Agreement: {calls} calls on modules, small and damaged ones among them: all four give the same number and place, \
               and each of the numbers 0 to 15 was given.");
-    let calls = agreement::compare_repacked(modules)?;
+    let calls = agreement::compare_repacked(&all)?;
     println!("Agreement: {calls} calls that repack modules, small and damaged ones and short outputs among them: all four give the same answers and bytes.");
-    let calls = agreement::compare_replaced(modules)?;
+    let calls = agreement::compare_replaced(&all)?;
     println!("Agreement: {calls} calls that replace a sample, small and damaged modules and short outputs among them: all four give the same \
               answers and bytes, and each of the numbers 0, 1, 17, 18 and 19 was given.");
-    let others = pairs::long_pairs(corpora, COMPARED_BYTES);
+    let mut others = pairs::long_pairs(corpora, COMPARED_BYTES);
+    others.extend(pairs::with_upper_bits(corpora));
     let calls = agreement::compare_compared(modules, pairs, &others)?;
     println!("Agreement: {calls} calls that compare two modules, small and damaged ones and short outputs among them: all four give the same \
               answers and bytes, each of the numbers 0 to 15 and 17 was given, and entries of each of the kinds 1 to 8.\n");

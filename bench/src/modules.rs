@@ -174,7 +174,7 @@ fn other_chunks() -> Module {
         (0..count)
             .map(|_| {
                 let length = random.below(MOST_OTHER_BYTES + 1);
-                let data = (0..length).map(|_| random.number() as u8).collect();
+                let data = (0..length).map(|_| random.byte()).collect();
                 Chunk::new(&other_name(&mut random), data)
             })
             .collect()

@@ -50,6 +50,23 @@ pub fn pairs(corpora: &[Corpus], modules: &[Module]) -> Vec<Pair> {
     equal.chain(some).chain(all).collect()
 }
 
+/// Pairs that are compared but not measured: the second module has random bits 6 and 7 in each mask, once with the same notes, once with
+/// some others.
+pub fn with_upper_bits(corpora: &[Corpus]) -> Vec<Pair> {
+    let with = |pair: Pair, second: &Corpus| Pair {
+        second: modules::of_corpus(&second.with_upper_bits()).bytes,
+        ..pair
+    };
+    let of = |corpus: &Corpus| {
+        let other = corpus.with_other_notes(SOME_CELLS);
+        [
+            with(equal(&modules::of_corpus(corpus)), corpus),
+            with(other_notes(corpus, "some", SOME_CELLS), &other),
+        ]
+    };
+    corpora.iter().flat_map(of).collect()
+}
+
 fn equal(module: &Module) -> Pair {
     Pair {
         name: module.name,
