@@ -16,7 +16,7 @@ use Rattle.packed_rows.specs.Answers.{verdictOfReading, repackOfReading,
 use Rattle.packed_rows.specs.Theorems.{every, allSound, withoutUpperBits, SameAnswers}
 use Rattle.packed_rows.specs.Theorems.{SameButUpperBits, unchanged, withRowEnd, withEntry, withMask}
 use Rattle.packed_rows.proofs.Reading.{and-true, true-and, front-entry, front-row-end, reading-over, reading-row-end, reading-entry, reading-fault}
-use Rattle.packed_rows.proofs.UpperBits.{named-low, sound-low, lowRows, rows-from-low}
+use Rattle.packed_rows.proofs.UpperBits.{named-low, sound-low, lowRows, all-sound-low, rows-from-low}
 use Rattle.packed_rows.proofs.EqualPatterns.{pattern-itself}
 
 -- A reading without these bits.
@@ -186,10 +186,10 @@ module _ (tracks : ℕ) where
       let parts = and-true (every (soundEntry tracks) es) (allSound tracks entries) sound in
       entries-same es (parts .0) (streams-same entries (parts .1))
 
-pub upper-bits-ignored : (rows tracks : ℕ) (entries : List (List Entry)) (cells : List ℕ) → allSound tracks entries ≡ true
+pub upper-bits-ignored : (rows tracks : ℕ) (entries : List (List Entry)) (cells : List ℕ) → allSound tracks (lowRows entries) ≡ true
     → AcceptedAs rows tracks (streamOf entries) cells ↔ AcceptedAs rows tracks (streamOf (lowRows entries)) cells
 upper-bits-ignored rows tracks entries cells sound =
-    let alike = same-read tracks (streams-same tracks entries sound) rows 0 in (
+    let alike = same-read tracks (streams-same tracks entries (sym (all-sound-low tracks entries) ∙ sound)) rows 0 in (
       accepted-same rows tracks (streamOf entries) (streamOf (lowRows entries)) alike cells,
       accepted-same rows tracks (streamOf (lowRows entries)) (streamOf entries) (sym alike) cells,
     )

@@ -20,10 +20,10 @@
 -- 25. Packing any pattern into enough room and unpacking what was written into enough room gives the pattern's bytes; the rest of
 --     both outputs is unchanged. This is for rows and tracks that fit, for cells of these rows and tracks, and for every output of at
 --     least the packed length and every other output of at least the length of the cells.
--- 29. Bits 6 and 7 of masks are ignored. Rows of sound entries are accepted as certain cells exactly when the same rows without these
---     bits are. For two streams that are the same but for these bits, broken streams too, the check answers the same; unpacking,
---     repacking and reading one cell answer the same and leave the same in every output; and the patterns that the streams hold have no
---     differences. The packer's entries have none of these bits.
+-- 29. Bits 6 and 7 of masks are ignored. Rows of entries that are sound without these bits are accepted as certain cells exactly when the
+--     same rows without the bits are. For two streams that are the same but for these bits, broken streams too, the check answers the
+--     same; unpacking, repacking and reading one cell answer the same and leave the same in every output; and the patterns that the
+--     streams hold have no differences. The packer's entries have none of these bits.
 --
 -- The reader is `readStream`, the packer `packedStream`, the length `packedLength`: the definitions that the contracts cite.
 use Prim.Native.Nat.{ℕ, _+_, _-_, _*_, _<_, _≤_}
@@ -136,7 +136,7 @@ module _ (rows tracks : ℕ) where
   packed-unpacked = PackedUnpacked.packed-unpacked rows tracks
 
   -- 29.
-  pub upper-bits-ignored : (entries : List (List Entry)) (cells : List ℕ) → allSound tracks entries ≡ true
+  pub upper-bits-ignored : (entries : List (List Entry)) (cells : List ℕ) → allSound tracks (map (map withoutUpperBits) entries) ≡ true
       → AcceptedAs rows tracks (streamOf entries) cells ↔ AcceptedAs rows tracks (streamOf (map (map withoutUpperBits) entries)) cells
   upper-bits-ignored = IgnoredBits.upper-bits-ignored rows tracks
 
