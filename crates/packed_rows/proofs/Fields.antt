@@ -12,6 +12,7 @@ use lib.ListN.{length, getD, take, drop, set, length-set, take-append-drop}
 use lib.Seq.{drop-cons, take-suc, take-suc-set, drop-set-lt, getD-drop, drop-drop, set-getD}
 use Rattle.packed_rows.specs.Entries.{bits, count}
 use Rattle.packed_rows.specs.Steps.{storedFrom, storedAt}
+use Rattle.packed_rows.proofs.Bits.{low-bits}
 
 module _ (ns : List Bool) (values out : List ℕ) (to : ℕ) (inside : to < length out) where
   pub stored-named : storedFrom (true ∷ ns) values out to ≡ storedFrom ns (drop 1 values) (set out to (getD values 0 0)) (to + 1)
@@ -70,21 +71,28 @@ count-most (false ∷ ns) = omega (arith, count-most ns)
 
 -- The fields of a cell: the first four, and then the last two if the rest of the mask names any.
 abbrev pub high : ℕ → ℕ
-high mask = mask / 2 / 2 / 2 / 2
+high mask = mask / 2 / 2 / 2 / 2 % 4
+
+all-six : (mask : ℕ) → bits 6 mask ≡ bits 4 mask ++ bits 2 (high mask)
+all-six mask = ap (λ (names : List Bool). bits 4 mask ++ names) (sym (low-bits 2 (mask / 2 / 2 / 2 / 2)))
 
 module _ (mask from size : ℕ) (h : from + count (bits 6 mask) < size) where
+  counts : count (bits 6 mask) ≡ count (bits 4 mask) + count (bits 2 (high mask))
+  counts = ap count (all-six mask) ∙ count-both (bits 4 mask) (bits 2 (high mask))
+
   pub first-inside : from + count (bits 4 mask) < size
-  first-inside = omega (arith, count-both (bits 4 mask) (bits 2 (high mask)))
+  first-inside = omega (arith, counts)
 
   pub last-inside : (next : ℕ) → next ≡ from + count (bits 4 mask) → next + count (bits 2 (high mask)) < size
-  last-inside next p = omega (arith, count-both (bits 4 mask) (bits 2 (high mask)))
+  last-inside next p = omega (arith, counts)
 
 module _ (s : List ℕ) (from mask : ℕ) (out₀ : List ℕ) (to : ℕ) (room : to + 6 ≤ length out₀) (next : ℕ) (out : List ℕ)
     (place : next ≡ from + count (bits 4 mask)) (first : out ≡ storedFrom (bits 4 mask) (drop from s) out₀ to) where
   pub cell-stored : storedFrom (bits 2 (high mask)) (drop next s) out (to + 4) ≡ storedAt s from mask out₀ to
   cell-stored =
       rw (place, first, ← (drop-drop (count (bits 4 mask)) from s))
-      (sym (stored-both (bits 4 mask) (bits 2 (high mask)) (drop from s) out₀ to (omega arith)))
+      (sym (stored-both (bits 4 mask) (bits 2 (high mask)) (drop from s) out₀ to (omega arith))
+      ∙ ap (λ (names : List Bool). storedFrom names (drop from s) out₀ to) (sym (all-six mask)))
 
   pub cell-short : length out ≡ length out₀ → high mask ≡ 0 → out ≡ storedAt s from mask out₀ to
   cell-short l none =

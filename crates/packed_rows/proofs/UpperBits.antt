@@ -1,11 +1,10 @@
 -- Bits 6 and 7 of masks are ignored (R3): an entry without them is sound exactly if the entry is, and is carried out as the entry is. The
 -- packer's entries have none of them.
-use Prim.Native.Nat.{ℕ, suc, _%_}
+use Prim.Native.Nat.{ℕ, _%_}
 use mathlib.Core.Path.{_≡_, refl, ap, _∙_}
 use mathlib.Core.List.{List, [], _∷_, map}
-use mathlib.Core.Bool.{_&&_}
 use native.Mathlib.Nat.{mod-eq-of-lt}
-use Rattle.cells.specs.Cells.{Cell, Row, emptyRow}
+use Rattle.cells.specs.Cells.{Row, emptyRow}
 use Rattle.packed_rows.specs.Entries.{Entry, named, soundEntry, carryOut, carryAll, rowFrom, rowsFrom}
 use Rattle.packed_rows.specs.Packer.{packedEntry, packedEntries}
 use Rattle.packed_rows.specs.Theorems.{every, allSound, withoutUpperBits}

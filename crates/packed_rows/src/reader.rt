@@ -200,13 +200,13 @@ fn store_some(s: &[u8], from: usize, mask: u8, n: usize, out: &mut [u8], to: usi
 }
 
 // Stores the fields that a mask names, which are at `from`, in the cell at `to`; the others are unchanged. Most masks name neither command
-// 2 nor parameter 2.
+// 2 nor parameter 2, whatever their upper bits are.
 fn store_fields(s: &[u8], from: usize, mask: u8, out: &mut [u8], to: usize)
     requires { ⌜ (from + fieldsNamed mask < length (now s)) × (to + 6 ≤ length (now out)) ⌝ }
     ensures { λ r. ⌜ now (out .exit) ≡ storedAt (now (s .entry)) from mask (now (out .entry)) to ⌝ }
 {
     let next = store_some(s, from, mask, 4, out, to);
-    let high = mask / 2 / 2 / 2 / 2;
+    let high = mask / 2 / 2 / 2 / 2 % 4;
     if high != 0 {
         store_some(s, next, high, 2, out, to + 4);
     }
