@@ -11,7 +11,9 @@ use Rattle.packed_rows.proofs.ListingCells.{cell-none}
 module _ (pattern tracks : ℕ) where
   row-itself : (row : ℕ) (a : Row) → rowDifferences pattern tracks row a a ≡ []
   row-itself row a =
-      joined-empty _ tracks 1 (λ track low high. cell-none pattern row track (getD a (track - 1) emptyCell) (getD a (track - 1) emptyCell) (λ j less. refl))
+      joined-empty _ tracks 1 (λ track low high.
+      let cell = getD a (track - 1) emptyCell in
+      cell-none pattern row track cell cell (λ j less. refl))
 
   pub pattern-itself : (rows : ℕ) (a : List Row) → patternDifferences pattern rows tracks a a ≡ []
   pattern-itself rows a = joined-empty _ rows 0 (λ row low high. row-itself row (getD a row []))

@@ -15,7 +15,8 @@ use Rattle.packed_rows.specs.Stream.{Reading, brokenAt, whole, newRow, a
 use Rattle.packed_rows.specs.Answers.{verdictOfReading, repackOfReading, cellOfReading}
 use Rattle.packed_rows.specs.Theorems.{every, allSound, withoutUpperBits, SameAnswers}
 use Rattle.packed_rows.specs.Theorems.{SameButUpperBits, unchanged, withRowEnd, withEntry, withMask}
-use Rattle.packed_rows.proofs.Reading.{and-true, true-and, front-entry, front-row-end, reading-over, reading-row-end, reading-entry, reading-fault}
+use Rattle.packed_rows.proofs.Reading.{and-true, true-and, front-entry, front-row-end}
+use Rattle.packed_rows.proofs.Reading.{reading-over, reading-row-end, reading-entry, reading-fault}
 use Rattle.packed_rows.proofs.UpperBits.{named-low, sound-low, lowRows, all-sound-low, rows-from-low}
 use Rattle.packed_rows.proofs.EqualPatterns.{pattern-itself}
 
@@ -62,9 +63,11 @@ module _ (tracks : ℕ) where
   entry-alike : (s s′ : List ℕ) (e e′ : Entry) → soundEntry tracks e ≡ true → withoutUpperBits e ≡ withoutUpperBits e′
       → ReadAlike tracks s s′
       → ReadAlike tracks (entryBytes e ++ s) (entryBytes e′ ++ s′)
-  entry-alike s s′ e e′ sound same alike zero at = over-alike at (e .track) (e′ .track) (e .mask ∷ (e .fields ++ s)) (e′ .mask ∷ (e′ .fields ++ s′))
+  entry-alike s s′ e e′ sound same alike zero at =
+      over-alike at (e .track) (e′ .track) (e .mask ∷ (e .fields ++ s)) (e′ .mask ∷ (e′ .fields ++ s′))
   entry-alike s s′ e e′ sound same alike (suc rows) at =
-      let sound′ : soundEntry tracks e′ ≡ true = sym (sound-low tracks e′) ∙ ap (soundEntry tracks) (sym same) ∙ sound-low tracks e ∙ sound in
+      let sound′ : soundEntry tracks e′ ≡ true =
+      sym (sound-low tracks e′) ∙ ap (soundEntry tracks) (sym same) ∙ sound-low tracks e ∙ sound in
       entry-read rows at e s sound
       ∙ ap (addEntry (withoutUpperBits e)) (alike (suc rows) (at + length (entryBytes (withoutUpperBits e))))
       ∙ ap (λ (f : Entry). addEntry f (lowReading (reading tracks (suc rows) (at + length (entryBytes f)) s′))) same
@@ -128,20 +131,26 @@ cell-low tracks row track (brokenAt p) = refl
 cell-low tracks row track (whole rows) = rw (rows-from-low tracks rows)
 
 module _ (rows tracks : ℕ) (s s′ : List ℕ) (alike : lowReading (readStream rows tracks s) ≡ lowReading (readStream rows tracks s′)) where
-  -- A function of a reading that ignores these bits has the same value for both.
-  by-reading : {A : Type 0} (f : Reading → A) → ((r : Reading) → f (lowReading r) ≡ f r) → f (readStream rows tracks s) ≡ f (readStream rows tracks s′)
-  by-reading f low = sym (low (readStream rows tracks s)) ∙ ap f alike ∙ low (readStream rows tracks s′)
+  abbrev first : Reading
+  first = readStream rows tracks s
 
-  verdicts : verdictOfReading (readStream rows tracks s) ≡ verdictOfReading (readStream rows tracks s′)
+  abbrev second : Reading
+  second = readStream rows tracks s′
+
+  -- A function of a reading that ignores these bits has the same value for both.
+  by-reading : {A : Type 0} (f : Reading → A) → ((r : Reading) → f (lowReading r) ≡ f r) → f first ≡ f second
+  by-reading f low = sym (low first) ∙ ap f alike ∙ low second
+
+  verdicts : verdictOfReading first ≡ verdictOfReading second
   verdicts = by-reading verdictOfReading verdict-low
 
-  rows-same : rowsFrom tracks (entriesRead (readStream rows tracks s)) ≡ rowsFrom tracks (entriesRead (readStream rows tracks s′))
+  rows-same : rowsFrom tracks (entriesRead first) ≡ rowsFrom tracks (entriesRead second)
   rows-same = by-reading (λ (r : Reading). rowsFrom tracks (entriesRead r)) (entries-read-low tracks)
 
-  repacks-same : (room : ℕ) → repackOfReading (readStream rows tracks s) tracks room ≡ repackOfReading (readStream rows tracks s′) tracks room
+  repacks-same : (room : ℕ) → repackOfReading first tracks room ≡ repackOfReading second tracks room
   repacks-same room = by-reading (λ (r : Reading). repackOfReading r tracks room) (repack-low tracks room)
 
-  cells-same : (row track : ℕ) → cellOfReading (readStream rows tracks s) tracks row track ≡ cellOfReading (readStream rows tracks s′) tracks row track
+  cells-same : (row track : ℕ) → cellOfReading first tracks row track ≡ cellOfReading second tracks row track
   cells-same row track = by-reading (λ (r : Reading). cellOfReading r tracks row track) (cell-low tracks row track)
 
   answers-same : SameAnswers rows tracks s s′
@@ -152,13 +161,13 @@ module _ (rows tracks : ℕ) (s s′ : List ℕ) (alike : lowReading (readStream
     repacks = λ room. rw (repacks-same room);
     repacked = λ out. rw (repacks-same (length out), rows-same);
     cells = λ row track. rw (cells-same row track);
-    differences = λ pattern. rw rows-same (pattern-itself pattern tracks rows (rowsFrom tracks (entriesRead (readStream rows tracks s′))));
+    differences = λ pattern. rw rows-same (pattern-itself pattern tracks rows (rowsFrom tracks (entriesRead second)));
   }
 
   accepted-same : (cells : List ℕ) → AcceptedAs rows tracks s cells → AcceptedAs rows tracks s′ cells
-  accepted-same cells a = go (readStream rows tracks s′) refl
+  accepted-same cells a = go second refl
     where
-      go : (r : Reading) → readStream rows tracks s′ ≡ r → AcceptedAs rows tracks s′ cells
+      go : (r : Reading) → second ≡ r → AcceptedAs rows tracks s′ cells
       go (brokenAt p) e = let z : _≡_ {A = ℕ} 0 1 = cc in absurd (omega arith)
       go (whole entries) e = record {
         entries = entries;
@@ -171,16 +180,22 @@ pub same-answers : (rows tracks : ℕ) (s s′ : List ℕ) → SameButUpperBits 
 same-answers rows tracks s s′ d = answers-same rows tracks s s′ (same-read tracks d rows 0)
 
 -- Rows of sound entries, and the same rows without these bits.
+low-twice : (e : Entry) → withoutUpperBits e ≡ withoutUpperBits (withoutUpperBits e)
+low-twice e =
+    let same : e .mask % 64 ≡ e .mask % 64 % 64 = omega arith in
+    λ i. record { track = e .track; mask = same i; fields = e .fields }
+
 module _ (tracks : ℕ) where
   entries-same : (es : List Entry) {s s′ : List ℕ} → every (soundEntry tracks) es ≡ true → SameButUpperBits tracks s s′
       → SameButUpperBits tracks (rowStream es ++ s) (rowStream (map withoutUpperBits es) ++ s′)
   entries-same [] sound d = withRowEnd d
   entries-same (e ∷ es) sound d =
       let parts = and-true (soundEntry tracks e) (every (soundEntry tracks) es) sound in
-      let twice : e .mask % 64 ≡ e .mask % 64 % 64 = omega arith in
-      simp append-assoc (withEntry e (withoutUpperBits e) (parts .0) (λ i. record { track = e .track; mask = twice i; fields = e .fields }) (simp append-assoc at (entries-same es (parts .1) d)))
+      let rest = simp append-assoc at (entries-same es (parts .1) d) in
+      simp append-assoc (withEntry e (withoutUpperBits e) (parts .0) (low-twice e) rest)
 
-  streams-same : (entries : List (List Entry)) → allSound tracks entries ≡ true → SameButUpperBits tracks (streamOf entries) (streamOf (lowRows entries))
+  streams-same : (entries : List (List Entry)) → allSound tracks entries ≡ true
+      → SameButUpperBits tracks (streamOf entries) (streamOf (lowRows entries))
   streams-same [] sound = unchanged []
   streams-same (es ∷ entries) sound =
       let parts = and-true (every (soundEntry tracks) es) (allSound tracks entries) sound in

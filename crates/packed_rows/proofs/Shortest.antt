@@ -174,7 +174,8 @@ stream-packers tracks (es ∷ entries) h l =
     let empty = empty-length tracks in
     let first = carry-all-length tracks es (emptyRow tracks) (s .0) shaped in
     let others = stream-length tracks entries (s .1) in
-    next es (rw (empty-entries 1 tracks, append-nil (map withoutUpperBits es)) at (carry-all-packers tracks es (emptyRow tracks) (s .0) shaped (omega arith)))
+    let packers = carry-all-packers tracks es (emptyRow tracks) (s .0) shaped (omega arith) in
+    next es (rw (empty-entries 1 tracks, append-nil (map withoutUpperBits es)) at packers)
     (stream-packers tracks entries (s .1) (omega arith))
 
 reordered-entries : {rows tracks : ℕ} {pattern : List Row} {stream : List ℕ} → Shaped rows tracks pattern → Reordered pattern stream
@@ -218,7 +219,8 @@ equal-length rows tracks stream cells l e = (there, reordered-accepted rows trac
 -- The packer's own order is one of the orders.
 packed-reordered : {rows tracks : ℕ} {pattern : List Row} → Shaped rows tracks pattern → Reordered pattern (packedStream pattern)
 packed-reordered none = end
-packed-reordered (one {x = row} b s) = next {row = row} (packedEntries row) (rw (packed-low row b) (Permᴰ·refl (packedEntries row))) (packed-reordered s)
+packed-reordered (one {x = row} b s) =
+    next {row = row} (packedEntries row) (rw (packed-low row b) (Permᴰ·refl (packedEntries row))) (packed-reordered s)
 
 pub round-trip : (rows tracks : ℕ) (cells : List ℕ) → length cells ≡ cellBytes rows tracks
     → AcceptedAs rows tracks (packedStream (rowsOf rows tracks cells)) cells

@@ -58,6 +58,7 @@ entries-low (passed q p) (one l b) = entries-low p b
 pub packed-low : {n : ℕ} (row : Row) → Blocks n 6 row → map withoutUpperBits (packedEntries row) ≡ packedEntries row
 packed-low row b = entries-low (packs 1 row) b
 
-pub packed-rows-low : {rows tracks : ℕ} (pattern : List Row) → Shaped rows tracks pattern → lowRows (map packedEntries pattern) ≡ map packedEntries pattern
+pub packed-rows-low : {rows tracks : ℕ} (pattern : List Row) → Shaped rows tracks pattern
+    → lowRows (map packedEntries pattern) ≡ map packedEntries pattern
 packed-rows-low [] none = refl
 packed-rows-low (row ∷ pattern) (one b s) = rw (packed-low row b, packed-rows-low pattern s)
