@@ -1,4 +1,4 @@
--- Masks: the number of given bits has these bits, and the lowest bits of a number are those of the number below the power of 2.
+-- Masks: the number of given bits has these bits, and the lowest bits of a number are those of its remainder by a power of 2.
 use Prim.Native.Nat.{ℕ, zero, suc, _+_, _*_, _/_, _%_, _^_, _<_}
 use native.Mathlib.Nat.{pow-suc}
 use native.Mathlib.Omega.{arith}
@@ -26,7 +26,7 @@ pub bits-of : (n : ℕ) (bs : List Bool) → length bs ≡ n → bits n (ofBits 
 bits-of n [] l = rw (← l)
 bits-of n (b ∷ bs) l = rw (← l) (rw (low-bit b (ofBits bs), high-bits b (ofBits bs), bits-of (length bs) bs refl))
 
--- A number below 2 ^ n of its lowest n bits.
+-- The lowest n bits of a number are the bits of its remainder by 2 ^ n: as a number, and as bits.
 pub of-bits : (n m : ℕ) → ofBits (bits n m) ≡ m % 2 ^ n
 of-bits zero m = omega arith
 of-bits (suc n) m = rw (of-bits n (m / 2)) (go (eqb (m % 2) 1) refl)
@@ -42,7 +42,6 @@ length-bits : (n m : ℕ) → length (bits n m) ≡ n
 length-bits zero m = refl
 length-bits (suc n) m = ap suc (length-bits n (m / 2))
 
--- The lowest n bits are those of the number below 2 ^ n.
 pub low-bits : (n m : ℕ) → bits n (m % 2 ^ n) ≡ bits n m
 low-bits n m = ap (bits n) (sym (of-bits n m)) ∙ bits-of n (bits n m) (length-bits n m)
 

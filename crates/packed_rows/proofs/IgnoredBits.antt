@@ -1,4 +1,4 @@
--- Streams that differ only in bits 6 and 7 of masks are read alike (R3), so every call answers the same for them.
+-- Streams that differ only in bits 6 and 7 of masks are read alike (R3), so the calls on one stream answer the same for them.
 use Prim.Native.Nat.{ℕ, zero, suc, _+_, _%_, _≤_}
 use mathlib.Core.Path.{_≡_, refl, sym, ap, _∙_}
 use mathlib.Core.Logic.{_↔_}

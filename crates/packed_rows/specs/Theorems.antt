@@ -109,7 +109,8 @@ pub record PackedAndUnpacked (rows tracks : ℕ) (cells out back : List ℕ) : T
   pub unpacks : unpackAnswer (writtenTo cells rows tracks out) rows tracks (length back) ≡ Unpacked (cellBytes rows tracks)
   pub unpacked : unpackOutput (writtenTo cells rows tracks out) rows tracks back ≡ cells ++ drop (cellBytes rows tracks) back
 
--- Every call answers the same for two streams and leaves the same in an output, and the patterns that they hold have no differences.
+-- The calls on one stream answer the same for two streams and leave the same in an output, and the patterns that these hold have no
+-- differences (G5).
 pub record SameAnswers (rows tracks : ℕ) (s s′ : List ℕ) : Type 0 where
   pub checks : checkAnswer s rows tracks ≡ checkAnswer s′ rows tracks
   pub unpacks : (room : ℕ) → unpackAnswer s rows tracks room ≡ unpackAnswer s′ rows tracks room
