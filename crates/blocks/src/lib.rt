@@ -1,4 +1,7 @@
 // The blocks of a chunk: the size and the place of each, and whether they fill their chunk: refusal 11.
+
+#![tactic(auto)]
+
 pub mod stored;
 
 ghost use Rattle.std.specs.Prelude.{◌≡◌, [], ◌∷◌, not, ◌||◌, ◌+◌, ◌*◌, ◌%◌, ◌<◌};
@@ -15,7 +18,7 @@ use numbers::number16;
 use refusal::{Reason, Verdict, refuse};
 
 // The kind of a block.
-#[derive(Drop)]
+#[derive(Clone, Copy)]
 pub enum BlockKind {
     Song,
     Instrument,
@@ -25,7 +28,7 @@ pub enum BlockKind {
 }
 
 // The kind of a record: what a query is about. Both kinds of envelope have one kind of block.
-#[derive(Drop)]
+#[derive(Clone, Copy)]
 pub enum RecordKind {
     Song,
     Instrument,

@@ -1,9 +1,12 @@
 // Cells and notes as they are shown.
+
+#![tactic(auto)]
+
 ghost use Rattle.std.specs.Prelude.{◌≡◌};
 ghost use Rattle.cells.specs.Shown.{is_pitch, shown_note, note_numbers, shown_cell};
 
 // The note of a shown cell.
-#[derive(Drop)]
+#[derive(Clone, Copy)]
 pub enum Note {
     None,
     KeyOff,
@@ -13,7 +16,7 @@ pub enum Note {
 
 // A note in numbers: its kind (0 none, 1 key off, 2 pitch, 3 unknown), the octave and semitone of a pitch, the byte of an unknown note.
 // What a kind does not have is 0.
-#[derive(Drop)]
+#[derive(Clone, Copy)]
 pub struct NoteNumbers {
     pub kind: u8,
     pub octave: u8,
@@ -22,7 +25,7 @@ pub struct NoteNumbers {
 }
 
 // A shown cell.
-#[derive(Drop)]
+#[derive(Clone, Copy)]
 pub struct Cell {
     pub note: Note,
     pub instrument: u8,

@@ -1,5 +1,8 @@
 // Comparing two modules: the list of what differs, by the kinds and numbers of records. The blocks of both modules are walked together,
 // first to count the entries of the list, then to write them. The modules are read in place, and no memory is needed beyond a row of each.
+
+#![tactic(auto)]
+
 ghost use Rattle.std.specs.Prelude.{◌≡◌, ◌++◌, not, ◌+◌, ◌-◌, ◌*◌, ◌<◌, ◌≤◌, max, length};
 ghost use Rattle.numbers.specs.Numbers.{part_of};
 ghost use Rattle.differences.specs.Differences.{whole_difference, difference_if, entries_listed, equal_bytes};
@@ -31,7 +34,7 @@ use summary::name_of;
 
 // The number of entries in the list of differences.
 #[repr(C)]
-#[derive(Drop)]
+#[derive(Clone, Copy)]
 pub struct CompareAnswer {
     pub outcome: Outcome,
     pub entries: usize,

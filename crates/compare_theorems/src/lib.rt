@@ -1,1 +1,3 @@
 // The theorems about comparing two modules: proofs/Theorems.antt. This crate has no code.
+
+#![tactic(auto)]

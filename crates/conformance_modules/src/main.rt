@@ -12,6 +12,9 @@
 //      the answer with the two exchanged.
 // Room is the length of the lent output. Every output has at most 65,536 bytes; a greater length is taken as that. Each byte of
 // the output is 170 before the call. Any other first byte, or a case that is cut, ends the run. The last line is the number of cases.
+
+#![tactic(auto)]
+
 mod cases;
 mod compared;
 mod replaced;

@@ -3,7 +3,7 @@
 use conformance_text::text::{fill, print_bytes, within};
 
 // The sample to replace, and the room of the case.
-#[derive(Drop)]
+#[derive(Clone, Copy)]
 pub struct Replacement {
     pub sample: usize,
     pub room: usize,

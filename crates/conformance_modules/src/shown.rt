@@ -8,7 +8,7 @@ use conformance_text::text::{
 use envelopes::{CountAnswer, EnvelopeAnswer, EnvelopeKind};
 
 // The indices of the queries.
-#[derive(Drop)]
+#[derive(Clone, Copy)]
 pub struct Asked {
     pub song: usize,
     pub entry: usize,

@@ -7,6 +7,9 @@
 //   3, the six bytes of a cell: prints the shown cell.
 // Room is the length of the lent output; more than 65,536 is taken as 65,536. Each byte of the output is 170 before the call.
 // Any other first byte, or a case that is cut, ends the run. The last line is the number of cases.
+
+#![tactic(auto)]
+
 mod cases;
 
 use crate::cases::run;

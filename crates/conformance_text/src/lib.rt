@@ -1,4 +1,7 @@
 // What the conformance programs share: the numbers at the head of a case, lines of text, printing answers, and room.
+
+#![tactic(auto)]
+
 pub mod answers;
 pub mod heads;
 pub mod text;

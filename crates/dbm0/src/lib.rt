@@ -1,5 +1,8 @@
 // The C entry points of the module reader: the check of a module, every query about it, all its records, its repacking, the replacement of
 // a sample, and the comparison with another module. An answer begins with the refusal's number (0: none) and place.
+
+#![tactic(auto)]
+
 ghost use Rattle.std.specs.Prelude.{◌≡◌, length};
 ghost use Rattle.refusal.specs.Numbers.{outcome_numbers, verdict_numbers};
 ghost use Rattle.packed_rows.specs.Answers.{cell_numbers};
@@ -32,7 +35,7 @@ use summary::{InfoAnswer, NameAnswer, VersionAnswer};
 
 // A cell.
 #[repr(C)]
-#[derive(Drop)]
+#[derive(Clone, Copy)]
 pub struct PatternCell {
     pub outcome: Outcome,
     pub kind: u8,

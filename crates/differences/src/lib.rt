@@ -1,4 +1,7 @@
 // The list of differences of two modules: its entries, writing one of them, and whether two slices have the same bytes.
+
+#![tactic(auto)]
+
 ghost use Rattle.std.specs.Prelude.{◌≡◌, ◌*◌, ◌≤◌, length};
 ghost use Rattle.numbers.specs.Numbers.{put_at};
 ghost use Rattle.differences.specs.Differences.{difference_bytes, whole_difference, difference_if, entries_listed, equal_bytes};
@@ -6,7 +9,7 @@ ghost use Rattle.differences.specs.Differences.{difference_bytes, whole_differen
 use numbers::put16;
 
 // An entry of the list of differences. Row, track and field are 0 except for a field of a cell.
-#[derive(Drop)]
+#[derive(Clone, Copy)]
 pub struct Difference {
     pub kind: u16,
     pub number: u16,

@@ -1,4 +1,7 @@
 // Envelopes: their number, and one of them. Each query gives the module's own refusal, then 18.
+
+#![tactic(auto)]
+
 ghost use Rattle.std.specs.Prelude.{◌≡◌, leb, length};
 ghost use Rattle.numbers.specs.Numbers.{each_from};
 ghost use Rattle.envelopes.specs.Shown.{record_kind, no_count, count_answer, position_shown, value_of, value_shown, no_envelope, shown_envelope, envelope_answer};
@@ -15,7 +18,7 @@ use queries::{Found, find};
 use refusal::{Outcome, Refusal, Verdict, outcome_of};
 
 // The two kinds of envelope.
-#[derive(Drop)]
+#[derive(Clone, Copy)]
 pub enum EnvelopeKind {
     Volume,
     Panning,
@@ -23,7 +26,7 @@ pub enum EnvelopeKind {
 
 // The number of envelopes of a kind.
 #[repr(C)]
-#[derive(Drop)]
+#[derive(Clone, Copy)]
 pub struct CountAnswer {
     pub outcome: Outcome,
     pub count: u16,
@@ -31,7 +34,7 @@ pub struct CountAnswer {
 
 // An envelope. Panning values are −128 to 128 in both versions; points not in use are zeros.
 #[repr(C)]
-#[derive(Drop)]
+#[derive(Clone, Copy)]
 pub struct EnvelopeAnswer {
     pub outcome: Outcome,
     pub instrument: u16,

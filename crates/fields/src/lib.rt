@@ -1,5 +1,8 @@
 // The checked fields of the blocks, in the order of the chunks: refusals 12 and 13. Songs and instruments are checked here, envelopes in
 // their own file.
+
+#![tactic(auto)]
+
 mod envelopes;
 
 ghost use Rattle.std.specs.Prelude.{◌≡◌};

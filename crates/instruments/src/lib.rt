@@ -1,4 +1,7 @@
 // Instruments, all fields as stored. The query gives the module's own refusal, then 18.
+
+#![tactic(auto)]
+
 ghost use Rattle.std.specs.Prelude.{◌≡◌};
 ghost use Rattle.numbers.specs.Numbers.{bytes_from};
 ghost use Rattle.instruments.specs.Shown.{no_instrument, shown_instrument, instrument_answer};
@@ -14,7 +17,7 @@ use refusal::{Outcome, Refusal, Verdict, outcome_of};
 
 // An instrument.
 #[repr(C)]
-#[derive(Drop)]
+#[derive(Clone, Copy)]
 pub struct InstrumentAnswer {
     pub outcome: Outcome,
     pub name: [u8; 30],

@@ -1,4 +1,7 @@
 // The header of a module, and the walk over its chunks: refusals 1 to 10.
+
+#![tactic(auto)]
+
 mod header;
 mod walk;
 
@@ -13,7 +16,7 @@ use numbers::{byte, number16};
 use refusal::{Reason, Refusal, Verdict, refuse};
 
 // The span of a chunk: the place of its header and the length of its data. All fields are 0 if the chunk is absent.
-#[derive(Drop)]
+#[derive(Clone, Copy)]
 pub struct ChunkSpan {
     pub present: bool,
     pub at: u32,
@@ -21,7 +24,7 @@ pub struct ChunkSpan {
 }
 
 // The spans of the covered chunks.
-#[derive(Drop)]
+#[derive(Clone, Copy)]
 pub struct ChunkSpans {
     pub name: ChunkSpan,
     pub info: ChunkSpan,
@@ -34,7 +37,7 @@ pub struct ChunkSpans {
 }
 
 // The layout of a module, known after its chunks are read: header, INFO's numbers, and the spans of the chunks.
-#[derive(Drop)]
+#[derive(Clone, Copy)]
 pub struct Layout {
     pub version: u8,
     pub revision: u8,
@@ -47,7 +50,7 @@ pub struct Layout {
 }
 
 // The layout of a module, or a refusal.
-#[derive(Drop)]
+#[derive(Clone, Copy)]
 pub enum Outline {
     Found(Layout),
     Refused(Refusal),

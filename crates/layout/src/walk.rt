@@ -27,7 +27,7 @@ const VENV: u32 = 0x56454E56;
 const PENV: u32 = 0x50454E56;
 
 // The result of the walk: the spans of the covered chunks, or a refusal.
-#[derive(Drop)]
+#[derive(Clone, Copy)]
 pub enum Walked {
     Whole(ChunkSpans),
     Refused(Refusal),

@@ -1,5 +1,8 @@
 // Prints the listing of the module on standard input, as in document 01: its seven lines, or `refused NUMBER at PLACE`. For more than
 // 65,536 bytes it prints `input too big`, and for an input that cannot be read to its end `input not read`.
+
+#![tactic(auto)]
+
 ghost use Rattle.std.specs.Prelude.{◌≡◌, ◌≤◌, length, take};
 ghost use Rattle.io.specs.Counts.{IsPrefixLen};
 ghost use Rattle.listing.specs.Printed.{printed};
@@ -8,7 +11,7 @@ ghost use Rattle.listing.specs.Inputs.{Inside};
 use listing_text::Listing;
 
 // The result of reading the input: the number of its bytes, or none if a read failed.
-#[derive(Drop)]
+#[derive(Clone, Copy)]
 enum Input {
     Read(usize),
     NotRead,

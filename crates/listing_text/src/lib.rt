@@ -1,4 +1,7 @@
 // The listing of a module, as document 01's program prints it, written to a lent output.
+
+#![tactic(auto)]
+
 mod text;
 
 ghost use Rattle.std.specs.Prelude.{◌≡◌, ◌≤◌, length};
@@ -11,7 +14,7 @@ use layout::Outline;
 use refusal::{Reason, Refusal, refuse};
 
 // The answer of writing the listing: its length, or a refusal.
-#[derive(Drop)]
+#[derive(Clone, Copy)]
 pub enum Listing {
     Written(usize),
     Refused(Refusal),

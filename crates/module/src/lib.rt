@@ -1,5 +1,8 @@
 // The check of a whole module. The crates below define a module's numbers, chunks, blocks and checked fields. This one checks its loops and
 // packed streams, refusals 14 and 15, and puts all refusals in order.
+
+#![tactic(auto)]
+
 mod loops;
 mod passes;
 mod streams;

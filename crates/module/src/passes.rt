@@ -13,7 +13,7 @@ use layout::{ChunkSpan, Layout};
 use refusal::Verdict;
 
 // What a pass checks.
-#[derive(Drop)]
+#[derive(Clone, Copy)]
 pub enum Pass {
     Loops,
     Streams,

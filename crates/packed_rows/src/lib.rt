@@ -1,4 +1,7 @@
 // Packed rows: check, unpack, pack and repack a stream, compare two streams, read one cell of a stream, and count the fields of a mask.
+
+#![tactic(auto)]
+
 mod comparer;
 mod packer;
 mod reader;
@@ -26,28 +29,28 @@ use cells::{Cell, shown};
 use refusal::{Reason, Refusal, Verdict, refuse};
 
 // The answer of unpacking: the length written, or a refusal.
-#[derive(Drop)]
+#[derive(Clone, Copy)]
 pub enum Unpacking {
     Unpacked(usize),
     Refused(Refusal),
 }
 
 // The answer of packing and repacking: the packed length, or a refusal.
-#[derive(Drop)]
+#[derive(Clone, Copy)]
 pub enum Packing {
     Packed(usize),
     Refused(Refusal),
 }
 
 // The answer of comparing two streams: the number of entries in the list of differences, or a refusal.
-#[derive(Drop)]
+#[derive(Clone, Copy)]
 pub enum Comparison {
     Compared(usize),
     Refused(Refusal),
 }
 
 // The answer to a query for one cell.
-#[derive(Drop)]
+#[derive(Clone, Copy)]
 pub enum CellAnswer {
     Found(Cell),
     Refused(Refusal),

@@ -1,5 +1,8 @@
 // The C entry points of packed rows. The fields of an answer are the numbers of the call's own answer. The check writes nothing, so its
 // length is 0.
+
+#![tactic(auto)]
+
 ghost use Rattle.std.specs.Prelude.{◌≡◌, [], ◌∷◌, ◌++◌, length};
 ghost use Rattle.refusal.specs.Numbers.{verdict_numbers};
 ghost use Rattle.refusal.specs.Lengths.{length_numbers};

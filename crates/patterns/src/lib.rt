@@ -1,5 +1,8 @@
 // Patterns: rows, one cell, and the whole pattern unpacked. Each query gives the module's own refusal, then 18, then 17. Only the contracts
 // of `packed_rows` are used.
+
+#![tactic(auto)]
+
 ghost use Rattle.std.specs.Prelude.{◌≡◌, length};
 ghost use Rattle.refusal.specs.Numbers.{IsAnswer};
 ghost use Rattle.packed_rows.specs.Answers.{cell_numbers};
@@ -13,7 +16,7 @@ use refusal::{LengthAnswer, Outcome, Refusal, Verdict, outcome_of, refused, writ
 
 // The number of rows of a pattern.
 #[repr(C)]
-#[derive(Drop)]
+#[derive(Clone, Copy)]
 pub struct RowsAnswer {
     pub outcome: Outcome,
     pub rows: u16,

@@ -1,4 +1,7 @@
 // What all queries about a module have in common: finding a block, and reading a name.
+
+#![tactic(auto)]
+
 ghost use Rattle.std.specs.Prelude.{◌≡◌};
 ghost use Rattle.refusal.specs.Numbers.{IsAnswer};
 ghost use Rattle.numbers.specs.Numbers.{SmallPlace, bytes_from};
@@ -10,7 +13,7 @@ use numbers::copy;
 use refusal::{Reason, Refusal, refuse};
 
 // The place of a block of an accepted module, and the version and tracks by which it is shown.
-#[derive(Drop)]
+#[derive(Clone, Copy)]
 pub struct Block {
     pub at: usize,
     pub version: u8,
@@ -18,7 +21,7 @@ pub struct Block {
 }
 
 // The requested block, or a refusal.
-#[derive(Drop)]
+#[derive(Clone, Copy)]
 pub enum Found {
     At(Block),
     Refused(Refusal),

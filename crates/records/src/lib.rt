@@ -1,5 +1,8 @@
 // All records of a module by one call: one check of the module, and one pass over its blocks. Each record contains exactly what its own
 // query answers.
+
+#![tactic(auto)]
+
 ghost use Rattle.std.specs.Prelude.{◌≡◌, ◌++◌, ◌<◌, ◌≤◌, length, drop};
 ghost use Rattle.std.specs.Int.Signed.{mag};
 ghost use Rattle.vocabulary.specs.Lists.{Every};

@@ -1,11 +1,14 @@
 // Document 01's refusals: the reasons, their numbers, the one function that makes a refusal, the one that makes the first part of an
 // answer, and the answer of a call that fills a lent output.
+
+#![tactic(auto)]
+
 ghost use Rattle.std.specs.Prelude.{◌≡◌};
 ghost use Rattle.refusal.specs.Numbers.{number_of, refusal, outcome_of};
 ghost use Rattle.refusal.specs.Lengths.{refused_length, written_length};
 
 // The reason of a refusal, in the order of document 01's table.
-#[derive(Drop)]
+#[derive(Clone, Copy)]
 pub enum Reason {
     // The module has over 16,777,216 bytes.
     TooLong,
@@ -48,14 +51,14 @@ pub enum Reason {
 }
 
 // A refusal: document 01's number, and the place.
-#[derive(Drop)]
+#[derive(Clone, Copy)]
 pub struct Refusal {
     pub number: u8,
     pub place: usize,
 }
 
 // The result of a check.
-#[derive(Drop)]
+#[derive(Clone, Copy)]
 pub enum Verdict {
     Accepted,
     Refused(Refusal),
@@ -63,7 +66,7 @@ pub enum Verdict {
 
 // The first part of every answer: the refusal's number and place, 0 and 0 if there is none.
 #[repr(C)]
-#[derive(Drop)]
+#[derive(Clone, Copy)]
 pub struct Outcome {
     pub number: u64,
     pub place: usize,
@@ -71,7 +74,7 @@ pub struct Outcome {
 
 // The answer of a call that fills a lent output: the length written, 0 on a refusal.
 #[repr(C)]
-#[derive(Drop)]
+#[derive(Clone, Copy)]
 pub struct LengthAnswer {
     pub outcome: Outcome,
     pub length: usize,

@@ -1,6 +1,9 @@
 // Repacking a whole module: the streams in PATT are replaced by the packer's, with the lengths that change with them; all other bytes are
 // unchanged. Only the promises of `packed_rows` are used about packed rows. The module is read in place, and no memory is needed beyond one
 // row.
+
+#![tactic(auto)]
+
 ghost use Rattle.std.specs.Prelude.{◌≡◌, ◌++◌, ◌+◌, ◌<◌, ◌≤◌, length, drop};
 ghost use Rattle.refusal.specs.declared.Verdict.TheVariants.{Accepted};
 ghost use Rattle.layout.specs.declared.Outline.TheVariants.{Found};

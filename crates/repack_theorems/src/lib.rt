@@ -1,1 +1,3 @@
 // The theorems about repacking a module: proofs/Theorems.antt. This crate has no code.
+
+#![tactic(auto)]

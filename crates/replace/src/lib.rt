@@ -1,5 +1,8 @@
 // Replacing a sample of a module by 16-bit frames. The sample's block and the length of SMPL are rewritten, and the loops of instruments that
 // no longer fit the sample are cleared; all other bytes are unchanged. The module is read in place, and no memory is needed.
+
+#![tactic(auto)]
+
 ghost use Rattle.std.specs.Prelude.{◌≡◌, [], ◌∷◌, ◌++◌, map, true, ◌+◌, ◌-◌, ◌≤◌, length, drop};
 ghost use Rattle.packed_rows.specs.Entries.{count};
 ghost use Rattle.layout.specs.declared.Outline.TheVariants.{Found as Opened};
@@ -26,7 +29,7 @@ use refusal::{Outcome, Reason, Refusal, Verdict, outcome_of, refuse};
 
 // The length of the module that was written, and the number of instruments whose loop was cleared.
 #[repr(C)]
-#[derive(Drop)]
+#[derive(Clone, Copy)]
 pub struct ReplaceAnswer {
     pub outcome: Outcome,
     pub length: usize,

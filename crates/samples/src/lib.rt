@@ -1,5 +1,8 @@
 // Samples: width and number of frames, the frames as a part of the module itself, one frame and all frames at 16 bits. Each query gives the
 // module's own refusal, then 18, then 17.
+
+#![tactic(auto)]
+
 ghost use Rattle.std.specs.Prelude.{◌≡◌, ◌*◌, ◌/◌, ◌<◌, ◌+◌, min, length};
 ghost use Rattle.refusal.specs.Lengths.{length_if, output_of};
 ghost use Rattle.numbers.specs.Numbers.{SmallPlace, signed16};
@@ -18,7 +21,7 @@ use refusal::{
 
 // A sample: the bits of a frame (8, 16 or 32), and the number of frames.
 #[repr(C)]
-#[derive(Drop)]
+#[derive(Clone, Copy)]
 pub struct SampleAnswer {
     pub outcome: Outcome,
     pub width: u8,
@@ -27,7 +30,7 @@ pub struct SampleAnswer {
 
 // The offset of a sample's frames in the module, and their length in bytes.
 #[repr(C)]
-#[derive(Drop)]
+#[derive(Clone, Copy)]
 pub struct FramesAnswer {
     pub outcome: Outcome,
     pub offset: usize,
@@ -36,7 +39,7 @@ pub struct FramesAnswer {
 
 // A frame at 16 bits.
 #[repr(C)]
-#[derive(Drop)]
+#[derive(Clone, Copy)]
 pub struct FrameAnswer {
     pub outcome: Outcome,
     pub frame: i16,

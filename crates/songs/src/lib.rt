@@ -1,4 +1,7 @@
 // Songs: name and length, one entry of a playlist, and a whole playlist. Each query gives the module's own refusal, then 18, then 17.
+
+#![tactic(auto)]
+
 ghost use Rattle.std.specs.Prelude.{◌≡◌, length};
 ghost use Rattle.refusal.specs.Lengths.{length_if, output_of};
 ghost use Rattle.numbers.specs.Numbers.{SmallPlace};
@@ -15,7 +18,7 @@ use refusal::{
 
 // A song: its name, and the number of entries of its playlist.
 #[repr(C)]
-#[derive(Drop)]
+#[derive(Clone, Copy)]
 pub struct SongAnswer {
     pub outcome: Outcome,
     pub name: [u8; 44],
@@ -24,7 +27,7 @@ pub struct SongAnswer {
 
 // An entry of a playlist: the number of a pattern.
 #[repr(C)]
-#[derive(Drop)]
+#[derive(Clone, Copy)]
 pub struct EntryAnswer {
     pub outcome: Outcome,
     pub pattern: u16,

@@ -1,4 +1,7 @@
 // Version, name and INFO's numbers of a module. Each query gives the module's own refusal first.
+
+#![tactic(auto)]
+
 ghost use Rattle.std.specs.Prelude.{◌≡◌};
 ghost use Rattle.summary.specs.Shown.{no_version, version_answer, no_name, name_of, name_answer, no_info, info_answer};
 
@@ -8,7 +11,7 @@ use refusal::{Outcome, Refusal, Verdict, outcome_of};
 
 // Version and revision, as stored.
 #[repr(C)]
-#[derive(Drop)]
+#[derive(Clone, Copy)]
 pub struct VersionAnswer {
     pub outcome: Outcome,
     pub version: u8,
@@ -17,7 +20,7 @@ pub struct VersionAnswer {
 
 // The module's name.
 #[repr(C)]
-#[derive(Drop)]
+#[derive(Clone, Copy)]
 pub struct NameAnswer {
     pub outcome: Outcome,
     pub name: [u8; 44],
@@ -25,7 +28,7 @@ pub struct NameAnswer {
 
 // The numbers of instruments, samples, songs and patterns, and the number of tracks of a pattern.
 #[repr(C)]
-#[derive(Drop)]
+#[derive(Clone, Copy)]
 pub struct InfoAnswer {
     pub outcome: Outcome,
     pub instruments: u16,
