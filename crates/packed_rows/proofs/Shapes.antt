@@ -64,7 +64,7 @@ module _ {A : Type 0} {P : A → Type 0} where
     map_back f g h none = refl
     map_back f g h (one {x = x} p e) = rw (h x p, map_back f g h e)
 
-pub length-joined : {A : Type 0} {n : ℕ} (size : ℕ) {xs : List (List A)} → Blocks n size xs → length (joined xs) ≡ n * size
+pub length-joined : {A : Type 0} (size : ℕ) {n : ℕ} {xs : List (List A)} → Blocks n size xs → length (joined xs) ≡ n * size
 length-joined size none = sym (zero-mul size)
 length-joined size (one {n = n} p e) = rw (suc-mul, length-append, p, length-joined size e) (omega arith)
 
@@ -80,7 +80,7 @@ joined-blocks zero size (b ∷ bytes) e = absurd (omega (arith, zero-mul size))
 joined-blocks (suc n) size bytes e =
     rw (joined-blocks n size (drop size bytes) (simp length-drop (omega (arith, suc-mul n size)))) (take-append-drop size bytes)
 
-pub blocks-joined : {n : ℕ} (size : ℕ) {xs : List (List ℕ)} → Blocks n size xs → groups_of n size (joined xs) ≡ xs
+pub blocks-joined : (size : ℕ) {n : ℕ} {xs : List (List ℕ)} → Blocks n size xs → groups_of n size (joined xs) ≡ xs
 blocks-joined size none = refl
 blocks-joined size (one {x = x} {xs = xs} p e) = rw (take_at x (joined xs) size p, drop_at x (joined xs) size p, blocks-joined size e)
 
@@ -120,7 +120,7 @@ module _ {A : Type 0} {P : A → Type 0} where
   each_append {m = m} none e = rw zero-add e
   each_append {m = m} (one p d) e = rw suc-add (one p (each_append d e))
 
-  pub each-joined : {n m : ℕ} {xs : List (List A)} → Each (Each P m) n xs → Each P (n * m) (joined xs)
+  pub each-joined : {m n : ℕ} {xs : List (List A)} → Each (Each P m) n xs → Each P (n * m) (joined xs)
   each-joined {m = m} none = rw (zero-mul m) none
   each-joined {m = m} (one {n = n} p e) = rw (suc-mul n m, add_comm) (each_append p (each-joined e))
 
@@ -131,7 +131,7 @@ joined-rows rows tracks bytes e =
     ∙ ap (groups_of (rows * tracks) 6) (sym (bytes-joined (rows_of rows tracks bytes)) ∙ bytes-rows rows tracks bytes e)
 
 -- An element of joined lists.
-pub get_or-joined : {A : Type 0} {n : ℕ} (size : ℕ) {xs : List (List A)} → Blocks n size xs → (i j : ℕ) (other : List A) (d : A) → i < n → j < size
+pub get_or-joined : {A : Type 0} (size : ℕ) {n : ℕ} {xs : List (List A)} → Blocks n size xs → (i j : ℕ) (other : List A) (d : A) → i < n → j < size
     → get_or (joined xs) (i * size + j) d ≡ get_or (get_or xs i other) j d
 get_or-joined size none i j other d h l = absurd (omega arith)
 get_or-joined size (one {x = x} {xs = xs} p e) zero j other d h l = rw (zero-mul, zero-add) (get_or-append x (joined xs) d j (omega arith))
@@ -158,7 +158,7 @@ carry-shaped {tracks} {row} e b =
     each_set (e.track - 1) _
     (length-store (named e.mask) e.fields (get_or row (e.track - 1) empty_cell) ∙ each-get_or (e.track - 1) empty_cell refl b) b
 
-pub carry-all-shaped : {tracks : ℕ} {row : Row} (es : List Entry) → Blocks tracks 6 row → Blocks tracks 6 (carry_all es row)
+pub carry-all-shaped : {tracks : ℕ} (es : List Entry) {row : Row} → Blocks tracks 6 row → Blocks tracks 6 (carry_all es row)
 carry-all-shaped [] b = b
 carry-all-shaped (e ∷ es) b = carry-all-shaped es (carry-shaped e b)
 

@@ -178,7 +178,7 @@ stream-packers tracks (es ∷ entries) h l =
     next es (rw (empty-entries 1 tracks, append-nil (map without_upper_bits es)) at packers)
     (stream-packers tracks entries s.1 (omega arith))
 
-reordered-entries : {rows tracks : ℕ} {pattern : List Row} {stream : List ℕ} → Shaped rows tracks pattern → Reordered pattern stream
+reordered-entries : {tracks rows : ℕ} {pattern : List Row} {stream : List ℕ} → Shaped rows tracks pattern → Reordered pattern stream
     → (entries : List (List Entry)) × SoundStream rows tracks stream entries × (rows_from tracks entries ≡ pattern)
 reordered-entries none end = ([], record { count = refl; sound = refl; bytes = refl }, refl)
 reordered-entries {tracks = tracks} (one b s) (next es d r) =
@@ -217,7 +217,7 @@ equal-length rows tracks stream cells l e = (there, reordered-accepted rows trac
         (stream-packers tracks accepted.entries read.sound (omega (arith, ap length read.bytes, ap packed_length (accepted-rows accepted))))
 
 -- The packer's own order is one of the orders.
-packed-reordered : {rows tracks : ℕ} {pattern : List Row} → Shaped rows tracks pattern → Reordered pattern (packed_stream pattern)
+packed-reordered : {tracks rows : ℕ} {pattern : List Row} → Shaped rows tracks pattern → Reordered pattern (packed_stream pattern)
 packed-reordered none = end
 packed-reordered (one {x = row} b s) =
     next {row = row} (packed_entries row) (rw (packed-low row b) (Permᴰ.refl (packed_entries row))) (packed-reordered s)

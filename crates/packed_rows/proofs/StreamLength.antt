@@ -81,7 +81,7 @@ row-length-most : {tracks : ℕ} {row : Row} → Blocks tracks 6 row → row_len
 row-length-most none = omega arith
 row-length-most (one {x = cell} {xs = row} p e) = omega (arith, row-length-cons cell row, cell-length-most cell, non-zeros-most cell, row-length-most e)
 
-pub packed-length-most : {rows tracks : ℕ} {pattern : List Row} → Shaped rows tracks pattern → packed_length pattern ≤ rows * (1 + 8 * tracks)
+pub packed-length-most : {tracks rows : ℕ} {pattern : List Row} → Shaped rows tracks pattern → packed_length pattern ≤ rows * (1 + 8 * tracks)
 packed-length-most none = omega arith
 packed-length-most {tracks = tracks} (one {n = n} {x = row} {xs = rows} b s) =
     omega (arith, packed-length-cons row rows, row-length-most b, packed-length-most s, suc-mul n (1 + 8 * tracks))
