@@ -9,6 +9,7 @@ ghost use Rattle.listing.specs.Printed.{printed};
 ghost use Rattle.listing.specs.Inputs.{Inside};
 
 use listing_text::Listing;
+use std::io::Read;
 
 // The result of reading the input: the number of its bytes, or none if a read failed.
 #[derive(Clone, Copy)]
@@ -25,21 +26,21 @@ fn input_space() -> [u8; 65537]
     [0; 65537]
 }
 
-// Reads standard input until it ends or there is no more room. A read that fails is distinguished from the end.
-fn read_input(input: &mut [u8]) -> Input
+// Reads until the reader ends or there is no more room. A read that fails is distinguished from the end.
+fn read_input<R: Read>(reader: &mut R, input: &mut [u8]) -> Input
     ensures { Inside result input.new }
 {
     let mut n: usize = 0;
     while n < input.len() {
-        let got = libc::read(0, &mut input[n..]);
-        if got < 0 {
-            return Input::NotRead;
+        match reader.read(&mut input[n..]) {
+            Err(_) => return Input::NotRead,
+            Ok(more) => {
+                if more == 0 {
+                    return Input::Read(n);
+                }
+                n = n + more;
+            }
         }
-        let more = io::count(got, &input[n..]);
-        if more == 0 {
-            return Input::Read(n);
-        }
-        n = n + more;
     }
     Input::Read(n)
 }
@@ -71,9 +72,10 @@ fn put_printed(text: &mut [u8], input: &[u8]) -> usize
     }
 }
 
-fn main() {
+fn main(rt: HostRuntime) {
     let mut input = input_space();
-    match read_input(&mut input) {
+    let mut reader = rt.reader();
+    match read_input(&mut reader, &mut input) {
         Input::Read(n) => {
             let mut text = [0u8; 256];
             let k = put_printed(&mut text, &input[..n]);

@@ -53,7 +53,7 @@ fn write_summary(m: &[u8], l: Layout, out: &mut [u8])
     let name = name_of(m, l);
     out[0] = l.version;
     out[1] = l.revision;
-    bytes::copy(&name, &mut out[2..]);
+    byte_copy::copy(&name, &mut out[2..]);
     write_counts(m, l, out);
 }
 

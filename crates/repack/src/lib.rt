@@ -70,7 +70,7 @@ fn write_block(m: &[u8], tracks: u16, at: usize, out: &mut [u8]) -> usize
     ensures { (result ≡ length (repacked_block m.now tracks at))
         × (out.new ≡ repacked_block m.now tracks at ++ drop result out.old) }
 {
-    bytes::copy(part(m, at, 2), out);
+    byte_copy::copy(part(m, at, 2), out);
     let n = repack_stream(m, tracks, at, &mut out[6..]);
     put32(n as u32, 2, out);
     let end = 6 + n;
@@ -109,7 +109,7 @@ fn write_front(m: &[u8], chunk: ChunkSpan, patterns: u16, tracks: u16, out: &mut
 {
     let front = (chunk.at as usize) + 4;
     let start = front + 4;
-    bytes::copy(&m[..front], out);
+    byte_copy::copy(&m[..front], out);
     let rewritten = write_data(m, chunk, patterns, tracks, &mut out[start..]);
     put32(rewritten as u32, front, out);
     start + rewritten
@@ -125,7 +125,7 @@ fn write_module(m: &[u8], chunk: ChunkSpan, patterns: u16, tracks: u16, out: &mu
 {
     let end = write_front(m, chunk, patterns, tracks, out);
     let rest = (chunk.at as usize) + 8 + (chunk.length as usize);
-    bytes::copy(&m[rest..], &mut out[end..]);
+    byte_copy::copy(&m[rest..], &mut out[end..]);
     end + (m.len() - rest)
 }
 

@@ -63,7 +63,7 @@ fn write_instrument(m: &[u8], sample: usize, frames: usize, at: usize, out: &mut
     ensures { (result ≡ count (loop_cleared m.now sample frames at ∷ []))
         × (out.new ≡ rewritten_instrument m.now sample frames at ++ drop 50 out.old) }
 {
-    bytes::copy(part(m, at, 50), out);
+    byte_copy::copy(part(m, at, 50), out);
     if !loop_cleared(m, sample, frames, at) {
         return 0;
     }
@@ -108,7 +108,7 @@ fn write_block(new: &[u8], out: &mut [u8]) -> usize
 {
     put32(2, SAMPLE_FLAGS, out);
     put32((new.len() / 2) as u32, SAMPLE_FRAMES, out);
-    bytes::copy(new, &mut out[SAMPLE_BYTES..]);
+    byte_copy::copy(new, &mut out[SAMPLE_BYTES..]);
     SAMPLE_BYTES + new.len()
 }
 
@@ -117,7 +117,7 @@ fn write_front(m: &[u8], smpl: ChunkSpan, at: usize, content: u32, out: &mut [u8
     requires { SampleIn m.now smpl at × (at ≤ length out.old) }
     ensures { out.new ≡ front_with m.now smpl at content ++ drop at out.old }
 {
-    bytes::copy(&m[..at], out);
+    byte_copy::copy(&m[..at], out);
     put32(content, (smpl.at as usize) + 4, out);
 }
 
@@ -133,7 +133,7 @@ fn write_samples(m: &[u8], smpl: ChunkSpan, at: usize, new: &[u8], out: &mut [u8
     write_front(m, smpl, at, content as u32, out);
     let end = at + write_block(new, &mut out[at..]);
     let rest = at + old;
-    bytes::copy(&m[rest..], &mut out[end..]);
+    byte_copy::copy(&m[rest..], &mut out[end..]);
 }
 
 // The place of INST's data after a block of SMPL of one length is replaced by one of another: what comes after the block moves.

@@ -1,4 +1,6 @@
+use mathlib.Core.Path.{refl}
+use Rattle.conformance_text.proofs.Spaces.{zeros-long}
 use Rattle.conformance_text.proofs.input_space.Goals as goal
 
 pub returns : goal.returns
-returns c = (c.zeros.ensures.long, c.zeros.ensures.zeros)
+returns c = zeros-long 524288 _ refl

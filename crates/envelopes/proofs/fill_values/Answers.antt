@@ -24,7 +24,7 @@ pub loop-i-preserved : goal.loop-i-preserved
 loop-i-preserved c =
     let value = c.value-v in
     filling-turn _ _ _ _ _ _ c.loop-i.invariant c.loop-i-test.true
-    (to_z-of_z w32 value.result (record { sfits = value.type-inv })
+    (to_z-of_z w32 value.result (record { sfits = value.type_inv })
     ∙ value.ensures
     ∙ ap (value_shown c.args.m.now c.args.kind c.args.version c.args.at c.args.sections) (sym (zero-add _)))
 

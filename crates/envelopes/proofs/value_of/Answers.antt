@@ -16,7 +16,7 @@ pub returns-then-version-eq2 : goal.returns-then-version-eq2
 returns-then-version-eq2 c = simp (c.in-Panning.is, eq-eqb _ _ c.if-version-eq2.true) (scaled _ c.ranges.v.fits)
 
 pub overflow_cast-result-in-Panning : goal.overflow_cast-result-in-Panning
-overflow_cast-result-in-Panning c = widened-fits c.signed.result c.signed.type-inv
+overflow_cast-result-in-Panning c = widened-fits c.signed.result c.signed.type_inv
 
 pub returns-in-Volume : goal.returns-in-Volume
 returns-in-Volume c = rw c.in-Volume.is (to_z_pos w32 _ (omega arith))
@@ -25,4 +25,4 @@ pub returns-else-version-eq2 : goal.returns-else-version-eq2
 returns-else-version-eq2 c =
     let signed = c.signed in
     simp (c.in-Panning.is, ne_eqb _ _ c.if-version-eq2.false)
-    (widened signed.result signed.type-inv ∙ signed.ensures)
+    (widened signed.result signed.type_inv ∙ signed.ensures)

@@ -35,4 +35,4 @@ returns c =
     let signed = c.signed in
     frame-shown _ _ _ _ _ _ _ c.outcome_of.ensures sample-frames.ensures c.if-sample_frames-frame.false
     c.frame_bytes-bytes.ensures.0
-    (to_z-of_z w16 signed.result (record { sfits = signed.type-inv }) ∙ signed.ensures ∙ c.at_16_bits.ensures)
+    (to_z-of_z w16 signed.result (record { sfits = signed.type_inv }) ∙ signed.ensures ∙ c.at_16_bits.ensures)

@@ -32,7 +32,7 @@ bounds-out-i-in-loop-i c =
 
 pub loop-i-preserved : goal.loop-i-preserved
 loop-i-preserved c =
-    writing-turn _ _ _ _ _ c.loop-i.invariant c.loop-i-test.true c.at_16_bits-v.type-inv
+    writing-turn _ _ _ _ _ c.loop-i.invariant c.loop-i-test.true c.at_16_bits-v.type_inv
     c.at_16_bits-v.ensures
 
 pub returns : goal.returns

@@ -1,0 +1,14 @@
+// Copying bytes to the front of a lent output.
+
+#![tactic(auto)]
+
+ghost use Rattle.std.specs.Prelude.{◌≡◌};
+ghost use Rattle.byte_copy.specs.Copied.{copied};
+
+// Copies bytes to the front of a lent output: as many of them as it has room for. The rest of the output is unchanged.
+pub fn copy(bytes: &[u8], out: &mut [u8])
+    ensures { out.new ≡ copied bytes.now out.old }
+{
+    let n = if bytes.len() < out.len() { bytes.len() } else { out.len() };
+    out[..n].copy_from_slice(&bytes[..n]);
+}

@@ -1,0 +1,21 @@
+use mathlib.Core.Path.{refl, sym, ◌∙◌}
+use Rattle.module.proofs.OpenedOutputs.{by-opened}
+use Rattle.repack.specs.Repacked.{repacked_module}
+use Rattle.repack.proofs.repack.Goals as goal
+
+pub repack_opened-requires : goal.repack_opened-requires
+repack_opened-requires c = sym c.open.ensures.0 ∙ c.in-Found.is
+
+pub returns-in-Found : goal.returns-in-Found
+returns-in-Found c =
+    let m = c.args.m.now in
+    let «open» = c.open in
+    by-opened (repacked_module m) m c.args.out.now _ (sym «open».ensures.0 ∙ c.in-Found.is)
+    c.repack_opened.ensures
+
+pub returns-in-Refused : goal.returns-in-Refused
+returns-in-Refused c =
+    let m = c.args.m.now in
+    let «open» = c.open in
+    by-opened (repacked_module m) m c.args.out.now _ (sym «open».ensures.0 ∙ c.in-Refused.is)
+    (c.refused.ensures, refl)

@@ -1,0 +1,4 @@
+use Rattle.songs.proofs.no_entry.Goals as goal
+
+pub returns : goal.returns
+returns c = rw c.outcome_of.ensures
