@@ -1,0 +1,9 @@
+use native.Mathlib.Omega.{arith}
+use mathlib.Core.Path.{sym}
+use Prim.Native.Nat.{◌+◌}
+use Rattle.numbers.proofs.Bytes.{number16-past}
+use Rattle.blocks.proofs.stored.number16_after.Goals as goal
+
+pub returns-then-m-at : goal.returns-then-m-at
+returns-then-m-at c =
+    sym (number16-past c.args.m.now (c.args.at + c.args.offset) (omega (arith, c.if-m-at.true)))

@@ -1,0 +1,11 @@
+use Prim.Native.Nat.{◌-◌, ◌≤◌}
+use lib.ListN.{length}
+use Rattle.conformance_text.specs.Text.{numbers_text, spaced}
+use Rattle.conformance_text.proofs.Lines.{Going, texts}
+use Rattle.conformance_text.proofs.text.put_numbers.Given as goal
+
+abbrev pub invariant-loop-i : goal.invariant-loop-i
+invariant-loop-i l = (i ≤ length l.numbers) × Going l.initial.line l.at (numbers_text l.numbers) l.next l.i (texts spaced l.numbers i)
+
+abbrev pub decreases-loop-i : goal.decreases-loop-i
+decreases-loop-i l = length l.numbers - i
