@@ -144,17 +144,17 @@ cut kind m (suc n) at bytes p e =
     }
 
 -- The place after all blocks is the end of their bytes.
-pub blocks_end : (kind : BlockKind) {m : List ℕ} {at : ℕ} (blocks : List (List ℕ)) → PartAt m at (joined blocks)
+pub blocks_end : (kind : BlockKind) {m : List ℕ} (blocks : List (List ℕ)) {at : ℕ} → PartAt m at (joined blocks)
     → Every (Sized kind) blocks
     → place_after (size_of kind m) (length blocks) at ≡ at + length (joined blocks)
 blocks_end kind [] p e = omega arith
-blocks_end kind {at = at} (block ∷ blocks) p (also s e) =
+blocks_end kind (block ∷ blocks) {at} p (also s e) =
     after_first (size_of kind _) (length blocks) at (length block) (part-size kind (part-first block (joined blocks) p) s)
     ∙ blocks_end kind blocks (part-rest block (joined blocks) p) e
     ∙ omega (arith, length-append block (joined blocks))
 
 -- Each block is at its place.
-pub block-there : (kind : BlockKind) {m : List ℕ} {at : ℕ} (blocks : List (List ℕ)) (i : ℕ) → i < length blocks
+pub block-there : (kind : BlockKind) {m : List ℕ} (blocks : List (List ℕ)) (i : ℕ) {at : ℕ} → i < length blocks
     → PartAt m at (joined blocks) → Every (Sized kind) blocks
     → PartAt m (place_after (size_of kind m) i at) (get_or blocks i [])
 block-there kind [] i h p e = absurd (omega arith)
@@ -165,19 +165,19 @@ block-there kind (block ∷ blocks) (suc i) h p (also s e) =
 -- What holds for every place holds for every block, and conversely.
 module _ (kind : BlockKind) {m : List ℕ} {P : ℕ → Type 0} {Q : List ℕ → Type 0} where
   pub places-blocks : ((at : ℕ) (block : List ℕ) → PartAt m at block → Sized kind block → P at → Q block)
-      → {at : ℕ} (blocks : List (List ℕ)) → PartAt m at (joined blocks) → Every (Sized kind) blocks
+      → (blocks : List (List ℕ)) {at : ℕ} → PartAt m at (joined blocks) → Every (Sized kind) blocks
       → Every P (places_from (size_of kind m) (length blocks) at)
       → Every Q blocks
   places-blocks h [] p e f = none
-  places-blocks h {at} (block ∷ blocks) p (also s e) (also x f) =
+  places-blocks h (block ∷ blocks) {at} p (also s e) (also x f) =
       let first = part-first block (joined blocks) p in
       also (h at block first s x) (places-blocks h blocks (part-rest block (joined blocks) p) e (rw (part-size kind first s) at f))
 
   pub blocks-places : ((at : ℕ) (block : List ℕ) → PartAt m at block → Sized kind block → Q block → P at)
-      → {at : ℕ} (blocks : List (List ℕ)) → PartAt m at (joined blocks) → Every (Sized kind) blocks → Every Q blocks
+      → (blocks : List (List ℕ)) {at : ℕ} → PartAt m at (joined blocks) → Every (Sized kind) blocks → Every Q blocks
       → Every P (places_from (size_of kind m) (length blocks) at)
   blocks-places h [] p e f = none
-  blocks-places h {at} (block ∷ blocks) p (also s e) (also x f) =
+  blocks-places h (block ∷ blocks) {at} p (also s e) (also x f) =
       let first = part-first block (joined blocks) p in
       let rest = blocks-places h blocks (part-rest block (joined blocks) p) e f in
       also (h at block first s x) (rw (sym (part-size kind first s)) at rest)

@@ -5,7 +5,8 @@ use Rattle.conformance_text.proofs.Lines.{Going, texts}
 use Rattle.conformance_text.proofs.text.put_numbers.Given as goal
 
 abbrev pub invariant-loop-i : goal.invariant-loop-i
-invariant-loop-i l = (i ≤ length l.numbers) × Going l.initial.line l.at (numbers_text l.numbers) l.next l.i (texts spaced l.numbers i)
+invariant-loop-i l =
+    (l.i ≤ length l.numbers) × Going l.initial.line l.at (numbers_text l.numbers) l.line l.next (texts spaced l.numbers l.i)
 
 abbrev pub decreases-loop-i : goal.decreases-loop-i
-decreases-loop-i l = length l.numbers - i
+decreases-loop-i l = length l.numbers - l.i
