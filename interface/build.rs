@@ -21,7 +21,7 @@ fn main() {
         println!("cargo:rerun-if-changed={}", archive.display());
         if !archive.is_file() {
             eprintln!(
-                "{} is missing: run 'rt staticlib {name}' in the repository first; cli/build does so for the command line",
+                "{} is missing: run 'tools/build-archives {name}' in the repository first; cli/build does so for the command line",
                 archive.display()
             );
             std::process::exit(1);
