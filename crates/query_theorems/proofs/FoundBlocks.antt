@@ -121,10 +121,10 @@ block-in-chunk m kind number b e = in-layout (found-opened m kind number b e).0 
         })
 
 -- Theorem 14.
-pub first_block : (m : List ℕ) (l : Layout) (kind : RecordKind) (b : Block) → opened m ≡ Opened l
+pub first-block : (m : List ℕ) (l : Layout) (kind : RecordKind) (b : Block) → opened m ≡ Opened l
     → found m kind (first_of kind) ≡ At b
     → b.at ≡ first_block (block_kind_of kind) (chunk_of l kind)
-first_block m l kind b o e =
+first-block m l kind b o e =
     let none : first_of kind - first_of kind ≡ 0 = omega arith in
     ap (λ (c : Block). c.at) (found-numbered m kind (first_of kind) b l o e).block ∙ ap (block_at m (block_kind_of kind) (chunk_of l kind)) none
 

@@ -74,10 +74,10 @@ pub block-in-chunk : (m : List ℕ) (kind : RecordKind) (number : ℕ) (b : Bloc
 block-in-chunk = FoundBlocks.block-in-chunk
 
 -- Theorem 14.
-pub first_block : (m : List ℕ) (l : Layout) (kind : RecordKind) (b : Block) → opened m ≡ Opened l
+pub first-block : (m : List ℕ) (l : Layout) (kind : RecordKind) (b : Block) → opened m ≡ Opened l
     → found m kind (first_of kind) ≡ At b
     → b.at ≡ first_block (block_kind_of kind) (chunk_of l kind)
-first_block = FoundBlocks.first_block
+first-block = FoundBlocks.first-block
 
 pub next-block : (m : List ℕ) (kind : RecordKind) (number : ℕ) (b : Block) → found m kind number ≡ At b → (c : Block)
     → found m kind (number + 1) ≡ At c

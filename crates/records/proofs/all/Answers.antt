@@ -1,0 +1,21 @@
+use mathlib.Core.Path.{refl, sym, ◌∙◌}
+use Rattle.module.proofs.OpenedOutputs.{by-opened}
+use Rattle.records.specs.Records.{all_records}
+use Rattle.records.proofs.all.Goals as goal
+
+pub all_opened-requires : goal.all_opened-requires
+all_opened-requires c = sym c.open.ensures.0 ∙ c.in-Found.is
+
+pub returns-in-Found : goal.returns-in-Found
+returns-in-Found c =
+    let m = c.args.m.now in
+    let «open» = c.open in
+    by-opened (all_records m) m c.args.out.now _ (sym «open».ensures.0 ∙ c.in-Found.is)
+    c.all_opened.ensures
+
+pub returns-in-Refused : goal.returns-in-Refused
+returns-in-Refused c =
+    let m = c.args.m.now in
+    let «open» = c.open in
+    by-opened (all_records m) m c.args.out.now _ (sym «open».ensures.0 ∙ c.in-Refused.is)
+    (c.refused.ensures, refl)
