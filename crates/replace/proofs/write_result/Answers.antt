@@ -24,6 +24,14 @@ slice_bounds-write_instruments-count c =
     c.requires.1 c.args.new.now c.requires.2 size.ensures.0 c.args.out.now c.requires.4
     c.write_samples.ensures c.place_afterwards-start.ensures
 
+pub slice_bounds-write_instruments-start : goal.slice_bounds-write_instruments-start
+slice_bounds-write_instruments-start c =
+    let m = c.args.m.now in
+    let size = c.size-old in
+    start-inside m (slice-bytes m c.type_inv.m) c.args.l c.requires.0 c.args.sample
+    c.requires.1 c.args.new.now c.requires.2 size.ensures.0 c.args.out.now c.requires.4
+    c.write_samples.ensures c.place_afterwards-start.ensures
+
 pub write_instruments-requires : goal.write_instruments-requires
 write_instruments-requires c =
     let m = c.args.m.now in
