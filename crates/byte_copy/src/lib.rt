@@ -9,6 +9,10 @@ ghost use Rattle.byte_copy.specs.Copied.{copied};
 pub fn copy(bytes: &[u8], out: &mut [u8])
     ensures { out.new ≡ copied bytes.now out.old }
 {
-    let n = if bytes.len() < out.len() { bytes.len() } else { out.len() };
+    let n = if bytes.len() < out.len() {
+        bytes.len()
+    } else {
+        out.len()
+    };
     out[..n].copy_from_slice(&bytes[..n]);
 }

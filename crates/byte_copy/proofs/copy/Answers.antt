@@ -9,8 +9,8 @@ use Rattle.byte_copy.proofs.copy.Goals.{then-bytes-out, else-bytes-out}
 pub returns : goal.returns
 returns c =
     elim c.if-bytes-out.branch [
-      then-bytes-out w ↦
+      | then-bytes-out w ↦
           simp (c.copy_from_slice.ensures.after, w.n-is, take_all (length c.args.bytes.now) c.args.bytes.now (omega arith))
-              (sym (copied-all c.args.bytes.now c.args.out.now (omega arith)))
-    | else-bytes-out w ↦ simp (c.copy_from_slice.ensures.after, w.n-is) (sym (copied-part c.args.bytes.now c.args.out.now (omega arith)))
+          (sym (copied-all c.args.bytes.now c.args.out.now (omega arith)))
+      | else-bytes-out w ↦ simp (c.copy_from_slice.ensures.after, w.n-is) (sym (copied-part c.args.bytes.now c.args.out.now (omega arith)))
     ]
