@@ -47,7 +47,7 @@ use Rattle.repack_theorems.proofs.RewrittenBlock.{rewritten_block, packed-same, 
 use Rattle.repack_theorems.proofs.RewrittenBlock.{rewritten-shorter}
 
 -- No block is longer than the module that contains it.
-blocks-inside : {m : List ℕ} {at : ℕ} (blocks : List (List ℕ)) → PartAt m at (joined blocks) → Every (λ block. length block ≤ length m) blocks
+blocks-inside : {m : List ℕ} (blocks : List (List ℕ)) {at : ℕ} → PartAt m at (joined blocks) → Every (λ block. length block ≤ length m) blocks
 blocks-inside [] p = none
 blocks-inside (block ∷ blocks) p =
     also {x = block} (omega (arith, part-inside (part-first block (joined blocks) p)))

@@ -1,0 +1,20 @@
+use mathlib.Core.Path.{refl, sym, ◌∙◌}
+use Rattle.compare.proofs.Comparing.{by-second}
+use Rattle.compare.proofs.compare_second.Goals as goal
+
+pub compare_opened-requires : goal.compare_opened-requires
+compare_opened-requires c =
+    let «open» = c.open in
+    record { first = c.requires; second = sym «open».ensures.0 ∙ c.in-Found.is }
+
+pub returns-in-Found : goal.returns-in-Found
+returns-in-Found c =
+    let «open» = c.open in
+    by-second c.args.m.now c.args.l c.args.k.now c.args.out.now
+    (sym «open».ensures.0 ∙ c.in-Found.is) c.compare_opened.ensures
+
+pub returns-in-Refused : goal.returns-in-Refused
+returns-in-Refused c =
+    let «open» = c.open in
+    by-second c.args.m.now c.args.l c.args.k.now c.args.out.now
+    (sym «open».ensures.0 ∙ c.in-Refused.is) (c.refused.ensures, refl)

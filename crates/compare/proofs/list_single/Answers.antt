@@ -1,0 +1,35 @@
+use Prim.Native.Nat.{◌-◌}
+use native.Mathlib.Omega.{arith}
+use Rattle.compare.proofs.WalkingRecords.{single-first, single-turn, single-last}
+use Rattle.compare.proofs.list_single.Goals as goal
+
+pub loop-number-init : goal.loop-number-init
+loop-number-init c = single-first c.requires.0
+
+pub overflow_cast-number : goal.overflow_cast-number
+overflow_cast-number c = omega (arith, c.requires.1, c.loop-number-test.true)
+
+pub overflow_add-n : goal.overflow_add-n
+overflow_add-n c = omega (arith, c.requires, c.loop-number-test.true, c.loop-number.invariant.counts)
+
+pub overflow_add-count : goal.overflow_add-count
+overflow_add-count c =
+    let loop = c.loop-number in
+    let loop-test = c.loop-number-test in
+    omega (arith, c.requires, loop-test.true, loop.invariant.counts, c.list_whole-count.ensures.1)
+
+pub overflow_add-number : goal.overflow_add-number
+overflow_add-number c = omega (arith, c.requires, c.loop-number-test.true)
+
+pub loop-number-smaller : goal.loop-number-smaller
+loop-number-smaller c = omega (arith, c.loop-number-test.true)
+
+pub loop-number-preserved : goal.loop-number-preserved
+loop-number-preserved c =
+    let loop = c.loop-number in
+    let loop-test = c.loop-number-test in
+    let list-whole = c.list_whole-count in
+    single-turn loop.invariant loop-test.true _ _ list-whole.ensures.0 list-whole.ensures.2
+
+pub returns : goal.returns
+returns c = single-last c.loop-number.invariant c.requires.1 c.loop-number-test.false
