@@ -2,7 +2,7 @@
 -- them. Numbers of 2 and of 4 bytes, lists of known length, a known number of pieces one after the other, and each block of a module are
 -- encoded in this way.
 use Prim.Native.Nat.{ℕ, ◌%◌, ◌<◌}
-use mathlib.Core.Path.{◌≡◌, refl, sym, ap, ◌∙◌}
+use mathlib.Core.Path.{◌≡◌, refl, sym, ap, subst, ◌∙◌}
 use mathlib.Core.List.{List, [], ◌∷◌, ◌++◌, map, append_assoc}
 use mathlib.Core.Bool.{cond}
 use native.Mathlib.Omega.{arith}
@@ -166,8 +166,10 @@ sample-delimited a b s t p q e =
     let flags = next32 (flags_of a.width) (flags_of b.width) e in
     let width : a.width ≡ b.width = sym (width-again a.width) ∙ ap width_of flags.0 ∙ width-again b.width in
     let many = next32 (length a.frames) (length b.frames) flags.1 in
+    let Alike : Width → Type 0 = λ w. joined (map (frame_bytes w) a.frames) ++ s ≡ joined (map (frame_bytes b.width) b.frames) ++ t in
+    let many-alike = subst Alike width many.1 in
     let frames = pieces-same (frame_bytes b.width) (frame-delimited b.width) a.frames b.frames s t
-    (every_any a.frames) (every_any b.frames) many.0 (rw width at many.1) in
+    (every_any a.frames) (every_any b.frames) many.0 many-alike in
     (λ i. record { width = width i; frames = frames.0 i }, frames.1)
 
 pub sample-some : (s : Sample) → Any s → 0 < length (sample_bytes s)

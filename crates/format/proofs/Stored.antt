@@ -28,10 +28,10 @@ module _ {A : Type 0} (f : A → List ℕ) (size : ℕ) (one : (x : A) → lengt
   pieces-size [] = omega arith
   pieces-size (x ∷ xs) = omega (arith, length-append (f x) (joined (map f xs)), one x, pieces-size xs, suc-mul (length xs) size)
 
-  pub piece-at : {m : List ℕ} {at : ℕ} (xs : List A) (i : ℕ) (other : A) → i < length xs → PartAt m at (joined (map f xs))
+  pub piece-at : {m : List ℕ} (xs : List A) (i : ℕ) (other : A) {at : ℕ} → i < length xs → PartAt m at (joined (map f xs))
       → PartAt m (at + i * size) (f (get_or xs i other))
   piece-at [] i other h p = absurd (omega arith)
-  piece-at {m} {at} (x ∷ xs) zero other h p = subst (λ (k : ℕ). PartAt m k (f x)) (omega arith) (part-first (f x) (joined (map f xs)) p)
-  piece-at {m} {at} (x ∷ xs) (suc i) other h p =
+  piece-at {m} (x ∷ xs) zero other {at} h p = subst (λ (k : ℕ). PartAt m k (f x)) (omega arith) (part-first (f x) (joined (map f xs)) p)
+  piece-at {m} (x ∷ xs) (suc i) other {at} h p =
       subst (λ (k : ℕ). PartAt m k (f (get_or xs i other))) (omega (arith, one x, suc-mul i size))
       (piece-at xs i other (omega arith) (part-rest (f x) (joined (map f xs)) p))

@@ -4,7 +4,7 @@ use lib.ListN.{length}
 use Rattle.conformance_modules.proofs.signed.put_words.Given as goal
 
 abbrev pub invariant-loop-i : goal.invariant-loop-i
-invariant-loop-i l = (i ≤ length l.numbers) × (length l.next ≡ length l.initial.line)
+invariant-loop-i l = (l.i ≤ length l.numbers) × (length l.line ≡ length l.initial.line)
 
 abbrev pub decreases-loop-i : goal.decreases-loop-i
-decreases-loop-i l = length l.numbers - i
+decreases-loop-i l = length l.numbers - l.i
