@@ -26,7 +26,7 @@ use Rattle.format.proofs.Placed.{encoded-opens, info-numbers}
 use Rattle.format.proofs.ShownInstruments.{instrument-sized}
 use Rattle.format.proofs.ShownSamples.{sample-sized}
 use Rattle.format.proofs.ChunksIn.{in-every, in-once}
-use Rattle.format.proofs.ChunkKinds.{not_covered}
+use Rattle.format.proofs.ChunkKinds.{not-covered}
 use Rattle.format.proofs.ChangedDescriptions.{encoded-changed}
 use Rattle.replace_theorems.specs.ReplacedDescription.{sixteen_bit, loop_outside, cleared_instrument, replaced_chunk}
 use Rattle.replace_theorems.specs.ReplacedDescription.{replaced_description}
@@ -131,7 +131,7 @@ module _ (d : Description) (w : WellFormed d) (sample : ℕ) (frames : List ℕ)
   chunk-replaced (PENV list) i c = refl
   chunk-replaced (Other letters bytes) i c =
       let fits = w.others letters bytes i in
-      rw (not_covered letters bytes fits c Covered.smpl, not_covered letters bytes fits c Covered.inst) refl
+      rw (not-covered letters bytes fits c Covered.smpl, not-covered letters bytes fits c Covered.inst) refl
 
   module _ {l : Layout} (layout : LayoutOf (encoded d) (header_bytes d) (map chunk_bytes d.chunks) l) where
     data-same : both_changed (replaced_samples (encoded d) l sample new) (rewritten_instruments (encoded d) l sample (new_frames new))
