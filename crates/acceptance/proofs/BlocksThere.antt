@@ -74,7 +74,8 @@ module _ {m : List ℕ} {l : Layout} (o : Outlined m l) where
   found_of PanningEnvelope = o.layout.penv
 
   module _ {chunk : List ℕ} where
-    count-is : (kind : RecordKind) → SpanHolds m (chunk_of l kind) chunk → front_of kind ≤ length chunk → count_of m l kind ≡ count_in kind all-chunks.info chunk
+    count-is : (kind : RecordKind) → SpanHolds m (chunk_of l kind) chunk → front_of kind ≤ length chunk
+        → count_of m l kind ≡ count_in kind all-chunks.info chunk
     count-is Song s h = counts.2
     count-is Instrument s h = counts.0
     count-is Pattern s h = counts.3

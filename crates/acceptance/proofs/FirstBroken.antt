@@ -40,7 +40,8 @@ module _ {P : Refusal → Type 0} where
   broken-if true each = each refl
   broken-if false each = no-rule
 
-  pub broken-each : (rules_at : ℕ → List Rule) {places : List ℕ} → Every (λ at. WhereBroken P (rules_at at)) places → WhereBroken P (rules_of_each rules_at places)
+  pub broken-each : (rules_at : ℕ → List Rule) {places : List ℕ} → Every (λ at. WhereBroken P (rules_at at)) places
+      → WhereBroken P (rules_of_each rules_at places)
   broken-each rules_at none = no-rule
   broken-each rules_at (also each more) = broken-append each (λ hold. broken-each rules_at more)
 

@@ -111,7 +111,9 @@ module _ (start : ℕ) {before : List (List ℕ)} {chunk : List ℕ} (every : Ev
   once-says : (not (covered (number32 chunk 0) && occurs (number32 chunk 0) (records_from start before)) ≡ true)
       ↔ ((letters : List ℕ) → Covered letters → take 4 chunk ≡ letters → There before letters → ⊥)
   once-says = simp never_both (
-    λ h letters covers named there. (let e = (chunk-named c covers).1 named in h (rw e (covered-holds covers)) (rw e ((occurs-says covers start every).1 there))),
+    λ h letters covers named there.
+        (let e = (chunk-named c covers).1 named in
+        h (rw e (covered-holds covers)) (rw e ((occurs-says covers start every).1 there))),
     λ h p q.
         let (letters, covers, e) = covered-letters (number32 chunk 0) p in
         h letters covers ((chunk-named c covers).0 e) ((occurs-says covers start every).0 (rw e at q)),
@@ -143,7 +145,8 @@ module _ {m : List ℕ} {at : ℕ} {chunk : List ℕ} (part : PartAt m at chunk)
         λ h. (λ e. omega (arith, h.0 e, c.size), λ e. omega (arith, h.1 e, c.size)),
       )
 
-  info-if-named : AllHold (cond (eqb (number32 m at) info_identifier) (info_rules m (at + 8)) []) ↔ (take 4 chunk ≡ info_letters → AllHold (info_rules m (at + 8)))
+  info-if-named : AllHold (cond (eqb (number32 m at) info_identifier) (info_rules m (at + 8)) [])
+      ↔ (take 4 chunk ≡ info_letters → AllHold (info_rules m (at + 8)))
   info-if-named = simp (hold-if, eqb-says, identifier-is part c.size, chunk-named c Covered.info) Iff.rfl
 
 -- All rules of a chunk, in both directions.

@@ -28,7 +28,8 @@ module _ {rules : ℕ → List Rule} {size : ℕ → ℕ} {n start left at : ℕ
       ≡ first_broken (rules_of_each rules (places_from size n start))
   ahead some = let e : left ≡ suc (left - 1) = omega arith in rw e at p.same
 
-  pub passing-turn : {s : ℕ} → 0 < left → first_broken (rules at) ≡ Accepted → (s ≡ size at) × (s < 0x800000000) → Passing rules size n start (left - 1) (at + s)
+  pub passing-turn : {s : ℕ} → 0 < left → first_broken (rules at) ≡ Accepted → (s ≡ size at) × (s < 0x800000000)
+      → Passing rules size n start (left - 1) (at + s)
   passing-turn {s} some accepted sized =
       record {
         same = rw sized.0 (sym (broken-passed (rules_of_each rules (places_from size (left - 1) (at + size at))) (rules at) accepted) ∙ ahead some);

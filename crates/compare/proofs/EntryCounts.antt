@@ -70,7 +70,8 @@ streams-most : (a b : List ℕ) (rows tracks pattern : ℕ) → rows ≤ 65535 �
     → length (stream_differences a b rows tracks pattern) ≤ most_entries
 streams-most a b rows tracks pattern r t =
     le_trans
-    (pattern-most pattern rows tracks (rows_from tracks (entries_read (read_stream rows tracks a))) (rows_from tracks (entries_read (read_stream rows tracks b))))
+    (pattern-most pattern rows tracks (rows_from tracks (entries_read (read_stream rows tracks a)))
+    (rows_from tracks (entries_read (read_stream rows tracks b))))
     (few rows tracks r t)
 
 -- The numbers of an accepted module.

@@ -126,6 +126,7 @@ module _ (m : List ℕ) (bytes : Bytes m) (l : Layout) (k : List ℕ) (others : 
           let all : Lists (differences m l k j) 0 out (r + s + t + u) out₄ =
           lists-same in_parts 0 out
           (lists-two ((name ++ info) ++ first_three) last_three 0 out
-          (lists-two (name ++ info) first_three 0 out (lists-two name info 0 out one (lists-front info out₁ r two)) (lists-front first_three out₂ (r + s) three))
+          (lists-two (name ++ info) first_three 0 out (lists-two name info 0 out one (lists-front info out₁ r two))
+          (lists-front first_three out₂ (r + s) three))
           (lists-front last_three out₃ (r + s + t) four)) in
           (all.0, omega (arith, all.0, differences-small m bytes l k others j opens), all.1)

@@ -182,7 +182,9 @@ module _ {m : List ℕ} {l : Layout} {k : List ℕ} {j : Layout} {kind : RecordK
                 counts = omega (arith, state.counts, some);
               }
 
-    pub common-last : left ≤ 0 → (count ≡ length (common_differences m l k j kind common)) × (out ≡ entries_listed (common_differences m l k j kind common) n out₀)
+    pub common-last : left ≤ 0
+        → (count ≡ length (common_differences m l k j kind common))
+        × (out ≡ entries_listed (common_differences m l k j kind common) n out₀)
     common-last none =
         let e : left ≡ 0 = omega arith in
         listing-last state.listing (ap (λ (i : ℕ). joined (each_from (numbered_differences m l k j kind) number i)) e)

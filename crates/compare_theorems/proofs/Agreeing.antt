@@ -111,7 +111,8 @@ module _ (m k : List ℕ) (bytes : Bytes m) (others : Bytes k) (l j : Layout) (o
     count-agrees : count_of m l kind ≡ count_of k j kind
     count-agrees = go (ltb (count_of m l kind) (count_of k j kind)) (ltb (count_of k j kind) (count_of m l kind)) refl refl
       where
-        go : (t u : Bool) → ltb (count_of m l kind) (count_of k j kind) ≡ t → ltb (count_of k j kind) (count_of m l kind) ≡ u → count_of m l kind ≡ count_of k j kind
+        go : (t u : Bool) → ltb (count_of m l kind) (count_of k j kind) ≡ t → ltb (count_of k j kind) (count_of m l kind) ≡ u
+            → count_of m l kind ≡ count_of k j kind
         go true u t v = absurd (not-fewer (ltb-true _ _ t))
         go false true t v = absurd (not_more (ltb-true _ _ v))
         go false false t v =

@@ -104,7 +104,9 @@ module _ (pattern : ℕ) where
     where
       one : (row : ℕ) → Section (Numbered 8 pattern) row_of (by_row 8 pattern) row
           (row_differences pattern tracks row (get_or a row []) (get_or b row []))
-      one row = let cells = row-rising tracks row (get_or a row []) (get_or b row []) in record { ascending = cells.ascending; every = rising-every _ _ _ cells }
+      one row =
+          let cells = row-rising tracks row (get_or a row []) (get_or b row []) in
+          record { ascending = cells.ascending; every = rising-every _ _ _ cells }
 
 -- G4, G5: what has one number, in one kind.
 abbrev NumberedSection : ℕ → ℕ → List Difference → Type 0

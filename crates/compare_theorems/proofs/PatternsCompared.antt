@@ -50,7 +50,9 @@ module _ (pattern rows tracks : ℕ) (a b : List Row) (d : Difference) where
   abbrev in_field : ℕ → ℕ → ℕ → List Difference
   in_field row track = field_difference pattern row track (get_or (get_or a row []) (track - 1) empty_cell) (get_or (get_or b row []) (track - 1) empty_cell)
 
-  same : (row track field : ℕ) → (eqb (field_of a row track field) (field_of b row track field) ≡ true) ↔ (field_of a row track field ≡ field_of b row track field)
+  same : (row track field : ℕ)
+      → (eqb (field_of a row track field) (field_of b row track field) ≡ true)
+      ↔ (field_of a row track field ≡ field_of b row track field)
   same row track field = eqb-says (field_of a row track field) (field_of b row track field)
 
   pub pattern-exact : Within (pattern_differences pattern rows tracks a b) d ↔ FieldDiffers pattern rows tracks a b d

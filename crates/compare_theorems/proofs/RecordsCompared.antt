@@ -79,7 +79,8 @@ module _ (m k : List ℕ) (bytes : Bytes m) (others : Bytes k) where
     )
 
     -- An instrument: field by field.
-    pub instrument-exact : (instrument_record (shown_instrument m at) ≡ instrument_record (shown_instrument k to)) ↔ (shown_instrument m at ≡ shown_instrument k to)
+    pub instrument-exact : (instrument_record (shown_instrument m at) ≡ instrument_record (shown_instrument k to))
+        ↔ (shown_instrument m at ≡ shown_instrument k to)
     instrument-exact = (
       λ e.
           let name = front_same (instrument_name m at) (instrument_name k to) refl e in

@@ -50,7 +50,8 @@ module _ {rows tracks : ℕ} {a b : List Row} (s : Shaped rows tracks a) (t : Sh
 
 -- Two accepted streams.
 module _ (rows tracks : ℕ) (stream other : List ℕ) (accepted : check_answer stream rows tracks ≡ Accepted)
-    (other_accepted : check_answer other rows tracks ≡ Accepted) (same : SameFields rows tracks (rows_read stream rows tracks) (rows_read other rows tracks)) where
+    (other_accepted : check_answer other rows tracks ≡ Accepted)
+    (same : SameFields rows tracks (rows_read stream rows tracks) (rows_read other rows tracks)) where
   same-rows : rows_read stream rows tracks ≡ rows_read other rows tracks
   same-rows = same-pattern (shaped stream accepted) (shaped other other_accepted) same
     where

@@ -113,7 +113,8 @@ module _ (m k : List ℕ) (l j : Layout) (o : opened m ≡ Opened l) (p : opened
 
 -- A record that both have.
 module _ (m k : List ℕ) (bytes : Bytes m) (others : Bytes k) (l j : Layout) (o : opened m ≡ Opened l) (p : opened k ≡ Opened j) where
-  pub both-compared : (kind : RecordKind) (number : ℕ) → found m kind number ≡ At (block_of m l kind number) → found k kind number ≡ At (block_of k j kind number)
+  pub both-compared : (kind : RecordKind) (number : ℕ) → found m kind number ≡ At (block_of m l kind number)
+      → found k kind number ≡ At (block_of k j kind number)
       → (same_test m l k j kind (block_of m l kind number).at (block_of k j kind number).at ≡ true)
       ↔ SameShown m k kind (At (block_of m l kind number)) (At (block_of k j kind number))
   unfolding record_at

@@ -39,7 +39,9 @@ module _ {chunks : List Chunk} where
   pub letters-once : ((letters : List ℕ) → Covered letters → NoTwo (λ (c : Chunk). chunk_letters c ≡ letters) chunks) → Once chunks
   letters-once never before between after one two e covers same = never (chunk_letters one) covers before between after one two e refl (sym same)
 
-  pub in-once : Once chunks → {one two : Chunk} → In chunks one → In chunks two → Covered (chunk_letters one) → chunk_letters one ≡ chunk_letters two → one ≡ two
+  pub in-once : Once chunks → {one two : Chunk} → In chunks one → In chunks two → Covered (chunk_letters one)
+      → chunk_letters one ≡ chunk_letters two
+      → one ≡ two
   in-once once {one} i j covers same =
       only_one (λ (c : Chunk). chunk_letters c ≡ chunk_letters one) (once-letters once (chunk_letters one) covers) (in_within i) (in_within j) refl (sym same)
 

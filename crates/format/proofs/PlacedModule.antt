@@ -24,7 +24,8 @@ use Rattle.envelopes.specs.Shown.{record_kind}
 use Rattle.envelopes.specs.declared.EnvelopeKind.{EnvelopeKind}
 use Rattle.envelopes.specs.declared.EnvelopeKind.TheVariants.{Volume, Panning}
 use Rattle.format.specs.Description.{Info, Song, Instrument, Pattern, Sample, Envelope, NAME, INFO, SONG, INST, PATT, SMPL, VENV, PENV, Description}
-use Rattle.format.specs.Encoding.{song_bytes, instrument_bytes, pattern_bytes, sample_bytes, envelope_bytes, envelopes_bytes, chunk_bytes, header_bytes, encoded}
+use Rattle.format.specs.Encoding.{song_bytes, instrument_bytes, pattern_bytes, sample_bytes, envelope_bytes, envelopes_bytes}
+use Rattle.format.specs.Encoding.{chunk_bytes, header_bytes, encoded}
 use Rattle.format.specs.WellFormed.{In, SongFits, InstrumentFits, PatternFits, SampleFits, EnvelopeFits, WellFormed}
 use Rattle.format.specs.Shown.{Envelopes}
 use Rattle.format.proofs.ChunksIn.{in-once}

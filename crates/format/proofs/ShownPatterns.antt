@@ -40,7 +40,8 @@ module _ (rows tracks : ℕ) (stream : List ℕ) (entries : List (List Entry)) (
     (reads : read_stream rows tracks stream ≡ whole entries) where
   cell-read : (row track : ℕ)
       → cell_of stream rows tracks row track
-      ≡ cond (cell_there rows tracks row track) (Found (shown_cell (get_or (get_or (rows_from tracks entries) row []) (track - 1) empty_cell))) (Refused not_there)
+      ≡ cond (cell_there rows tracks row track)
+      (Found (shown_cell (get_or (get_or (rows_from tracks entries) row []) (track - 1) empty_cell))) (Refused not_there)
   cell-read row track = simp (fits, reads) (go (cell_there rows tracks row track) _ _)
     where
       go : (there : Bool) (shown refused : CellAnswer) → cond (not there) refused shown ≡ cond there shown refused

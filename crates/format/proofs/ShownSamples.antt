@@ -16,7 +16,8 @@ use Rattle.blocks.specs.Sizes.{width_of, size_of}
 use Rattle.blocks.specs.declared.BlockKind.TheVariants.{Sample as SampleBlock}
 use Rattle.acceptance.proofs.Locating.{PartAt, byte_at-start, number16-start, number32-start, number32-at, part-is}
 use Rattle.acceptance.proofs.Cutting.{Sized, part-rest}
-use Rattle.samples.specs.Shown.{bytes_per_frame as frame_width, shown_sample, divided_down, frame16 as frame16_at, frame_of, frame_in, all_frames, all_frames_size}
+use Rattle.samples.specs.Shown.{bytes_per_frame as frame_width, shown_sample, divided_down, frame16 as frame16_at, frame_of}
+use Rattle.samples.specs.Shown.{frame_in, all_frames, all_frames_size}
 use Rattle.showing_theorems.proofs.SameBytes.{same_if}
 use Rattle.format.specs.Description.{Width, eight, sixteen, thirty_two, Sample}
 use Rattle.format.specs.Encoding.{flags_of, frame_bytes, sample_bytes}

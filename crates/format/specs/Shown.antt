@@ -14,7 +14,8 @@ use Rattle.packed_rows.specs.Entries.{rows_from}
 use Rattle.packed_rows.specs.Answers.{cell_there}
 use Rattle.packed_rows.specs.declared.CellAnswer.{CellAnswer}
 use Rattle.packed_rows.specs.declared.CellAnswer.TheVariants.{Found, Refused}
-use Rattle.samples.specs.Shown.{no_sample, sample_answer, frames_answer, frames_part, divided_down, no_frame, frame_answer, all_frames_answer, all_frames_output}
+use Rattle.samples.specs.Shown.{no_sample, sample_answer, frames_answer, frames_part, divided_down, no_frame, frame_answer}
+use Rattle.samples.specs.Shown.{all_frames_answer, all_frames_output}
 use Rattle.samples.specs.declared.SampleAnswer.{SampleAnswer}
 use Rattle.samples.specs.declared.FrameAnswer.{FrameAnswer}
 use Rattle.envelopes.specs.Shown.{count_answer, value_of, no_envelope, envelope_answer}

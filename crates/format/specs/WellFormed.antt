@@ -131,7 +131,9 @@ Once chunks =
 
 -- M7: INFO comes before SONG, INST, PATT and SMPL.
 abbrev pub InfoFirst : List Chunk → Type 0
-InfoFirst chunks = (before after : List Chunk) (c : Chunk) → chunks ≡ before ++ (c ∷ after) → NeedsInfo (chunk_letters c) → (info : Info) × In before (INFO info)
+InfoFirst chunks =
+    (before after : List Chunk) (c : Chunk) → chunks ≡ before ++ (c ∷ after) → NeedsInfo (chunk_letters c)
+    → (info : Info) × In before (INFO info)
 
 -- The content of the mandatory chunks.
 pub record ListsFit (info : Info) (songs : List Song) (instruments : List Instrument) (patterns : List Pattern) (samples : List Sample) : Type 0 where

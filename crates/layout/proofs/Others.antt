@@ -61,7 +61,8 @@ module _ (m : List ℕ) (at : ℕ) (is : is_other m at ≡ true) where
   n1 : eqb (number32 m at) name_identifier ≡ false
   n1 = or_left (eqb (number32 m at) name_identifier) _ uncovered
 
-  past-name : (eqb (number32 m at) info_identifier || (needs_info (number32 m at) || (eqb (number32 m at) venv_identifier || eqb (number32 m at) penv_identifier)))
+  past-name : (eqb (number32 m at) info_identifier
+      || (needs_info (number32 m at) || (eqb (number32 m at) venv_identifier || eqb (number32 m at) penv_identifier)))
       ≡ false
   past-name = or_right (eqb (number32 m at) name_identifier) _ uncovered
 

@@ -93,7 +93,9 @@ module _ (s : List ℕ) (tracks rows left at n : ℕ) (some : left ≡ suc rows)
   check-row-end p z = go (front tracks (drop at s)) refl
     where
       go : (f : Front) → front tracks (drop at s) ≡ f
-          → (verdict_of_reading (reading tracks rows (at + n) (drop (at + n) s)) ≡ verdict_of_reading (reading tracks left at (drop at s))) × (at + n ≤ length s)
+          → (verdict_of_reading (reading tracks rows (at + n) (drop (at + n) s))
+          ≡ verdict_of_reading (reading tracks left at (drop at s)))
+          × (at + n ≤ length s)
       go nothing e = absurd (p (length-of e))
       go fault e = absurd (p (length-of e))
       go (row_end rest) e =
@@ -108,7 +110,9 @@ module _ (s : List ℕ) (tracks rows left at n : ℕ) (some : left ≡ suc rows)
   check-entry p z = go (front tracks (drop at s)) refl
     where
       go : (f : Front) → front tracks (drop at s) ≡ f
-          → (verdict_of_reading (reading tracks left (at + n) (drop (at + n) s)) ≡ verdict_of_reading (reading tracks left at (drop at s))) × (at + n ≤ length s)
+          → (verdict_of_reading (reading tracks left (at + n) (drop (at + n) s))
+          ≡ verdict_of_reading (reading tracks left at (drop at s)))
+          × (at + n ≤ length s)
       go nothing e = absurd (p (length-of e))
       go fault e = absurd (p (length-of e))
       go (row_end rest) e = absurd (z (row-end-at tracks s rest at e).byte)

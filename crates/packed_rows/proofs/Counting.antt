@@ -102,7 +102,8 @@ non_empty-first x xs = go (eqb x 0)
 pub cell-filled : (bytes : List ℕ) (at : ℕ) → at + 6 ≤ length bytes
     → non_zero (get_or bytes at 0)
     || (non_zero (get_or bytes (at + 1) 0)
-    || (non_zero (get_or bytes (at + 2) 0) || (non_zero (get_or bytes (at + 3) 0) || (non_zero (get_or bytes (at + 4) 0) || non_zero (get_or bytes (at + 5) 0)))))
+    || (non_zero (get_or bytes (at + 2) 0)
+    || (non_zero (get_or bytes (at + 3) 0) || (non_zero (get_or bytes (at + 4) 0) || non_zero (get_or bytes (at + 5) 0)))))
     ≡ non_empty (cell_at bytes at)
 cell-filled bytes at h =
     rw (cell-fields bytes at h)

@@ -61,7 +61,8 @@ store-packers tracks e old s l h = go (non_empty old) (non_empty new) refl refl 
         let full = store-full (named e.mask) e.fields s.filled (rw (z, s.filled) at m) in
         rw z (packed-same e (store (named e.mask) e.fields empty_cell) full.0 full.1)
 
-    go : (a b : Bool) → non_empty old ≡ a → non_empty new ≡ b → cond a 2 0 + length (non_zeros old) + length (entry_bytes e) ≤ cond b 2 0 + length (non_zeros new)
+    go : (a b : Bool) → non_empty old ≡ a → non_empty new ≡ b
+        → cond a 2 0 + length (non_zeros old) + length (entry_bytes e) ≤ cond b 2 0 + length (non_zeros new)
         → Packers e old new
     go false true p q h =
         record { empty = p; filled = q; same = same (all-zeros 6 old l (omega (arith, ltb-false 0 (length (non_zeros old)) p))) (omega (arith, most)) }
@@ -70,7 +71,8 @@ store-packers tracks e old s l h = go (non_empty old) (non_empty new) refl refl 
     go true false p q h = absurd (omega (arith, most))
 
 -- A row with one cell replaced.
-set-length : (row : Row) (i : ℕ) (new : Cell) → i < length row → row_length (set row i new) + cell_length (get_or row i empty_cell) ≡ row_length row + cell_length new
+set-length : (row : Row) (i : ℕ) (new : Cell) → i < length row
+    → row_length (set row i new) + cell_length (get_or row i empty_cell) ≡ row_length row + cell_length new
 set-length [] i new h = absurd (omega arith)
 set-length (cell ∷ row) zero new h = omega (arith, row-length-cons cell row, row-length-cons new row)
 set-length (cell ∷ row) (suc i) new h = omega (arith, row-length-cons cell row, row-length-cons cell (set row i new), set-length row i new (omega arith))
@@ -149,7 +151,8 @@ empty-length : (n : ℕ) → row_length (empty_row n) ≡ 0
 empty-length n = sym (entries-length (packs 1 (empty_row n))) ∙ rw (empty-entries 1 n)
 
 -- All rows.
-stream-length : (tracks : ℕ) (entries : List (List Entry)) → all_sound tracks entries ≡ true → packed_length (rows_from tracks entries) ≤ length (stream_of entries)
+stream-length : (tracks : ℕ) (entries : List (List Entry)) → all_sound tracks entries ≡ true
+    → packed_length (rows_from tracks entries) ≤ length (stream_of entries)
 stream-length tracks [] h = omega arith
 stream-length tracks (es ∷ entries) h =
     let s = and-true (every (sound_entry tracks) es) (all_sound tracks entries) h in

@@ -112,7 +112,8 @@ module _ (s : List ℕ) (rows tracks row track : ℕ) (ok : verdict_of_reading (
         ∙ ap (λ (rs : List Row). get_or (get_or rs row []) (track - 1) empty_cell) (sym rows_are)
 
 -- The answer to a query for a cell, by the verdict of the stream.
-pub cell-refused : (r : Reading) (tracks row track : ℕ) (why : Refusal) → verdict_of_reading r ≡ Refused why → CellRefused why ≡ cell_of_reading r tracks row track
+pub cell-refused : (r : Reading) (tracks row track : ℕ) (why : Refusal) → verdict_of_reading r ≡ Refused why
+    → CellRefused why ≡ cell_of_reading r tracks row track
 cell-refused r tracks row track why e =
     let broken = refused-reading r why e in
     ap CellRefused broken.2 ∙ sym (ap (λ (q : Reading). cell_of_reading q tracks row track) broken.1)

@@ -62,7 +62,8 @@ pub count-non-zero : (cell : Cell) → count (map non_zero cell) ≡ length (non
 count-non-zero [] = refl
 count-non-zero (f ∷ cell) = go (eqb f 0) (count-non-zero cell)
   where
-    go : (b : Bool) → count (map non_zero cell) ≡ length (non_zeros cell) → count (not b ∷ map non_zero cell) ≡ length (cond b (non_zeros cell) (f ∷ non_zeros cell))
+    go : (b : Bool) → count (map non_zero cell) ≡ length (non_zeros cell)
+        → count (not b ∷ map non_zero cell) ≡ length (cond b (non_zeros cell) (f ∷ non_zeros cell))
     go true ih = ih
     go false ih = ap suc ih
 

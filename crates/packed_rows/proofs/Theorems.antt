@@ -113,7 +113,8 @@ module _ (rows tracks : ℕ) where
   last_stored = LastEntry.last_stored rows tracks
 
   -- 6.
-  pub reads-exactly : (stream : List ℕ) (entries : List (List Entry)) → (read_stream rows tracks stream ≡ whole entries) ↔ SoundStream rows tracks stream entries
+  pub reads-exactly : (stream : List ℕ) (entries : List (List Entry))
+      → (read_stream rows tracks stream ≡ whole entries) ↔ SoundStream rows tracks stream entries
   reads-exactly = Grammar.reads-exactly rows tracks
 
   pub reads-one : (stream : List ℕ) (entries entries' : List (List Entry)) → SoundStream rows tracks stream entries

@@ -93,7 +93,8 @@ module _ {out₀ : List ℕ} {to : ℕ} {all out : List ℕ} {at at' : ℕ} wher
       cell : Cell
       cell = cell_at row (track * 6)
 
-      turn : filled_tracks track (drop track (row_of tracks row)) ≡ kept (non_empty cell) track ++ filled_tracks (track + 1) (drop (track + 1) (row_of tracks row))
+      turn : filled_tracks track (drop track (row_of tracks row))
+          ≡ kept (non_empty cell) track ++ filled_tracks (track + 1) (drop (track + 1) (row_of tracks row))
       turn =
           rw (add-one track, drop-cons (row_of tracks row) track [] (omega (arith, length-blocks tracks 6 row)), block_at tracks 6 track row [] f)
           (kept-first (non_empty cell) track (filled_tracks (suc track) (drop (suc track) (row_of tracks row))))
@@ -124,7 +125,9 @@ module _ (row : List ℕ) where
       rw (tracks-next left track) (go (non_empty (cell_at row (track * 6))) (tracks-listed left (suc track) (omega arith)))
     where
       go : (b : Bool) → TracksInside row (filled_tracks (suc track) (tracks_left left (suc track)))
-          → TracksInside row (cond b (track ∷ filled_tracks (suc track) (tracks_left left (suc track))) (filled_tracks (suc track) (tracks_left left (suc track))))
+          → TracksInside row
+          (cond b (track ∷ filled_tracks (suc track) (tracks_left left (suc track)))
+          (filled_tracks (suc track) (tracks_left left (suc track))))
       go true l = (omega arith, l)
       go false l = l
 

@@ -34,7 +34,8 @@ pattern_differences pattern rows tracks a b =
 -- The differences of the patterns that two streams hold.
 abbrev pub stream_differences : List ℕ → List ℕ → ℕ → ℕ → ℕ → List Difference
 stream_differences a b rows tracks pattern =
-    pattern_differences pattern rows tracks (rows_from tracks (entries_read (read_stream rows tracks a))) (rows_from tracks (entries_read (read_stream rows tracks b)))
+    pattern_differences pattern rows tracks (rows_from tracks (entries_read (read_stream rows tracks a)))
+    (rows_from tracks (entries_read (read_stream rows tracks b)))
 
 -- The first stream's refusal, then the second's, else the number of entries.
 abbrev pub comparison_of : Reading → Reading → ℕ → Comparison

@@ -573,7 +573,8 @@ streams =
 
 -- The table.
 pub worked : List Worked
-unfolding headers chunk_faults info_faults missing block_faults field_faults field_order envelope_faults loop_and_stream_faults own_refusals queries values streams
+unfolding headers chunk_faults info_faults missing block_faults field_faults field_order envelope_faults
+    loop_and_stream_faults own_refusals queries values streams
 worked =
     joined
     (headers

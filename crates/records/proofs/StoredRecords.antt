@@ -91,7 +91,8 @@ module _ (m : List ℕ) (bytes : Bytes m) where
       ∙ ap (λ (head : List ℕ). head ++ points_from m kind version at 32 0) (sym (head-stored at))
 
   -- The record of an envelope: the bytes before the points, and the points.
-  pub envelope-stored : (kind : EnvelopeKind) (version at : ℕ) → record_at m version (record_kind kind) at ≡ bytes_from m at 8 ++ points_from m kind version at 32 0
+  pub envelope-stored : (kind : EnvelopeKind) (version at : ℕ)
+      → record_at m version (record_kind kind) at ≡ bytes_from m at 8 ++ points_from m kind version at 32 0
   unfolding record_at
   envelope-stored Volume version at = envelope-joined Volume version at
   envelope-stored Panning version at = envelope-joined Panning version at

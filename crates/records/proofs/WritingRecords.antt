@@ -50,7 +50,8 @@ module _ (m : List ℕ) (bytes : Bytes m) (version at : ℕ) (kind : RecordKind)
         → RecordWritten m version kind at out out' r
     written_as other xs e same size w = rw e (w.0 ∙ sym size, w.1 ∙ rw (same, w.0) refl)
 
-    pub song-written : kind ≡ Song → n ≡ size_of SongBlock m at → (r ≡ n) × (out' ≡ bytes_from m at n ++ drop n out) → RecordWritten m version kind at out out' r
+    pub song-written : kind ≡ Song → n ≡ size_of SongBlock m at → (r ≡ n) × (out' ≡ bytes_from m at n ++ drop n out)
+        → RecordWritten m version kind at out out' r
     unfolding record_at size_of
     song-written e size w =
         written_as Song (bytes_from m at n) e (ap (bytes_from m at) size ∙ song-stored m bytes at)

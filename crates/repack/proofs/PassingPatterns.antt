@@ -170,7 +170,8 @@ module _ (m : List ℕ) (chunk : ChunkSpan) (n tracks : ℕ) {start : ℕ} where
 
   pub blocks_last : (out₀ out : List ℕ) {end at to left : ℕ} → WritingBlocks m tracks n start end out₀ out at to left
       → start ≡ first_block Pattern chunk → left ≤ 0
-      → (to ≡ length (rewritten_blocks m tracks n (first_block Pattern chunk))) × (out ≡ rewritten_blocks m tracks n (first_block Pattern chunk) ++ drop to out₀)
+      → (to ≡ length (rewritten_blocks m tracks n (first_block Pattern chunk)))
+      × (out ≡ rewritten_blocks m tracks n (first_block Pattern chunk) ++ drop to out₀)
   blocks_last out₀ out {at = at} {to = to} {left = left} w e over =
       let none : left ≡ 0 = omega arith in
       let whole : w.done ≡ rewritten_blocks m tracks n (first_block Pattern chunk) =

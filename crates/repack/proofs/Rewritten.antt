@@ -50,10 +50,13 @@ module _ (m : List ℕ) (tracks at : ℕ) (sound : stream_verdict m tracks at �
   read-sound : verdict_of_reading (read_stream (pattern_rows m at) tracks (packed_bytes m at)) ≡ Accepted
   read-sound = simp fits at sound
 
-  stream-length : length (repacked_stream m tracks at) ≡ packed_length (rows_from tracks (entries_read (read_stream (pattern_rows m at) tracks (packed_bytes m at))))
+  stream-length : length (repacked_stream m tracks at)
+      ≡ packed_length (rows_from tracks (entries_read (read_stream (pattern_rows m at) tracks (packed_bytes m at))))
   stream-length = packed-length (rows_from tracks (entries_read (read_stream (pattern_rows m at) tracks (packed_bytes m at))))
 
-  pub stream-answer : (room : ℕ) → repack_stream_answer (packed_bytes m at) (pattern_rows m at) tracks room ≡ packed_if (length (repacked_stream m tracks at)) room
+  pub stream-answer : (room : ℕ)
+      → repack_stream_answer (packed_bytes m at) (pattern_rows m at) tracks room
+      ≡ packed_if (length (repacked_stream m tracks at)) room
   stream-answer room = rw stream-length (simp fits (sym (repack-found (read_stream (pattern_rows m at) tracks (packed_bytes m at)) tracks room read-sound)))
 
   pub stream-output : (out : List ℕ) → length (repacked_stream m tracks at) ≤ length out
@@ -117,7 +120,8 @@ stream-done m tracks at sound p stream out out' rows n (same, below) r answered 
   where
     is : n ≡ length (repacked_stream m tracks at)
     is =
-        let answer : p ≡ packed_if (length (repacked_stream m tracks at)) (length out) = answered ∙ rw (same, r) (stream-answer m tracks at sound (length out)) in
+        let answer : p ≡ packed_if (length (repacked_stream m tracks at)) (length out) =
+        answered ∙ rw (same, r) (stream-answer m tracks at sound (length out)) in
         reported ∙ ap length_answered answer ∙ answered-needed (length (repacked_stream m tracks at)) (length out)
 
     least : length (repacked_stream m tracks at) ≤ pattern_packed_length m at

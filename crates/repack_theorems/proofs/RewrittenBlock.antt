@@ -116,4 +116,5 @@ module _ (tracks : ℕ) (block : List ℕ) (b : SoundBlock tracks block) where
   rewritten-again =
       let rows : take 2 (rewritten_block tracks block) ≡ take 2 block = take_at (take 2 block) (packed stream) 2 two in
       let same : repacked_stream (rewritten_block tracks block) tracks 0 ≡ stream = ap packed_stream rewritten-cells in
-      ap (λ (front : List ℕ). front ++ packed (repacked_stream (rewritten_block tracks block) tracks 0)) rows ∙ ap (λ (s : List ℕ). take 2 block ++ packed s) same
+      ap (λ (front : List ℕ). front ++ packed (repacked_stream (rewritten_block tracks block) tracks 0)) rows
+      ∙ ap (λ (s : List ℕ). take 2 block ++ packed s) same

@@ -54,7 +54,9 @@ module _ {m n : List ℕ} {at to : ℕ} (s : SameBlock SampleBlock m n at to) wh
     unfolding size_of
     frame_of-same frame h =
         rw flags-same
-        (simp add_assoc (frame16-same (bytes_per_frame m at) (8 + frame * bytes_per_frame m at) width (omega (arith, mul-le-mul_right (bytes_per_frame m at) h))))
+        (simp add_assoc
+        (frame16-same (bytes_per_frame m at) (8 + frame * bytes_per_frame m at) width
+        (omega (arith, mul-le-mul_right (bytes_per_frame m at) h))))
 
     frame_same : (frame : ℕ) → frame_in n to frame ≡ frame_in m at frame
     frame_same frame = rw count_same (same_if (ltb frame (sample_frames m at)) _ (λ h. rw (frame_of-same frame (ltb-true frame _ h))))
@@ -75,7 +77,9 @@ module _ {m n : List ℕ} (a : Alike m n) (sample : ℕ) where
   pub same-frames : SameFrames m n sample
   same-frames = record {
     outcome = by-finding a Sample sample (λ f. (frames_if m f).outcome) (λ f. (frames_if n f).outcome) (λ r. refl) (λ b c e v t s. refl);
-    length = by-finding a Sample sample (λ f. (frames_if m f).length) (λ f. (frames_if n f).length) (λ r. refl) (λ b c e v t s. rw (count_same s, flags-same s));
+    length =
+        by-finding a Sample sample (λ f. (frames_if m f).length) (λ f. (frames_if n f).length) (λ r. refl)
+        (λ b c e v t s. rw (count_same s, flags-same s));
     bytes = by-finding a Sample sample (λ f. part_of m (frames_if m f).offset (frames_if m f).length)
         (λ f. part_of n (frames_if n f).offset (frames_if n f).length) (λ r. refl) (λ b c e v t s. part_same s);
   }

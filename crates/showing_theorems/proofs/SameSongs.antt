@@ -12,7 +12,8 @@ use Rattle.blocks.specs.Sizes.{size_of}
 use Rattle.blocks.specs.declared.BlockKind.TheVariants.{Song as SongBlock}
 use Rattle.blocks.specs.declared.RecordKind.TheVariants.{Song}
 use Rattle.queries.specs.Finding.{answer_found, output_found}
-use Rattle.songs.specs.Shown.{shown_song, song_if, song_answer, entry_in, entry_if, entry_answer, playlist_bytes, playlist_size, playlist_answer, playlist_output}
+use Rattle.songs.specs.Shown.{shown_song, song_if, song_answer, entry_in, entry_if, entry_answer, playlist_bytes}
+use Rattle.songs.specs.Shown.{playlist_size, playlist_answer, playlist_output}
 use Rattle.showing_theorems.proofs.Alike.{SameBlock, Alike}
 use Rattle.showing_theorems.proofs.SameBytes.{same_if, same-16, same-front, same_bytes}
 use Rattle.showing_theorems.proofs.AlikeAnswers.{by-finding}

@@ -11,20 +11,21 @@ returns-then-not-fills c =
     is-answer verdict_numbers
     (simp (← fills.ensures, c.if-not-fills.true, c.refuse.ensures))
 
+-- After each test that does not refuse, one more of the rules holds.
 pub returns-in-Refused : goal.returns-in-Refused
 returns-in-Refused c =
-    is-answer verdict_numbers
-    ((simp (broken-append, ← c.check_flags.ensures, c.in-Refused.is))
-    ∙ sym ((let after-samples-here : FirstHold 4 ((block_rules c.args.m.now c.args.l)) = (let after-patterns-here : FirstHold 3 ((block_rules c.args.m.now c.args.l)) = (let after-instruments-here : FirstHold 2 ((block_rules c.args.m.now c.args.l)) = (let after-songs-here : FirstHold 1 ((block_rules c.args.m.now c.args.l)) = simp (← c.fills.ensures, c.if-not-fills.false) in after-songs-here)
-    ∙ simp (← c.fills-2.ensures, c.if-not-fills-2.false) in after-instruments-here)
-    ∙ simp (← c.fills-3.ensures, c.if-not-fills-3.false) in after-patterns-here)
-    ∙ simp (← c.fills-4.ensures, c.if-not-fills-4.false) in after-samples-here)))
+    let rules = block_rules c.args.m.now c.args.l in
+    let after-songs : FirstHold 1 rules = simp (← c.fills.ensures, c.if-not-fills.false) in
+    let after-instruments : FirstHold 2 rules = after-songs ∙ simp (← c.fills-2.ensures, c.if-not-fills-2.false) in
+    let after-patterns : FirstHold 3 rules = after-instruments ∙ simp (← c.fills-3.ensures, c.if-not-fills-3.false) in
+    let after-samples : FirstHold 4 rules = after-patterns ∙ simp (← c.fills-4.ensures, c.if-not-fills-4.false) in
+    is-answer verdict_numbers ((simp (broken-append, ← c.check_flags.ensures, c.in-Refused.is)) ∙ sym after-samples)
 
 pub returns : goal.returns
 returns c =
-    is-answer verdict_numbers
-    ((simp (broken-append, ← c.check_flags.ensures, c.in_default.is) c.check_envelopes.ensures)
-    ∙ sym ((let after-samples-here : FirstHold 4 ((block_rules c.args.m.now c.args.l)) = (let after-patterns-here : FirstHold 3 ((block_rules c.args.m.now c.args.l)) = (let after-instruments-here : FirstHold 2 ((block_rules c.args.m.now c.args.l)) = (let after-songs-here : FirstHold 1 ((block_rules c.args.m.now c.args.l)) = simp (← c.fills.ensures, c.if-not-fills.false) in after-songs-here)
-    ∙ simp (← c.fills-2.ensures, c.if-not-fills-2.false) in after-instruments-here)
-    ∙ simp (← c.fills-3.ensures, c.if-not-fills-3.false) in after-patterns-here)
-    ∙ simp (← c.fills-4.ensures, c.if-not-fills-4.false) in after-samples-here)))
+    let rules = block_rules c.args.m.now c.args.l in
+    let after-songs : FirstHold 1 rules = simp (← c.fills.ensures, c.if-not-fills.false) in
+    let after-instruments : FirstHold 2 rules = after-songs ∙ simp (← c.fills-2.ensures, c.if-not-fills-2.false) in
+    let after-patterns : FirstHold 3 rules = after-instruments ∙ simp (← c.fills-3.ensures, c.if-not-fills-3.false) in
+    let after-samples : FirstHold 4 rules = after-patterns ∙ simp (← c.fills-4.ensures, c.if-not-fills-4.false) in
+    is-answer verdict_numbers ((simp (broken-append, ← c.check_flags.ensures, c.in_default.is) c.check_envelopes.ensures) ∙ sym after-samples)

@@ -1,4 +1,3 @@
-use Prim.Native.Nat.{◌-◌}
 use native.Mathlib.Omega.{arith}
 use Rattle.compare.proofs.WalkingRecords.{single-first, single-turn, single-last}
 use Rattle.compare.proofs.list_single.Goals as goal

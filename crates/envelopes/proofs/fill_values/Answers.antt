@@ -3,7 +3,7 @@ use mir.ValLaws.{to_z-of_z}
 use native.Mathlib.Nat.{zero-add}
 use native.Mathlib.Omega.{arith}
 use mathlib.Core.Path.{ap, sym, ◌∙◌}
-use Prim.Native.Nat.{ℕ, ◌-◌}
+use Prim.Native.Nat.{ℕ}
 use Rattle.numbers.specs.Numbers.{each_from}
 use Rattle.numbers.proofs.Each.{filling-first, filling-length, filling-turn, filling-last}
 use Rattle.envelopes.specs.Shown.{value_shown}

@@ -4,11 +4,10 @@ use Rattle.listing.proofs.Copying.{counts, listing-written, listing-never-refuse
 use Rattle.listing.proofs.put_printed.Goals as goal
 
 pub returns-then-input-gt65536 : goal.returns-then-input-gt65536
-returns-then-input-gt65536 c =
-    (
-      simp (lt-ltb _ _ c.if-input-gt65536.true) c.put.ensures.1,
-      counts c.put.result c.put.new.text (omega (arith, c.put.ensures.0, c.put.auto.text)),
-    )
+returns-then-input-gt65536 c = (
+  simp (lt-ltb _ _ c.if-input-gt65536.true) c.put.ensures.1,
+  counts c.put.result c.put.new.text (omega (arith, c.put.ensures.0, c.put.auto.text)),
+)
 
 pub returns-in-Written : goal.returns-in-Written
 returns-in-Written c =

@@ -1,4 +1,3 @@
-use Prim.Native.Nat.{◌-◌}
 use native.Mathlib.Omega.{arith}
 use Rattle.listing.proofs.Copying.{counts}
 use Rattle.listing.proofs.read_input.Goals as goal

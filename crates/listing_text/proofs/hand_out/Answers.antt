@@ -21,8 +21,7 @@ put_word-requires c =
 pub returns : goal.returns
 returns c =
     let text = c.args.text.now in
-    let out = c.args.out.now in
-    (
+    let out = c.args.out.now in (
       simp (le-ltb _ _ c.if-out-n.false),
       ap (◌++ drop (length text) out)
           (put_whole _ text c.put_word.new.text _ (omega (arith, length-take-le (length text) out c.if-out-n.false)) c.put_word.ensures),

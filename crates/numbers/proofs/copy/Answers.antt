@@ -2,7 +2,6 @@ use native.Mathlib.Omega.{arith}
 use Rattle.numbers.proofs.Each.{filling-first, filling-length, filling-turn, filling-last, bytes_cut}
 use mathlib.Core.Path.{◌∙◌}
 use lib.ListN.{length}
-use Prim.Native.Nat.{◌-◌}
 use Rattle.numbers.proofs.copy.Goals as goal
 
 pub loop-i-init : goal.loop-i-init

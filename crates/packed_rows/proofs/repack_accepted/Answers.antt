@@ -16,14 +16,13 @@ slice_bounds-repack_rows-end-2 c =
     sym (length-take-le repacked-length.result c.args.out.now c.if-out-needed.false)
 
 pub repack_rows-requires : goal.repack_rows-requires
-repack_rows-requires c =
-    (
-      c.requires.0,
-      c.repacked_length-needed.auto.line ∙ c.requires.1,
-      c.requires.3,
-      length-take-le c.repacked_length-needed.result c.args.out.now c.if-out-needed.false
-          ∙ c.repacked_length-needed.ensures,
-    )
+repack_rows-requires c = (
+  c.requires.0,
+  c.repacked_length-needed.auto.line ∙ c.requires.1,
+  c.requires.3,
+  length-take-le c.repacked_length-needed.result c.args.out.now c.if-out-needed.false
+      ∙ c.repacked_length-needed.ensures,
+)
 
 pub returns : goal.returns
 returns c =

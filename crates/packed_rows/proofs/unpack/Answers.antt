@@ -40,8 +40,10 @@ pub returns-in-Refused : goal.returns-in-Refused
 returns-in-Refused c =
     let sizes-fit = c.sizes_fit in
     let read = sym c.check_stream.ensures ∙ c.in-Refused.is in
-    is-answer-with unpacking_numbers
-    (simp (← sizes-fit.ensures, c.if-not-sizes_fit.false, le-ltb _ _ c.if-out-size.false, read), simp (← sizes-fit.ensures, c.if-not-sizes_fit.false, le-ltb _ _ c.if-out-size.false, read))
+    is-answer-with unpacking_numbers (
+      simp (← sizes-fit.ensures, c.if-not-sizes_fit.false, le-ltb _ _ c.if-out-size.false, read),
+      simp (← sizes-fit.ensures, c.if-not-sizes_fit.false, le-ltb _ _ c.if-out-size.false, read),
+    )
 
 pub slice_bounds-unpack_rows-end-2 : goal.slice_bounds-unpack_rows-end-2
 slice_bounds-unpack_rows-end-2 c =

@@ -11,8 +11,7 @@ slice_bounds-copy-end-2 c =
 
 pub returns : goal.returns
 returns c =
-    let m = c.args.m.now in
-    (
+    let m = c.args.m.now in (
       refl,
       head-points m (slice-bytes m c.type_inv.m) c.args.kind c.args.version c.args.at
           c.args.out.now _ _ c.copy.ensures c.requires.1 c.write_points.ensures,

@@ -41,8 +41,7 @@ pub write_envelope-requires : goal.write_envelope-requires
 write_envelope-requires c =
     let m = c.args.m.now in
     let version = c.args.version in
-    let place = c.args.at in
-    (
+    let place = c.args.at in (
       rw c.in-VolumeEnvelope.is at c.requires.0,
       room_of m version place c.args.kind c.in-VolumeEnvelope.is (record-length m version VolumeEnvelope place)
           c.requires.1,
@@ -52,8 +51,7 @@ pub write_envelope-requires-in-PanningEnvelope : goal.write_envelope-requires-in
 write_envelope-requires-in-PanningEnvelope c =
     let m = c.args.m.now in
     let version = c.args.version in
-    let place = c.args.at in
-    (
+    let place = c.args.at in (
       rw c.in-PanningEnvelope.is at c.requires.0,
       room_of m version place c.args.kind c.in-PanningEnvelope.is (record-length m version PanningEnvelope place)
           c.requires.1,

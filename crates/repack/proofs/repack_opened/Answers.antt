@@ -21,8 +21,7 @@ returns-then-out-needed c =
 
 pub write_module-requires : goal.write_module-requires
 write_module-requires c =
-    let m = c.args.m.now in
-    (
+    let m = c.args.m.now in (
       patterns-in m (slice-bytes m c.type_inv.m) c.args.l c.requires,
       omega (arith, c.room_needed-needed.ensures.0, c.if-out-needed.false),
     )

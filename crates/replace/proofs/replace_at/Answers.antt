@@ -66,8 +66,7 @@ returns-then-out-length c =
 
 pub write_result-cleared-requires : goal.write_result-cleared-requires
 write_result-cleared-requires c =
-    let m = c.args.m.now in
-    (
+    let m = c.args.m.now in (
       c.requires.0,
       c.requires.1,
       c.requires.2,

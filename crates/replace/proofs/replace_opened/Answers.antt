@@ -9,8 +9,7 @@ replace_at-requires c =
     let m = c.args.m.now in
     let l = c.args.l in
     let sample = c.args.sample in
-    let find-in = c.find_in in
-    (
+    let find-in = c.find_in in (
       c.requires,
       (sample-found m l sample find-in.ensures.0.0 c.in-At.is).0,
       (sample-found m l sample find-in.ensures.0.0 c.in-At.is).1,

@@ -12,12 +12,11 @@ overflow_cast-content-2 c =
     )
 
 pub write_front-requires : goal.write_front-requires
-write_front-requires c =
-    (
-      c.requires.0,
-      front-room c.args.m.now c.args.smpl c.args.at c.args.new.now c.requires.0
-          c.size-old.ensures.0 c.args.out.now c.requires.2,
-    )
+write_front-requires c = (
+  c.requires.0,
+  front-room c.args.m.now c.args.smpl c.args.at c.args.new.now c.requires.0
+      c.size-old.ensures.0 c.args.out.now c.requires.2,
+)
 
 pub slice_bounds-write_block-count : goal.slice_bounds-write_block-count
 slice_bounds-write_block-count c =

@@ -8,8 +8,7 @@ use Rattle.samples.proofs.all_frames_in.Goals as goal
 
 pub returns-then-out-needed : goal.returns-then-out-needed
 returns-then-out-needed c =
-    let sample-frames = c.sample_frames-frames in
-    (
+    let sample-frames = c.sample_frames-frames in (
       simp (← sample-frames.ensures, lt-ltb _ _ c.if-out-needed.true, c.refused.ensures, c.refuse.ensures),
       simp (← sample-frames.ensures, lt-ltb _ _ c.if-out-needed.true),
     )
@@ -19,18 +18,17 @@ slice_bounds-write_frames-end-2 c =
     sym (length-take-le (2 * c.sample_frames-frames.result) c.args.out.now c.if-out-needed.false)
 
 pub write_frames-requires : goal.write_frames-requires
-write_frames-requires c =
+write_frames-requires c = (
+  search rules,
+  (
+    c.frame_bytes.ensures.1,
     (
       search rules,
-      (
-        c.frame_bytes.ensures.1,
-        (
-          search rules,
-          length-take-le (2 * c.sample_frames-frames.result) c.args.out.now
-              c.if-out-needed.false,
-        ),
-      ),
-    )
+      length-take-le (2 * c.sample_frames-frames.result) c.args.out.now
+          c.if-out-needed.false,
+    ),
+  ),
+)
 
 pub returns : goal.returns
 returns c =

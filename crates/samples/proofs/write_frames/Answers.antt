@@ -1,6 +1,6 @@
 use native.Mathlib.Omega.{arith}
 use lib.ListN.{length, length-set}
-use Prim.Native.Nat.{◌+◌, ◌-◌, ◌*◌, ◌<◌}
+use Prim.Native.Nat.{◌+◌, ◌*◌, ◌<◌}
 use Rattle.blocks.proofs.BlockSizes.{frames-below}
 use Rattle.samples.proofs.WritingFrames.{writing-first, writing-length, writing-turn, writing-last}
 use Rattle.samples.proofs.write_frames.Goals as goal

@@ -1,4 +1,3 @@
-use Prim.Native.Nat.{◌-◌}
 use Rattle.io.specs.Digits.{last_digits}
 use borrow.Author.Rules.{rules}
 use native.Mathlib.Omega.{arith}

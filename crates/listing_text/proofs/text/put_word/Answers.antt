@@ -1,4 +1,3 @@
-use Prim.Native.Nat.{◌-◌}
 use borrow.Author.Rules.{rules}
 use Rattle.listing_text.proofs.Putting.{word_first, word-turn, word-last}
 use Rattle.listing_text.proofs.text.put_word.Goals as goal

@@ -1,4 +1,3 @@
-use Prim.Native.Nat.{◌-◌}
 use mathlib.Core.Path.{refl}
 use native.Mathlib.Omega.{arith}
 use Rattle.packed_rows.proofs.ListingCells.{cell-first, cell-count, cell-turn, cell-last}

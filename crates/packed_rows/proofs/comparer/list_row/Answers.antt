@@ -1,4 +1,3 @@
-use Prim.Native.Nat.{◌-◌}
 use native.Mathlib.Omega.{arith}
 use Rattle.packed_rows.proofs.ListingGroups.{rows-zeros, groups-first, groups-count, groups-last}
 use Rattle.packed_rows.proofs.ListingGroups.{group-order, group-fits, group-zeros, groups-turn}

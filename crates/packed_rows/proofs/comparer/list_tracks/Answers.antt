@@ -1,4 +1,3 @@
-use Prim.Native.Nat.{◌-◌}
 use native.Mathlib.Omega.{arith}
 use Rattle.packed_rows.proofs.ListingCells.{tracks-first, tracks-count, tracks-turn, tracks-last}
 use Rattle.packed_rows.proofs.comparer.list_tracks.Goals as goal

@@ -1,4 +1,3 @@
-use Prim.Native.Nat.{◌-◌}
 use native.Mathlib.Omega.{arith}
 use Rattle.packed_rows.proofs.Counting.{one-le, byte_one, counts-first, counts-inside, counts-turn, counts-last}
 use Rattle.packed_rows.proofs.packer.filled_cells.Goals as goal

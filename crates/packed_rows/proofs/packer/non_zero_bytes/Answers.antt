@@ -1,4 +1,4 @@
-use Prim.Native.Nat.{◌-◌, ◌+◌}
+use Prim.Native.Nat.{◌+◌}
 use lib.ListN.{length, length-take}
 use borrow.Author.Rules.{rules}
 use native.Mathlib.Omega.{arith}

@@ -21,8 +21,7 @@ write_row-at-requires c =
 pub loop-left-preserved : goal.loop-left-preserved
 loop-left-preserved c =
     let tracks = c.args.tracks in
-    let loop = c.loop-left in
-    (
+    let loop = c.loop-left in (
       omega arith,
       omega (arith, mul-less loop.left (tracks * 6) (omega arith)),
       rows-turn c.args.cells.now loop.from loop.left tracks (omega arith) loop.invariant.2

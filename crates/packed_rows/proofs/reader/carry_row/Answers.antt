@@ -1,4 +1,3 @@
-use Prim.Native.Nat.{◌-◌}
 use mathlib.Core.Path.{◌∙◌, refl}
 use native.Mathlib.Omega.{arith}
 use Rattle.packed_rows.proofs.Carrying.{carrying-first, carrying-inside, carrying-ready, carrying-cell, carrying-turn, carrying-last}
@@ -90,8 +89,7 @@ loop-at-smaller c =
 pub loop-at-preserved : goal.loop-at-preserved
 loop-at-preserved c =
     let loop = c.loop-at in
-    let wide = c.wide-track in
-    (
+    let wide = c.wide-track in (
       c.store_fields.auto.out ∙ loop.invariant.0,
       λ ahead.
           carrying-turn c.args.s.now c.args.start c.args.row.now ahead loop.row loop.at

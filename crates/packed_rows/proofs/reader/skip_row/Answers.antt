@@ -1,4 +1,3 @@
-use Prim.Native.Nat.{◌-◌}
 use native.Mathlib.Omega.{arith}
 use Rattle.packed_rows.proofs.Carrying.{skipping-first, skipping-inside, skipping-ready, skipping-turn, skipping-last}
 use Rattle.packed_rows.proofs.reader.skip_row.Goals as goal

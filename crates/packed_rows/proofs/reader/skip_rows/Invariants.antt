@@ -1,4 +1,3 @@
-use Prim.Native.Nat.{◌-◌}
 use Rattle.packed_rows.specs.Steps.{MoreRows}
 use Rattle.packed_rows.proofs.SkippingRows.{SkippingRows}
 use Rattle.packed_rows.proofs.reader.skip_rows.Given as goal

@@ -1,6 +1,4 @@
-use Prim.Native.Nat.{◌-◌}
 use mathlib.Core.Path.{◌≡◌}
-use lib.ListN.{length}
 use Rattle.packed_rows.proofs.Repacking.{CountingRows}
 use Rattle.packed_rows.proofs.repacker.repacked_length.Given as goal
 
