@@ -1,12 +1,21 @@
 -- What copying to the front of an output leaves in it.
-use Prim.Native.Nat.{ℕ, ◌≤◌}
-use mathlib.Core.Path.{◌≡◌, ◌∙◌}
-use mathlib.Core.List.{List, ◌++◌}
+use Prim.Native.Nat.{ℕ, zero, suc, ◌+◌, ◌<◌, ◌≤◌}
+use mathlib.Core.Path.{◌≡◌, refl, sym, ap, ◌∙◌}
+use mathlib.Core.List.{List, [], ◌∷◌, ◌++◌}
 use native.Mathlib.Omega.{arith}
-use lib.ListN.{length, take, drop}
+use native.Mathlib.Nat.{suc-add}
+use lib.ListN.{length, get_or, set, take, drop}
 use lib.Seq.{take_all}
 use Rattle.std.proofs.lemmas.List.{drop_all}
 use Rattle.byte_copy.specs.Copied.{copied}
+
+-- One more byte is copied.
+pub one-more : (bytes out : List ℕ) (i : ℕ) → i < length bytes → i < length out
+    → set (take i bytes ++ drop i out) i (get_or bytes i 0) ≡ take (i + 1) bytes ++ drop (i + 1) out
+one-more [] out i h k = absurd (omega arith)
+one-more (b ∷ bytes) [] i h k = absurd (omega arith)
+one-more (b ∷ bytes) (o ∷ out) zero h k = refl
+one-more (b ∷ bytes) (o ∷ out) (suc i) h k = rw (suc-add i 1) (ap (λ (rest : List ℕ). b ∷ rest) (one-more bytes out i (omega arith) (omega arith)))
 
 -- With room for all bytes, they are in front of what the output held after them.
 pub copied-all : (bytes out : List ℕ) → length bytes ≤ length out → copied bytes out ≡ bytes ++ drop (length bytes) out
@@ -22,3 +31,10 @@ copied-part bytes out h = rw (drop_all (length bytes) out h, drop_all (length ou
 pub copied-in : (bytes out after : List ℕ) → after ≡ copied bytes out → length bytes ≤ length out
     → after ≡ take (length bytes) bytes ++ drop (length bytes) out
 copied-in bytes out after e h = e ∙ copied-all bytes out h ∙ rw (take_all (length bytes) bytes (omega arith))
+
+-- What a copy of the first bytes leaves, up to the end of the shorter of the two.
+pub copied-up : (bytes out : List ℕ) (n : ℕ) → n ≡ length bytes → n ≤ length out → take n bytes ++ drop n out ≡ copied bytes out
+copied-up bytes out n e h = sym (rw (copied-all bytes out (omega arith), ← e) (ap (λ (front : List ℕ). front ++ drop n out) (sym (take_all n bytes (omega arith)))))
+
+pub copied-room : (bytes out : List ℕ) (n : ℕ) → n ≡ length out → n ≤ length bytes → take n bytes ++ drop n out ≡ copied bytes out
+copied-room bytes out n e h = sym (rw (copied-part bytes out (omega arith), ← e) refl)

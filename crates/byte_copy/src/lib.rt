@@ -14,5 +14,7 @@ pub fn copy(bytes: &[u8], out: &mut [u8])
     } else {
         out.len()
     };
-    out[..n].copy_from_slice(&bytes[..n]);
+    for i in 0..n {
+        out[i] = bytes[i];
+    }
 }

@@ -1,16 +1,20 @@
-use mathlib.Core.Path.{sym}
+use Prim.Native.Nat.{ℕ}
+use mathlib.Core.Path.{◌≡◌, ap, ◌∙◌}
+use mathlib.Core.List.{List, ◌++◌}
 use native.Mathlib.Omega.{arith}
-use lib.ListN.{length}
-use lib.Seq.{take_all}
-use Rattle.byte_copy.proofs.Copying.{copied-all, copied-part}
+use lib.ListN.{take, drop}
+use Rattle.byte_copy.proofs.Copying.{copied-up, copied-room}
 use Rattle.byte_copy.proofs.copy.Goals as goal
 use Rattle.byte_copy.proofs.copy.Goals.{then-bytes-out, else-bytes-out}
 
 pub returns : goal.returns
 returns c =
-    elim c.if-bytes-out.branch [
-      | then-bytes-out w ↦
-          simp (c.copy_from_slice.ensures.after, w.n-is, take_all (length c.args.bytes.now) c.args.bytes.now (omega arith))
-          (sym (copied-all c.args.bytes.now c.args.out.now (omega arith)))
-      | else-bytes-out w ↦ simp (c.copy_from_slice.ensures.after, w.n-is) (sym (copied-part c.args.bytes.now c.args.out.now (omega arith)))
+    let bytes = c.args.bytes.now in
+    let out = c.args.out.now in
+    let last : c.loop-i.i ≡ c.if-bytes-out.n = omega arith in
+    c.loop-i.invariant
+    ∙ ap (λ (n : ℕ). take n bytes ++ drop n out) last
+    ∙ elim c.if-bytes-out.branch [
+      | then-bytes-out w ↦ copied-up bytes out c.if-bytes-out.n w.n-is (omega arith)
+      | else-bytes-out w ↦ copied-room bytes out c.if-bytes-out.n w.n-is (omega arith)
     ]
