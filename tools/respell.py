@@ -1,7 +1,7 @@
 #!/usr/bin/env python3
 """Gives this repository's own definitions the spelling of today's Rattle: words in snake case.
 
-    python3 tools/respell.py            once, at the top of the repository, after /opt/rattle/port/port.py
+    python3 tools/respell.py            once, at the top of the repository, after the kit's port.py
 
 A name such as `entryLength` becomes `entry_length`, in every file of specs/ and proofs/, in every clause, `ghost use` and comment of src/,
 in the must-fail edits and in the documents. Names of Rattle functions, exported names, strings and numbers have no capital inside and stay.
