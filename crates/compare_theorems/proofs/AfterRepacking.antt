@@ -2,6 +2,7 @@
 use Prim.Native.Nat.{ℕ}
 use mathlib.Core.Path.{◌≡◌, sym}
 use mathlib.Core.List.{List, []}
+use Rattle.samples.specs.Shown.{frames_part}
 use Rattle.refusal.specs.declared.Verdict.TheVariants.{Accepted}
 use Rattle.numbers.specs.Numbers.{Bytes}
 use Rattle.module.specs.Verdicts.{module_verdict}
@@ -13,14 +14,16 @@ use Rattle.compare_theorems.proofs.Agreeing.{differences-none}
 use Rattle.compare_theorems.specs.Differs.{AnswersAgree}
 
 pub shown-agree : {m k : List ℕ} → ShowsSame m k → AnswersAgree m k
-shown-agree s = record {
+shown-agree {m} {k} s = record {
   name = sym s.name;
   info = sym s.info;
   song = λ number. record { song = sym (s.song number); entry = λ entry. sym (s.entry number entry) };
   instrument = λ number. sym (s.instrument number);
   envelopes = λ kind. sym (s.envelopes kind);
   envelope = λ kind number. sym (s.envelope kind number);
-  sample = λ number. record { sample = sym (s.sample number); frames = sym (s.frames number).bytes };
+  sample = λ number.
+      let parts : frames_part m number ≡ frames_part k number = sym (s.frames number).bytes in
+      record { sample = sym (s.sample number); frames = (cc) };
   rows = λ number. sym (s.rows number);
   cells = λ number out. sym (s.cells_written number out);
 }

@@ -74,7 +74,7 @@ module _ (m : List ℕ) (bytes : Bytes m) (sample : ℕ) (new : List ℕ) (room 
   sample-width-is same = ap (λ (a : SampleAnswer). a.width) same.sample ∙ sample-width shown
 
   sample-frames-are : SameSample m result sample → frames_part m sample ≡ new
-  sample-frames-are same = same.frames ∙ sample-frames shown ∙ call.stores
+  sample-frames-are same = let parts : frames_part m sample ≡ frames_part result sample = (cc) in parts ∙ sample-frames shown ∙ call.stores
 
   sample-differs : (number : ℕ) → (SameSample m result number → ⊥) → ReplacedDiffers m sample new (whole_difference 7 number)
   sample-differs number differs = go (eqb number sample) refl

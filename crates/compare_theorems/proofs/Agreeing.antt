@@ -8,6 +8,7 @@ use native.Mathlib.Omega.{arith}
 use lib.ListN.{get_or, replicate}
 use lib.Dec.{eqb, ltb}
 use borrow.Author.Tests.{ltb-true, ltb-false}
+use Rattle.samples.specs.Shown.{frames_part}
 use Rattle.refusal.specs.Numbers.{no_refusal}
 use Rattle.refusal.specs.declared.Verdict.TheVariants.{Accepted}
 use Rattle.cells.specs.Cells.{cell_bytes}
@@ -184,7 +185,9 @@ module _ (m k : List ℕ) (bytes : Bytes m) (others : Bytes k) (l j : Layout) (o
     instrument = record-agrees Instrument;
     envelopes = counts-agree;
     envelope = envelope-agrees;
-    sample = λ number. record { sample = (record-agrees Sample number).0; frames = (record-agrees Sample number).1 };
+    sample = λ number.
+        let parts : frames_part m number ≡ frames_part k number = (record-agrees Sample number).1 in
+        record { sample = (record-agrees Sample number).0; frames = (cc) };
     rows = λ number. (record-agrees Pattern number).0;
     cells = cells_agree;
   }

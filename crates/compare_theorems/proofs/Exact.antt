@@ -92,7 +92,7 @@ module _ (m k : List ℕ) (bytes : Bytes m) (others : Bytes k) (l j : Layout) (o
   record-differs Song number h = song number (λ s. h (s.song, s.entry))
   record-differs Instrument number h = instrument number h
   record-differs Pattern number h = pattern number (λ s. h (s.rows, s.tracks))
-  record-differs Sample number h = sample number (λ s. h (s.sample, s.frames))
+  record-differs Sample number h = sample number (λ s. h (s.sample, (cc)))
   record-differs VolumeEnvelope number h = volume_envelope number h
   record-differs PanningEnvelope number h = panning_envelope number h
 
@@ -217,7 +217,7 @@ module _ (m k : List ℕ) (bytes : Bytes m) (others : Bytes k) (l j : Layout) (o
   differs-in-list d (instrument number h) = kind-in _ Instrument (whole number h refl)
   differs-in-list d (volume_envelope number h) = kind-in _ VolumeEnvelope (whole number h refl)
   differs-in-list d (panning_envelope number h) = kind-in _ PanningEnvelope (whole number h refl)
-  differs-in-list d (sample number h) = kind-in _ Sample (whole number (λ s. h (record { sample = s.0; frames = s.1 })) refl)
+  differs-in-list d (sample number h) = kind-in _ Sample (whole number (λ s. h (record { sample = s.0; frames = (cc) })) refl)
   differs-in-list d (pattern number h) = kind-in _ Pattern (whole number (λ s. h (record { rows = s.0; tracks = s.1 })) refl)
   differs-in-list d (cell number row track field s there h) = kind-in _ Pattern (cell_in number row track field s there h)
 

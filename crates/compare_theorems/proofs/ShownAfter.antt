@@ -233,12 +233,15 @@ module _ {m n : List ℕ} {sample : ℕ} {frames : List ℕ} (r : ReplacedShown 
       ) refl
 
   pub sample-stays : (number : ℕ) → (number ≡ sample → ⊥) → SameSample m n number
-  sample-stays number other = record {
-    sample = before.sample w.samples w.samples_there number ∙ others-listed described_sample (no_sample not_there) number other
-        ∙ sym (after.sample samples (there w.samples_there) number);
-    frames = (before.frames w.samples w.samples_there number).bytes ∙ others-listed stored_frames [] number other
-        ∙ sym (after.frames samples (there w.samples_there) number).bytes;
-  }
+  sample-stays number other =
+      let parts : frames_part m number ≡ frames_part n number =
+      (before.frames w.samples w.samples_there number).bytes ∙ others-listed stored_frames [] number other
+      ∙ sym (after.frames samples (there w.samples_there) number).bytes in
+      record {
+        sample = before.sample w.samples w.samples_there number ∙ others-listed described_sample (no_sample not_there) number other
+            ∙ sym (after.sample samples (there w.samples_there) number);
+        frames = (cc);
+      }
 
   -- The sample that was replaced has 16 bits and the new frames.
   pub sample-width : (sample_answer n sample).width ≡ 16
