@@ -27,14 +27,16 @@ pub copied-part : (bytes out : List ℕ) → length out ≤ length bytes → cop
 unfolding copied
 copied-part bytes out h = rw (drop_all (length bytes) out h, drop_all (length out) out (omega arith))
 
--- The same of an output that was copied to, in the form that the proofs above use.
+-- The same of an output that was copied to, in the form that the lemmas of `repack`, `replace` and `records` take.
 pub copied-in : (bytes out after : List ℕ) → after ≡ copied bytes out → length bytes ≤ length out
     → after ≡ take (length bytes) bytes ++ drop (length bytes) out
 copied-in bytes out after e h = e ∙ copied-all bytes out h ∙ rw (take_all (length bytes) bytes (omega arith))
 
 -- What a copy of the first bytes leaves, up to the end of the shorter of the two.
 pub copied-up : (bytes out : List ℕ) (n : ℕ) → n ≡ length bytes → n ≤ length out → take n bytes ++ drop n out ≡ copied bytes out
-copied-up bytes out n e h = sym (rw (copied-all bytes out (omega arith), ← e) (ap (λ (front : List ℕ). front ++ drop n out) (sym (take_all n bytes (omega arith)))))
+copied-up bytes out n e h =
+    let front : take n bytes ≡ bytes = take_all n bytes (omega arith) in
+    rw (copied-all bytes out (omega arith), ← e, front) refl
 
 pub copied-room : (bytes out : List ℕ) (n : ℕ) → n ≡ length out → n ≤ length bytes → take n bytes ++ drop n out ≡ copied bytes out
 copied-room bytes out n e h = sym (rw (copied-part bytes out (omega arith), ← e) refl)
