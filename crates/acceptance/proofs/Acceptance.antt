@@ -1,19 +1,17 @@
 -- Theorem 8, assembled: the check accepts exactly if the outline is found, which is the rules of the chunks, and all rules for the content
 -- hold, which is the rest of the rules.
 use Prim.Native.Nat.{ℕ}
+use Rattle.std.specs.Prelude.{⊤, Result, Ok, Err}
+use Rattle.refusal.specs.declared.Refusal.{Refusal}
 use mathlib.Core.Path.{◌≡◌, refl, ap}
 use mathlib.Core.Logic.{◌↔◌}
 use mathlib.Core.List.{List}
 use native.Mathlib.Omega.{arith}
 use Rattle.vocabulary.specs.Letters.{info_letters}
 use Rattle.refusal.specs.Rules.{first_broken}
-use Rattle.refusal.specs.declared.Verdict.{Verdict}
-use Rattle.refusal.specs.declared.Verdict.TheVariants.{Accepted, Refused as VerdictRefused}
 use Rattle.numbers.specs.Numbers.{Bytes}
 use Rattle.layout.specs.Outlines.{outline_if, outline}
 use Rattle.layout.specs.declared.Layout.{Layout}
-use Rattle.layout.specs.declared.Outline.{Outline}
-use Rattle.layout.specs.declared.Outline.TheVariants.{Found, Refused}
 use Rattle.module.specs.Verdicts.{content_rules, content_if, opened, verdict_of_outline, module_verdict}
 use Rattle.acceptance.specs.Rules.{Rules}
 use Rattle.acceptance.proofs.Spans.{LayoutOf}
@@ -22,12 +20,12 @@ use Rattle.acceptance.proofs.ChunkHalf.{Outlined, outline-chunks, chunks-outline
 use Rattle.acceptance.proofs.ContentHalf.{content-exactly}
 
 -- The verdict after a layout that was found.
-pub verdict-found : (l : Layout) (v : Verdict) → verdict_of_outline (outline_if v (Found l)) ≡ v
-verdict-found l Accepted = refl
-verdict-found l (VerdictRefused r) = refl
+pub verdict-found : (l : Layout) (v : Result ⊤ Refusal) → verdict_of_outline (outline_if v (Ok l)) ≡ v
+verdict-found l (Ok _) = refl
+verdict-found l (Err r) = refl
 
 module _ (m : List ℕ) (bytes : Bytes m) where
-  rules-follow : (l : Layout) → Outlined m l → first_broken (content_rules m l) ≡ Accepted → Rules m
+  rules-follow : (l : Layout) → Outlined m l → first_broken (content_rules m l) ≡ Ok tt → Rules m
   rules-follow l o e = record {
     header = o.header;
     chunks = o.chunks;
@@ -49,15 +47,15 @@ module _ (m : List ℕ) (bytes : Bytes m) where
       info : There o.chunks info_letters
       info = o.mandatory.info
 
-  accepted-follows : module_verdict m ≡ Accepted → Rules m
+  accepted-follows : module_verdict m ≡ Ok tt → Rules m
   accepted-follows = go (outline m) refl
     where
-      go : (o : Outline) → outline m ≡ o → verdict_of_outline (content_if m o) ≡ Accepted → Rules m
-      go (Found l) h e = rules-follow l (outline-chunks m l bytes h) (rw (verdict-found l (first_broken (content_rules m l))) at e)
-      go (Refused r) h e = let z : ◌≡◌ {A = ℕ} 0 1 = cc in absurd (omega arith)
+      go : (o : Result Layout Refusal) → outline m ≡ o → verdict_of_outline (content_if m o) ≡ Ok tt → Rules m
+      go (Ok l) h e = rules-follow l (outline-chunks m l bytes h) (rw (verdict-found l (first_broken (content_rules m l))) at e)
+      go (Err r) h e = let z : ◌≡◌ {A = ℕ} 0 1 = cc in absurd (omega arith)
 
   -- A module for which the rules hold opens, with a layout of its chunks.
-  pub rules-open : (r : Rules m) → (l : Layout) × (opened m ≡ Found l) × LayoutOf m r.header r.chunks l
+  pub rules-open : (r : Rules m) → (l : Layout) × (opened m ≡ Ok l) × LayoutOf m r.header r.chunks l
   rules-open r =
       let found = chunks-outline m r.header r.chunks r.chunk_rules
       (record {
@@ -71,8 +69,8 @@ module _ (m : List ℕ) (bytes : Bytes m) where
       r.patt_there r.smpl_there (r.chunk_rules.info r.info r.info_there).tracks bytes).1 r.content in
       (found.0, rw (found.1, accepted) refl, found.2)
 
-  rules-accepted : Rules m → module_verdict m ≡ Accepted
+  rules-accepted : Rules m → module_verdict m ≡ Ok tt
   rules-accepted r = ap verdict_of_outline (rules-open r).1
 
-  pub accepted-exactly : (module_verdict m ≡ Accepted) ↔ Rules m
+  pub accepted-exactly : (module_verdict m ≡ Ok tt) ↔ Rules m
   accepted-exactly = (accepted-follows, rules-accepted)

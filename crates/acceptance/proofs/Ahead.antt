@@ -66,10 +66,10 @@ module _ {out₀ all : List ℕ} (room : length all ≤ length out₀) (out : Li
   last : Ahead out₀ all out to (xs ++ [])
   last = rw append-nil a
 
-  pub last-small : to + length xs ≤ length out₀
+  last-small : to + length xs ≤ length out₀
   last-small = ahead_small room out xs [] last
 
-  pub last-part : length xs ≤ length (mid_of to (length out - to) out)
+  last-part : length xs ≤ length (mid_of to (length out - to) out)
   last-part = ahead-part room out xs [] last
 
   pub ahead-last : (mid : List ℕ) {r : ℕ} → (r ≡ length xs) × (mid ≡ xs ++ drop r (mid_of to (length out - to) out))
@@ -102,9 +102,6 @@ module _ (xs ys zs out₀ : List ℕ) (room : length (xs ++ (ys ++ zs)) ≤ leng
     pub second-part : length ys ≤ length (mid_of p (length out₁ - p) out₁)
     second-part = ahead-part room out₁ ys zs after_first
 
-    pub second-small : p + length ys ≤ length out₀
-    second-small = ahead_small room out₁ ys zs after_first
-
     module _ (mid₂ : List ℕ) {q : ℕ} (e₂ : (q ≡ length ys) × (mid₂ ≡ ys ++ drop q (mid_of p (length out₁ - p) out₁))) where
       abbrev out₂ : List ℕ
       out₂ = put_mid p (length out₁ - p) out₁ mid₂
@@ -123,9 +120,6 @@ module _ (xs ys zs out₀ : List ℕ) (room : length (xs ++ (ys ++ zs)) ≤ leng
 
       pub third-part : length zs ≤ length (mid_of (p + q) (length out₂ - (p + q)) out₂)
       third-part = last-part room out₂ zs after-second
-
-      pub third-small : p + q + length zs ≤ length out₀
-      third-small = last-small room out₂ zs after-second
 
       pub three-written : (mid₃ : List ℕ) {r : ℕ}
           → (r ≡ length zs) × (mid₃ ≡ zs ++ drop r (mid_of (p + q) (length out₂ - (p + q)) out₂))

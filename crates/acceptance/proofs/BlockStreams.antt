@@ -1,6 +1,7 @@
 -- The packed streams of patterns. The check reads a stream in the module, the rules read it in the pattern's block. The check accepts a
 -- stream exactly if it is the stream of some rows of sound entries (theorem 6 of `packed_rows`).
 use Prim.Native.Nat.{ℕ, ◌+◌, ◌%◌, ◌≤◌}
+use Rattle.std.specs.Prelude.{⊤, Result, Ok, Err}
 use mathlib.Core.Path.{◌≡◌, refl, sym, ap, ◌∙◌}
 use mathlib.Core.Logic.Iff
 use mathlib.Core.Logic.{◌↔◌}
@@ -15,8 +16,6 @@ use Rattle.refusal.specs.Numbers.{refusal}
 use Rattle.refusal.specs.Rules.{accepted}
 use Rattle.refusal.specs.declared.Reason.TheVariants.{Sizes}
 use Rattle.refusal.specs.declared.Refusal.{Refusal}
-use Rattle.refusal.specs.declared.Verdict.{Verdict}
-use Rattle.refusal.specs.declared.Verdict.TheVariants.{Accepted, Refused}
 use Rattle.cells.specs.Cells.{sizes_fit}
 use Rattle.numbers.specs.Numbers.{Bytes, number16, number32, part_of}
 use Rattle.packed_rows.specs.Entries.{Entry}
@@ -39,30 +38,30 @@ abbrev pub TracksFit : ℕ → Type 0
 TracksFit tracks = (4 ≤ tracks) × (tracks ≤ 254) × (tracks % 2 ≡ 0)
 
 -- What the check of a stream answers.
-pub accepted-says : (v : Verdict) → (accepted v ≡ true) ↔ (v ≡ Accepted)
-accepted-says Accepted = (λ e. refl, λ e. refl)
-accepted-says (Refused r) = (λ e. false-never e, λ e. let z : ◌≡◌ {A = ℕ} 0 1 = cc in absurd (omega arith))
+pub accepted-says : (v : Result ⊤ Refusal) → (accepted v ≡ true) ↔ (v ≡ Ok tt)
+accepted-says (Ok _) = (λ e. refl, λ e. refl)
+accepted-says (Err r) = (λ e. false-never e, λ e. let z : ◌≡◌ {A = ℕ} 0 1 = cc in absurd (omega arith))
 
 module _ (stream : List ℕ) (rows tracks : ℕ) where
-  pub accepted-sizes : check_answer stream rows tracks ≡ Accepted → sizes_fit rows tracks ≡ true
+  pub accepted-sizes : check_answer stream rows tracks ≡ Ok tt → sizes_fit rows tracks ≡ true
   accepted-sizes = go (sizes_fit rows tracks) (refusal Sizes 0) (verdict_of_reading (read_stream rows tracks stream))
     where
-      go : (fits : Bool) (r : Refusal) (v : Verdict) → cond (not fits) (Refused r) v ≡ Accepted → fits ≡ true
+      go : (fits : Bool) (r : Refusal) (v : Result ⊤ Refusal) → cond (not fits) (Err r) v ≡ Ok tt → fits ≡ true
       go true r v e = refl
       go false r v e = let z : ◌≡◌ {A = ℕ} 0 1 = cc in absurd (omega arith)
 
-  stream-read : check_answer stream rows tracks ≡ Accepted → (entries : List (List Entry)) × SoundStream rows tracks stream entries
+  stream-read : check_answer stream rows tracks ≡ Ok tt → (entries : List (List Entry)) × SoundStream rows tracks stream entries
   stream-read e = (accepts-exactly rows tracks stream (accepted-sizes e)).0 e
 
   -- An accepted stream is accepted as the cells that are read from it.
-  pub holds : check_answer stream rows tracks ≡ Accepted → AcceptedAs rows tracks stream (cells_read rows tracks stream)
+  pub holds : check_answer stream rows tracks ≡ Ok tt → AcceptedAs rows tracks stream (cells_read rows tracks stream)
   holds e =
       let entries : List (List Entry) = (stream-read e).0 in
       let read : read_stream rows tracks stream ≡ whole entries = (reads-exactly rows tracks stream entries).1 (stream-read e).1 in
       record { entries = entries; read = read; gives = rw read }
 
   stream-accepted : rows ≤ 65535 → TracksFit tracks → (entries : List (List Entry)) → SoundStream rows tracks stream entries
-      → check_answer stream rows tracks ≡ Accepted
+      → check_answer stream rows tracks ≡ Ok tt
   stream-accepted h t entries s =
       (accepts-exactly rows tracks stream
       (rw (le-leb rows 65535 h, le-leb 4 tracks t.0, le-leb tracks 254 t.1, eq-eqb (tracks % 2) 0 t.2))).1
@@ -79,7 +78,7 @@ module _ {m block : List ℕ} {at : ℕ} (p : PartAt m at block) (fits : 6 ≤ l
   pub stream-same : packed_bytes m at ≡ stream
   stream-same = rw (number32-at p 2 (omega arith), packed) (part-is (part-of-part p inside))
 
-  stream-says : (tracks : ℕ) → AllHold (pattern_stream_rules m tracks at) ↔ (check_answer stream (number16 block 0) tracks ≡ Accepted)
+  stream-says : (tracks : ℕ) → AllHold (pattern_stream_rules m tracks at) ↔ (check_answer stream (number16 block 0) tracks ≡ Ok tt)
   stream-says tracks = simp (every_one, accepted-says, stream-same, number16-start p (omega arith)) Iff.rfl
 
 pub pattern-holds : {m block : List ℕ} {at : ℕ} → PartAt m at block → Sized Pattern block → (tracks : ℕ)

@@ -1,6 +1,7 @@
 -- A module with some chunks changed is accepted: all its rules follow from the rules of the module and from the blocks of the changed
 -- mandatory chunks.
 use Prim.Native.Nat.{ℕ, ◌≤◌}
+use Rattle.std.specs.Prelude.{Ok}
 use mathlib.Core.Path.{◌≡◌, sym, subst}
 use mathlib.Core.List.{List, ◌++◌, map}
 use mathlib.Core.Bool.{Bool, false}
@@ -11,7 +12,6 @@ use Rattle.vocabulary.proofs.Splits.{only_one}
 use Rattle.numbers.specs.Numbers.{byte_at, Bytes, number16}
 use Rattle.layout.specs.Chunks.{name_identifier, info_identifier, venv_identifier, penv_identifier}
 use Rattle.layout.specs.declared.Layout.{Layout}
-use Rattle.layout.specs.declared.Outline.TheVariants.{Found}
 use Rattle.module.specs.Verdicts.{opened}
 use Rattle.acceptance.specs.Rules.{IsChunk, Among, Covered, InfoRules, Filled, SongRules, InstrumentRules}
 use Rattle.acceptance.specs.Rules.{PatternRules, SampleRules, EnvelopesRules, VolumeFits, PanningValueFits, Rules}
@@ -119,6 +119,6 @@ module _ {m : List ℕ} (r : Rules m) {changes : ℕ → Bool} {f : List ℕ →
       }
 
       -- So the changed module opens, with a layout of the changed chunks.
-      pub changed-opens : Bytes n → (l : Layout) × (opened n ≡ Found l) × LayoutOf n r.header (map f r.chunks) l
+      pub changed-opens : Bytes n → (l : Layout) × (opened n ≡ Ok l) × LayoutOf n r.header (map f r.chunks) l
       unfolding all_changed
       changed-opens below = rules-open n below all_changed

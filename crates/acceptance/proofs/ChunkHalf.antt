@@ -1,6 +1,8 @@
 -- The chunk half of theorem 8. The outline of a module is found exactly if the module is a header and chunks for which M2 to M9 hold and
 -- which include the mandatory ones. The layout found is that of these chunks.
 use Prim.Native.Nat.{ℕ, ◌+◌}
+use Rattle.std.specs.Prelude.{Result, Ok, Err}
+use Rattle.refusal.specs.declared.Refusal.{Refusal}
 use mathlib.Core.Path.{◌≡◌, sym, ap, subst, ◌∙◌}
 use mathlib.Core.Logic.{◌↔◌}
 use mathlib.Core.List.{List, ◌∷◌, ◌++◌, append_assoc}
@@ -17,8 +19,6 @@ use Rattle.layout.specs.Chunks.{occurs}
 use Rattle.layout.specs.Outlines.{header_span, span_of, spans_of, layout_with, mandatory_there, outline}
 use Rattle.layout.specs.declared.ChunkSpan.{ChunkSpan}
 use Rattle.layout.specs.declared.Layout.{Layout}
-use Rattle.layout.specs.declared.Outline.{Outline}
-use Rattle.layout.specs.declared.Outline.TheVariants.{Found as OutlineFound, Refused}
 use Rattle.acceptance.specs.Rules.{Among, Covered, ChunkRules}
 use Rattle.acceptance.proofs.Spans.{SpanHolds, Found, LayoutOf}
 use Rattle.acceptance.proofs.Locating.{PartAt, number16-at}
@@ -146,9 +146,9 @@ module _ {m header : List ℕ} {all : List (List ℕ)} (rules : ChunkRules m hea
   chunks-part = record { whole = rules.whole; once = rules.once; after_info = rules.after_info; name = rules.name; info = rules.info }
 
 -- If the outline is found, the rules hold.
-abbrev Says : List ℕ → Outline → Type 0
-Says m (OutlineFound l) = Outlined m l
-Says m (Refused r) = Unit {0}
+abbrev Says : List ℕ → Result Layout Refusal → Type 0
+Says m (Ok l) = Outlined m l
+Says m (Err r) = Unit {0}
 
 reported : (m : List ℕ) → Bytes m → Says m (outline m)
 reported m below =
@@ -161,12 +161,12 @@ reported m below =
         let rules = rules-of read.bytes size (rules-header m (take 8 m) (joined all) read.bytes size below read.header) (turn-fits read.turn) in
         record { header = take 8 m; chunks = all; rules = rules; mandatory = (mandatory-says rules).0 h; layout = layout_of rules }
 
-pub outline-chunks : (m : List ℕ) (l : Layout) → Bytes m → outline m ≡ OutlineFound l → Outlined m l
+pub outline-chunks : (m : List ℕ) (l : Layout) → Bytes m → outline m ≡ Ok l → Outlined m l
 outline-chunks m l below e = subst (Says m) e (reported m below)
 
 -- If the rules hold, the outline is found.
 pub chunks-outline : (m header : List ℕ) (all : List (List ℕ)) → ChunkRules m header all → Mandatory all
-    → (l : Layout) × (outline m ≡ OutlineFound l) × LayoutOf m header all l
+    → (l : Layout) × (outline m ≡ Ok l) × LayoutOf m header all l
 chunks-outline m header all rules mandatory =
     let accepted = (accepted-hold (header_rules m)).1 (header-rules m header (joined all) rules.bytes rules.header_size (header-part rules)) in
     let walked = read_whole m header all rules.header_size rules.bytes (fits-turn (chunks-part rules)) in

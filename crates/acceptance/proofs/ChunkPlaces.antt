@@ -1,5 +1,7 @@
 -- The chunk half of theorem 10: the places of refusals 1 to 10, and what is wrong there.
 use Prim.Native.Nat.{ℕ, ◌+◌, ◌/◌, ◌%◌, ◌≤◌, ◌<◌}
+use Rattle.std.specs.Prelude.{Result, Ok, Err}
+use Rattle.layout.specs.declared.Layout.{Layout}
 use mathlib.Core.Path.{◌≡◌, refl, sym, ap, subst, ◌∙◌}
 use mathlib.Core.Logic.{◌↔◌, ◌⊎◌, inl, inr}
 use mathlib.Core.List.{List, [], ◌++◌, append-nil}
@@ -19,8 +21,6 @@ use Rattle.layout.specs.Chunks.{name_identifier, info_identifier, song_identifie
 use Rattle.layout.specs.Chunks.{chunk_at, four_letters, needs_info, covered}
 use Rattle.layout.specs.Chunks.{length_fits, tracks_fit, info_rules, chunk_rules}
 use Rattle.layout.specs.Outlines.{mandatory_there, outline}
-use Rattle.layout.specs.declared.Outline.{Outline}
-use Rattle.layout.specs.declared.Outline.TheVariants.{Found, Refused}
 use Rattle.acceptance.specs.Rules.{IsChunk, Covered, NeedsInfo}
 use Rattle.acceptance.specs.Faults.{HeaderFault, VersionFault, CutFault, IdentifierFault, LengthFault, RangeFault}
 use Rattle.acceptance.specs.Places.{ChunkBegins, ChunksOf, PlaceOf, too_long, not_aModule, version, chunk_cut, identifier}
@@ -231,9 +231,9 @@ missing-placed m all read =
         (missing these (record { letters = letters; mandatory = mandatory; lacks = λ chunk a. no (chunk, a) }), omega arith)
 
 -- For an outline that is refused, the place is as F17 says.
-abbrev Says : List ℕ → Outline → Type 0
-Says m (Found l) = Unit {0}
-Says m (Refused r) = Placed m r
+abbrev Says : List ℕ → Result Layout Refusal → Type 0
+Says m (Ok l) = Unit {0}
+Says m (Err r) = Placed m r
 
 reported : (m : List ℕ) → Says m (outline m)
 reported m = along-outline m (Says m) (record {
@@ -243,5 +243,5 @@ reported m = along-outline m (Says m) (record {
   found = λ all read mandatory. tt;
 })
 
-pub outline-place : (m : List ℕ) (r : Refusal) → outline m ≡ Refused r → Placed m r
+pub outline-place : (m : List ℕ) (r : Refusal) → outline m ≡ Err r → Placed m r
 outline-place m r e = subst (Says m) e (reported m)

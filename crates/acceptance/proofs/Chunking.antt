@@ -1,6 +1,7 @@
 -- The walk over the chunks. If it reads them all, the module is its header and these chunks, and each fits after those before it. If it
 -- stops, such chunks are before the place. A module of such chunks is read to its end.
 use Prim.Native.Nat.{ℕ, zero, suc, ◌+◌, ◌≤◌, ◌<◌}
+use Rattle.std.specs.Prelude.{⊤, Result, Ok, Err}
 use mathlib.Core.Path.{◌≡◌, refl, sym, ap, subst, ◌∙◌}
 use mathlib.Core.List.{List, [], ◌∷◌, ◌++◌, append_assoc, append-nil}
 use mathlib.Core.Bool.{Bool, true, false, cond}
@@ -14,8 +15,6 @@ use Rattle.vocabulary.proofs.EveryOne.{every_first, every_rest}
 use Rattle.vocabulary.proofs.JoinedLists.{joined-last, joined-next}
 use Rattle.refusal.specs.Rules.{first_broken}
 use Rattle.refusal.specs.declared.Refusal.{Refusal}
-use Rattle.refusal.specs.declared.Verdict.{Verdict}
-use Rattle.refusal.specs.declared.Verdict.TheVariants.{Accepted, Refused}
 use Rattle.numbers.specs.Numbers.{number32, part_of}
 use Rattle.layout.specs.Chunks.{ChunkHeader, chunk_at, chunk_end, chunk_rules, Walk, complete, stopped, walk_on, chunks_from, chunks}
 use Rattle.acceptance.specs.Rules.{IsChunk}
@@ -119,7 +118,7 @@ accepted-fits {m} {header} {before} {at} r hold =
 module _ {m header : List ℕ} (P : Walk → Type 0)
     (ends : (all : List (List ℕ)) → m ≡ header ++ joined all → InTurn [] all → P (complete (records_from 8 all)))
     (stops : (before : List (List ℕ)) (at : ℕ) → Reached m header before at → at < length m → (r : Refusal)
-    → first_broken (chunk_rules m (records_from 8 before) at) ≡ Refused r
+    → first_broken (chunk_rules m (records_from 8 before) at) ≡ Err r
     → P (stopped r)) where
   abbrev Onward : ℕ → Type 0
   Onward steps = (before : List (List ℕ)) (at : ℕ) → Reached m header before at → length m < at + steps → P (chunks_from steps m (records_from 8 before) at)
@@ -132,9 +131,9 @@ module _ {m header : List ℕ} (P : Walk → Type 0)
       following : Walk
       following = chunks_from steps m (records_from 8 before ++ (chunk_at m at ∷ [])) (chunk_end (chunk_at m at))
 
-      turn : (v : Verdict) → first_broken (chunk_rules m (records_from 8 before) at) ≡ v → at < length m → Onward steps → P (walk_on v following)
-      turn (Refused refused) e less ih = stops before at r less refused e
-      turn Accepted e less ih =
+      turn : (v : Result ⊤ Refusal) → first_broken (chunk_rules m (records_from 8 before) at) ≡ v → at < length m → Onward steps → P (walk_on v following)
+      turn (Err refused) e less ih = stops before at r less refused e
+      turn (Ok _) e less ih =
           let (chunk, part, fits) = accepted-fits r ((accepted-hold (chunk_rules m (records_from 8 before) at)).0 e) in
           subst P (sym (walk-next r part fits steps))
           (ih (before ++ (chunk ∷ [])) (at + length chunk) (reached-next r part fits) (omega (arith, fits.bytes.size)))
@@ -155,7 +154,7 @@ walk_ends zero m before at h = refl
 walk_ends (suc steps) m before at h = rw (le-leb (length m) at h)
 
 walk-goes-on : (steps : ℕ) (m : List ℕ) (before : List ChunkHeader) (at : ℕ) → at < length m
-    → first_broken (chunk_rules m before at) ≡ Accepted
+    → first_broken (chunk_rules m before at) ≡ Ok tt
     → chunks_from (suc steps) m before at ≡ chunks_from steps m (before ++ (chunk_at m at ∷ [])) (chunk_end (chunk_at m at))
 unfolding chunks_from
 walk-goes-on steps m before at h e = rw (lt-leb (length m) at h, e)

@@ -1,6 +1,7 @@
 -- The content half of theorem 8: if the layout is that of the chunks, all of the check's rules for the content hold exactly if the chunks
 -- are filled with blocks for which the rules hold.
 use Prim.Native.Nat.{ℕ, ◌+◌, ◌-◌, ◌≤◌, ◌<◌}
+use Rattle.std.specs.Prelude.{Ok}
 use mathlib.Core.Path.{◌≡◌, refl, sym, subst, ◌∙◌}
 use mathlib.Core.Logic.{◌↔◌, ◌⊎◌, inl, inr}
 use mathlib.Core.List.{List, []}
@@ -13,7 +14,6 @@ use Rattle.vocabulary.specs.Lists.{Every, none}
 use Rattle.vocabulary.specs.Letters.{info_letters, song_letters, inst_letters, patt_letters, smpl_letters, venv_letters, penv_letters}
 use Rattle.vocabulary.proofs.EveryOne.{every_of, every-both, every-at}
 use Rattle.refusal.specs.Rules.{first_broken}
-use Rattle.refusal.specs.declared.Verdict.TheVariants.{Accepted}
 use Rattle.numbers.specs.Numbers.{byte_at, Bytes, number16, number32}
 use Rattle.layout.specs.declared.ChunkSpan.{ChunkSpan}
 use Rattle.layout.specs.declared.Layout.{Layout}
@@ -240,7 +240,7 @@ module _ {m header : List ℕ} {chunks : List (List ℕ)} {l : Layout} (layout :
         panning : (chunk : List ℕ) → Among chunks penv_letters chunk → EnvelopesRules l.instruments (PanningValueFits l.version) chunk
         panning = rw (b.in_inst.filled.number, ← layout.version) at c.panning_envelopes
 
-    pub content-exactly : (first_broken (content_rules m l) ≡ Accepted) ↔ Content header chunks info song inst patt smpl
+    pub content-exactly : (first_broken (content_rules m l) ≡ Ok tt) ↔ Content header chunks info song inst patt smpl
     content-exactly = (
       λ e. content-follows ((content-hold m l).0 ((accepted-hold (content_rules m l)).0 e)),
       λ c. (accepted-hold (content_rules m l)).1 ((content-hold m l).1 (content-holds c)),

@@ -1,6 +1,7 @@
 -- The content half of theorem 10: the places of refusals 11 to 15, and what is wrong there. 11 is at the header of a chunk. If the blocks
 -- fill their chunks, 12 and 13 are at a field of a block (FieldPlaces), 14 and 15 at the beginning of one.
 use Prim.Native.Nat.{ℕ, ◌+◌, ◌-◌, ◌≤◌, ◌<◌}
+use Rattle.std.specs.Prelude.{Err}
 use mathlib.Core.Path.{◌≡◌, sym, ◌∙◌}
 use mathlib.Core.Logic.{◌⊎◌, inl, inr}
 use mathlib.Core.List.{List, []}
@@ -14,7 +15,6 @@ use Rattle.refusal.specs.Numbers.{refusal}
 use Rattle.refusal.specs.Rules.{Rule, first_broken, accepted}
 use Rattle.refusal.specs.declared.Reason.TheVariants.{Blocks}
 use Rattle.refusal.specs.declared.Refusal.{Refusal}
-use Rattle.refusal.specs.declared.Verdict.TheVariants.{Refused}
 use Rattle.numbers.specs.Numbers.{Bytes, number16, number32}
 use Rattle.layout.specs.declared.ChunkSpan.{ChunkSpan}
 use Rattle.layout.specs.declared.Layout.{Layout}
@@ -174,7 +174,7 @@ module _ {m : List ℕ} {l : Layout} (o : Outlined m l) where
       stream-rules-placed : WhereBroken (Placed m) (stream_rules m l)
       stream-rules-placed = each_placed o fill Pattern (pattern_stream_rules m l.tracks) o.mandatory.patt stream-placed
 
-pub content-place : (m : List ℕ) (l : Layout) → Bytes m → Outlined m l → (r : Refusal) → first_broken (content_rules m l) ≡ Refused r → Placed m r
+pub content-place : (m : List ℕ) (l : Layout) → Bytes m → Outlined m l → (r : Refusal) → first_broken (content_rules m l) ≡ Err r → Placed m r
 content-place m l below o = first-broken rules
   where
     rules : WhereBroken (Placed m) (content_rules m l)

@@ -1,6 +1,7 @@
 -- An accepted module has none of the faults of theorem 10. Each fault of 11 to 15 is the opposite of a rule of a block, and a chunk can be
 -- cut into blocks in only one way.
 use Prim.Native.Nat.{ℕ, ◌≤◌}
+use Rattle.std.specs.Prelude.{Result, Ok}
 use mathlib.Core.Path.{◌≡◌, refl, sym, ap, subst, ◌∙◌}
 use mathlib.Core.Logic.{inl, inr}
 use mathlib.Core.List.{List, ◌∷◌, ◌++◌}
@@ -11,12 +12,9 @@ use Rattle.vocabulary.specs.Letters.{song_letters, inst_letters, patt_letters, s
 use Rattle.vocabulary.proofs.EveryOne.{every_append, every_first, every_of}
 use Rattle.refusal.specs.Rules.{first_broken}
 use Rattle.refusal.specs.declared.Refusal.{Refusal}
-use Rattle.refusal.specs.declared.Verdict.TheVariants.{Accepted}
 use Rattle.numbers.specs.Numbers.{byte_at, Bytes, number16}
 use Rattle.layout.specs.Outlines.{outline}
 use Rattle.layout.specs.declared.Layout.{Layout}
-use Rattle.layout.specs.declared.Outline.{Outline}
-use Rattle.layout.specs.declared.Outline.TheVariants.{Found}
 use Rattle.blocks.specs.Sizes.{size_of}
 use Rattle.blocks.specs.RecordKinds.{block_kind_of}
 use Rattle.blocks.specs.declared.RecordKind.{RecordKind}
@@ -90,7 +88,7 @@ module _ {header : List ℕ} {chunks : List (List ℕ)} {info song inst patt smp
     panning-made : (a : Among chunks penv_letters chunk) → MadeOf PanningEnvelope info chunk (c.panning_envelopes chunk a).envelopes
     panning-made a = let e = c.panning_envelopes chunk a in record { filled = e.filled; sizes = every_of (λ block r. r.size) e.rules }
 
-module _ {m : List ℕ} (below : Bytes m) (accepted : module_verdict m ≡ Accepted) (all : AllChunks m) where
+module _ {m : List ℕ} (below : Bytes m) (accepted : module_verdict m ≡ Ok tt) (all : AllChunks m) where
   abbrev Is : List ℕ → List ℕ → Type 0
   Is letters chunk = Among all.chunks letters chunk
 
@@ -103,13 +101,13 @@ module _ {m : List ℕ} (below : Bytes m) (accepted : module_verdict m ≡ Accep
     smpl = all.others_there smpl_letters NeedsInfo.smpl;
   }
 
-  found : (l : Layout) × (outline m ≡ Found l) × LayoutOf m all.header all.chunks l
+  found : (l : Layout) × (outline m ≡ Ok l) × LayoutOf m all.header all.chunks l
   found = chunks-outline m all.header all.chunks all.rules mandatory
 
-  passes : first_broken (content_rules m found.0) ≡ Accepted
+  passes : first_broken (content_rules m found.0) ≡ Ok tt
   passes =
       sym (verdict-found found.0 (first_broken (content_rules m found.0)))
-      ∙ ap (λ (o : Outline). verdict_of_outline (content_if m o)) (sym found.1)
+      ∙ ap (λ (o : Result Layout Refusal). verdict_of_outline (content_if m o)) (sym found.1)
       ∙ accepted
 
   -- The content, for any chunks with the letters of the four.
@@ -224,7 +222,7 @@ module _ {m : List ℕ} (below : Bytes m) (accepted : module_verdict m ≡ Accep
   no-place-in (stream at fault) = no-stream-fault at fault
 
 -- All of them: an accepted module has no fault at any place.
-pub accepted-faultless : (m : List ℕ) → Bytes m → module_verdict m ≡ Accepted → (r : Refusal) → PlaceOf m r → ⊥
+pub accepted-faultless : (m : List ℕ) → Bytes m → module_verdict m ≡ Ok tt → (r : Refusal) → PlaceOf m r → ⊥
 accepted-faultless m below accepted r place = go ((accepted-exactly m below).0 accepted) place
   where
     needed : (rules : Rules m) (letters : List ℕ) → NeedsInfo letters → There rules.chunks letters

@@ -1,6 +1,7 @@
 -- What holds for the refusal of the first rule that does not hold. It is enough to prove it rule by rule: for each rule that does not hold,
 -- if the rules before it hold.
 use Prim.Native.Nat.{ℕ}
+use Rattle.std.specs.Prelude.{Err}
 use mathlib.Core.Path.{◌≡◌, refl, sym, subst, ◌∙◌}
 use mathlib.Core.Logic.{◌↔◌}
 use mathlib.Core.List.{List, [], ◌∷◌, ◌++◌}
@@ -10,7 +11,6 @@ use Rattle.vocabulary.specs.Lists.{Every, none, also}
 use Rattle.refusal.specs.Numbers.{refusal}
 use Rattle.refusal.specs.Rules.{Rule, first_broken, rules_of_each}
 use Rattle.refusal.specs.declared.Refusal.{Refusal}
-use Rattle.refusal.specs.declared.Verdict.TheVariants.{Refused}
 use Rattle.acceptance.proofs.Holding.{false-never, AllHold}
 
 -- Rule by rule: P holds for the refusal of the first rule if that does not hold, and for those of the rules after it if it does.
@@ -21,12 +21,12 @@ pub data WhereBroken (P : Refusal → Type 0) : List Rule → Type 0 where
       → WhereBroken P (r ∷ rules)
 
 module _ {P : Refusal → Type 0} where
-  pub first-broken : {rules : List Rule} → WhereBroken P rules → (r : Refusal) → first_broken rules ≡ Refused r → P r
+  pub first-broken : {rules : List Rule} → WhereBroken P rules → (r : Refusal) → first_broken rules ≡ Err r → P r
   first-broken no-rule r e = let z : ◌≡◌ {A = ℕ} 0 1 = cc in absurd (omega arith)
   first-broken (this-or {r = rule} {rules = rules} this more) r e = go rule.holds refl (λ h. first-broken (more h) r) e
     where
-      go : (b : Bool) → rule.holds ≡ b → (rule.holds ≡ true → first_broken rules ≡ Refused r → P r)
-          → cond b (first_broken rules) (Refused (refusal rule.reason rule.place)) ≡ Refused r
+      go : (b : Bool) → rule.holds ≡ b → (rule.holds ≡ true → first_broken rules ≡ Err r → P r)
+          → cond b (first_broken rules) (Err (refusal rule.reason rule.place)) ≡ Err r
           → P r
       go true h ih e = ih h e
       go false h ih e = let same : refusal rule.reason rule.place ≡ r = cc in subst P same (this h)

@@ -1,6 +1,7 @@
 -- Rules that hold. Nothing is refused exactly if every rule of a list holds. For appended lists, and for the rules of many places, this is
 -- stated part by part. Also what each test states as a proposition.
 use Prim.Native.Nat.{ℕ, zero, suc, ◌+◌, ◌*◌, ◌≤◌, ◌<◌}
+use Rattle.std.specs.Prelude.{Ok}
 use mathlib.Core.Path.{◌≡◌, refl, ◌∙◌}
 use mathlib.Core.Logic.{◌↔◌}
 use mathlib.Core.List.{List, [], ◌∷◌}
@@ -11,7 +12,6 @@ use borrow.Author.Tests.{leb-true, ltb-true, eqb-true, le-leb, lt-ltb, eq-eqb}
 use Rattle.vocabulary.specs.Lists.{Every, none, also}
 use Rattle.vocabulary.proofs.EveryOne.{every_first, every_rest, every_one, every_more, every_append}
 use Rattle.refusal.specs.Rules.{Rule, first_broken, rules_of_each}
-use Rattle.refusal.specs.declared.Verdict.TheVariants.{Accepted}
 use Rattle.blocks.specs.Sizes.{places_from, place_after}
 
 -- Tests.
@@ -39,11 +39,11 @@ unless-says false b = (λ h e. false-never e, λ h. refl)
 abbrev pub AllHold : List Rule → Type 0
 AllHold rules = Every (λ r. r.holds ≡ true) rules
 
-pub accepted-hold : (rules : List Rule) → (first_broken rules ≡ Accepted) ↔ AllHold rules
+pub accepted-hold : (rules : List Rule) → (first_broken rules ≡ Ok tt) ↔ AllHold rules
 accepted-hold [] = (λ e. none, λ e. refl)
 accepted-hold (r ∷ rules) = go r.holds refl (accepted-hold rules)
   where
-    go : (b : Bool) → r.holds ≡ b → ((first_broken rules ≡ Accepted) ↔ AllHold rules) → (first_broken (r ∷ rules) ≡ Accepted) ↔ AllHold (r ∷ rules)
+    go : (b : Bool) → r.holds ≡ b → ((first_broken rules ≡ Ok tt) ↔ AllHold rules) → (first_broken (r ∷ rules) ≡ Ok tt) ↔ AllHold (r ∷ rules)
     go true h ih = rw h (λ e. also refl (ih.0 e), λ e. ih.1 (every_rest e))
     go false h ih = rw h (λ e. let z : ◌≡◌ {A = ℕ} 0 1 = cc in absurd (omega arith), λ e. false-never (every_first e))
 

@@ -1,6 +1,8 @@
 -- Induction along the outline of a module. What holds if a rule of the header is broken, if a rule of a chunk is, if all chunks are read
 -- and a mandatory one is missing, and if none is, holds for every outline.
 use Prim.Native.Nat.{ℕ, ◌<◌}
+use Rattle.std.specs.Prelude.{⊤, Result, Ok, Err}
+use Rattle.layout.specs.declared.Layout.{Layout}
 use mathlib.Core.Path.{◌≡◌, refl}
 use mathlib.Core.List.{List, [], ◌++◌}
 use mathlib.Core.Bool.{Bool, true, false, cond}
@@ -10,13 +12,9 @@ use Rattle.refusal.specs.Numbers.{refusal}
 use Rattle.refusal.specs.Rules.{first_broken}
 use Rattle.refusal.specs.declared.Reason.TheVariants.{Missing}
 use Rattle.refusal.specs.declared.Refusal.{Refusal}
-use Rattle.refusal.specs.declared.Verdict.{Verdict}
-use Rattle.refusal.specs.declared.Verdict.TheVariants.{Accepted, Refused as VerdictRefused}
 use Rattle.layout.specs.Header.{header_rules}
 use Rattle.layout.specs.Chunks.{Walk, chunk_rules, chunks}
 use Rattle.layout.specs.Outlines.{spans_of, layout_with, mandatory_there, outline_of, outline_if, outline}
-use Rattle.layout.specs.declared.Outline.{Outline}
-use Rattle.layout.specs.declared.Outline.TheVariants.{Found, Refused}
 use Rattle.acceptance.proofs.Holding.{AllHold, accepted-hold, plain}
 use Rattle.acceptance.proofs.Recorded.{records_from}
 use Rattle.acceptance.proofs.Chunking.{InTurn, Reached, reached-first, along}
@@ -29,22 +27,22 @@ pub record AllRead (m : List ℕ) (all : List (List ℕ)) : Type 0 where
   pub turn : InTurn [] all
 
 -- What has to be proved for each result of an outline.
-pub record EachOutline (m : List ℕ) (P : Outline → Type 0) : Type 0 where
-  pub header : (r : Refusal) → first_broken (header_rules m) ≡ VerdictRefused r → P (Refused r)
+pub record EachOutline (m : List ℕ) (P : Result Layout Refusal → Type 0) : Type 0 where
+  pub header : (r : Refusal) → first_broken (header_rules m) ≡ Err r → P (Err r)
   pub chunk : (before : List (List ℕ)) (at : ℕ) → Reached m (take 8 m) before at → at < length m
-      → (r : Refusal) → first_broken (chunk_rules m (records_from 8 before) at) ≡ VerdictRefused r → P (Refused r)
-  pub missing : (all : List (List ℕ)) → AllRead m all → mandatory_there (records_from 8 all) ≡ false → P (Refused (refusal Missing (length m)))
-  pub found : (all : List (List ℕ)) → AllRead m all → mandatory_there (records_from 8 all) ≡ true → P (Found (layout_with m (spans_of (records_from 8 all))))
+      → (r : Refusal) → first_broken (chunk_rules m (records_from 8 before) at) ≡ Err r → P (Err r)
+  pub missing : (all : List (List ℕ)) → AllRead m all → mandatory_there (records_from 8 all) ≡ false → P (Err (refusal Missing (length m)))
+  pub found : (all : List (List ℕ)) → AllRead m all → mandatory_there (records_from 8 all) ≡ true → P (Ok (layout_with m (spans_of (records_from 8 all))))
 
-module _ (m : List ℕ) (P : Outline → Type 0) (each : EachOutline m P) where
+module _ (m : List ℕ) (P : Result Layout Refusal → Type 0) (each : EachOutline m P) where
   all_read : (all : List (List ℕ)) → AllRead m all → (b : Bool) → mandatory_there (records_from 8 all) ≡ b
-      → P (cond b (Found (layout_with m (spans_of (records_from 8 all)))) (Refused (refusal Missing (length m))))
+      → P (cond b (Ok (layout_with m (spans_of (records_from 8 all)))) (Err (refusal Missing (length m))))
   all_read all read true h = each.found all read h
   all_read all read false h = each.missing all read h
 
-  by-header : (v : Verdict) → first_broken (header_rules m) ≡ v → P (outline_if v (outline_of m (chunks m)))
-  by-header (VerdictRefused r) h = each.header r h
-  by-header Accepted h =
+  by-header : (v : Result ⊤ Refusal) → first_broken (header_rules m) ≡ v → P (outline_if v (outline_of m (chunks m)))
+  by-header (Err r) h = each.header r h
+  by-header (Ok _) h =
       let hold = (accepted-hold (header_rules m)).0 h in
       let front = reached-first m (simp plain at hold).1.0.0 in
       along (λ (w : Walk). P (outline_of m w))

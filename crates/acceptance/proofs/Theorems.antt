@@ -18,12 +18,12 @@
 --
 -- The check is `module_verdict`, which the contract cites.
 use Prim.Native.Nat.{ℕ, ◌≤◌}
+use Rattle.std.specs.Prelude.{Ok, Err}
 use mathlib.Core.Path.{◌≡◌}
 use mathlib.Core.Logic.{◌↔◌}
 use mathlib.Core.List.{List}
 use lib.ListN.{length}
 use Rattle.refusal.specs.declared.Refusal.{Refusal}
-use Rattle.refusal.specs.declared.Verdict.TheVariants.{Accepted, Refused}
 use Rattle.numbers.specs.Numbers.{Bytes}
 use Rattle.module.specs.Verdicts.{module_verdict}
 use Rattle.acceptance.specs.Rules.{Rules}
@@ -33,12 +33,12 @@ use Rattle.acceptance.proofs.RefusalPlaces as RefusalPlaces
 use Rattle.acceptance.proofs.Faultless as Faultless
 
 -- Theorem 8.
-pub accepted-exactly : (m : List ℕ) → Bytes m → (module_verdict m ≡ Accepted) ↔ Rules m
+pub accepted-exactly : (m : List ℕ) → Bytes m → (module_verdict m ≡ Ok tt) ↔ Rules m
 accepted-exactly = Acceptance.accepted-exactly
 
 -- Theorem 10.
-pub refusal-place : (m : List ℕ) → Bytes m → (r : Refusal) → module_verdict m ≡ Refused r → PlaceOf m r × (r.place ≤ length m)
+pub refusal-place : (m : List ℕ) → Bytes m → (r : Refusal) → module_verdict m ≡ Err r → PlaceOf m r × (r.place ≤ length m)
 refusal-place = RefusalPlaces.refusal-place
 
-pub accepted-faultless : (m : List ℕ) → Bytes m → module_verdict m ≡ Accepted → (r : Refusal) → PlaceOf m r → ⊥
+pub accepted-faultless : (m : List ℕ) → Bytes m → module_verdict m ≡ Ok tt → (r : Refusal) → PlaceOf m r → ⊥
 accepted-faultless = Faultless.accepted-faultless

@@ -1,5 +1,7 @@
 -- The spans of a layout that was found are those of whole chunks of the module (for theorem 13).
 use Prim.Native.Nat.{ℕ, ◌+◌, ◌≤◌, ◌<◌}
+use Rattle.std.specs.Prelude.{Result, Ok, Err}
+use Rattle.refusal.specs.declared.Refusal.{Refusal}
 use mathlib.Core.Path.{◌≡◌, refl, subst, ◌∙◌}
 use mathlib.Core.List.{List, ◌++◌, append-nil}
 use mathlib.Core.Bool.{Bool, true, false, cond}
@@ -14,8 +16,6 @@ use Rattle.layout.specs.Chunks.{penv_identifier, occurs}
 use Rattle.layout.specs.Outlines.{header_span, span_of, spans_of, layout_with, mandatory_there, outline}
 use Rattle.layout.specs.declared.ChunkSpan.{ChunkSpan}
 use Rattle.layout.specs.declared.Layout.{Layout}
-use Rattle.layout.specs.declared.Outline.{Outline}
-use Rattle.layout.specs.declared.Outline.TheVariants.{Found, Refused}
 use Rattle.blocks.specs.Filling.{data_end}
 use Rattle.acceptance.specs.Rules.{Covered}
 use Rattle.acceptance.specs.Places.{HeaderAt}
@@ -112,14 +112,14 @@ places_of {m} all read mandatory = record {
     says = simp and-says at mandatory
 
 -- For a found outline, the spans are those of whole chunks.
-abbrev Says : List ℕ → Outline → Type 0
-Says m (Found l) = SpansWhole m l
-Says m (Refused r) = Unit {0}
+abbrev Says : List ℕ → Result Layout Refusal → Type 0
+Says m (Ok l) = SpansWhole m l
+Says m (Err r) = Unit {0}
 
 reported : (m : List ℕ) → Says m (outline m)
 reported m =
     along-outline m (Says m)
     (record { header = λ r e. tt; chunk = λ before at reached less r e. tt; missing = λ all read lacks. tt; found = places_of })
 
-pub outline-spans : (m : List ℕ) (l : Layout) → outline m ≡ Found l → SpansWhole m l
+pub outline-spans : (m : List ℕ) (l : Layout) → outline m ≡ Ok l → SpansWhole m l
 outline-spans m l e = subst (Says m) e (reported m)

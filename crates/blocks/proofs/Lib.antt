@@ -1,3 +1,4 @@
 pub mod Passing
 pub mod Leading
 pub mod BlockSizes
+pub mod Walking

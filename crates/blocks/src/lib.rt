@@ -4,7 +4,9 @@
 
 pub mod stored;
 
-ghost use Rattle.std.specs.Prelude.{◌≡◌, [], ◌∷◌, not, ◌||◌, ◌+◌, ◌*◌, ◌%◌, ◌<◌};
+ghost use Rattle.std.specs.Prelude.{◌≡◌, [], ◌∷◌, not, ◌||◌, ◌+◌, ◌*◌, ◌%◌, ◌<◌, IfSome};
+ghost use Rattle.std.specs.Iterator.{YieldsFirst, item_count};
+ghost use Rattle.numbers.specs.Numbers.{SmallPlace};
 ghost use Rattle.refusal.specs.Numbers.{verdict_numbers, IsAnswer};
 ghost use Rattle.refusal.specs.Rules.{first_broken, rules_of_each};
 ghost use Rattle.blocks.specs.Sizes.{width_of, size_of, first_block, block_at, blocks_of, envelope_count};
@@ -15,7 +17,8 @@ ghost use Rattle.blocks.specs.declared.BlockKind.TheVariants.{Envelope, Sample a
 use crate::stored::{pattern_packed_length, sample_flags, sample_frames, song_length};
 use layout::{ChunkSpan, Layout};
 use numbers::number16;
-use refusal::{Reason, Verdict, refuse};
+use refusal::{Reason, Refusal, refuse};
+use std::marker::Model;
 
 // The kind of a block.
 #[derive(Clone, Copy)]
@@ -42,16 +45,12 @@ pub enum RecordKind {
 pub fn width(flags: u32) -> usize
     ensures { (result ≡ width_of flags) × (result < 5) }
 {
-    if flags == 1 {
-        return 1;
+    match flags {
+        1 => 1,
+        2 => 2,
+        4 => 4,
+        _ => 0,
     }
-    if flags == 2 {
-        return 2;
-    }
-    if flags == 4 {
-        return 4;
-    }
-    0
 }
 
 // The size of a song with the given number of entries in its playlist.
@@ -77,6 +76,7 @@ fn sample_size(flags: u32, frames: u32) -> usize
 }
 
 // The size of the block at a place. Past the module's end every number counts as 0.
+#[tactic(auto, unfolding(crate::specs::Sizes::size_of))]
 pub fn size(m: &[u8], kind: BlockKind, at: usize) -> usize
     ensures { (result ≡ size_of kind m.now at) × (result < 0x800000000) }
 {
@@ -115,12 +115,62 @@ pub fn block_at(m: &[u8], kind: BlockKind, chunk: ChunkSpan, i: u16) -> usize
     ensures { (result ≡ block_at m.now kind chunk i) × (result < 0x200000000 + i * 0x800000000) }
 {
     let mut at = first_block(kind, chunk);
-    let mut left = i;
-    while 0 < left {
-        at = at + size(m, kind, at);
-        left = left - 1;
+    for _ in 0..i {
+        at += size(m, kind, at);
     }
     at
+}
+
+// The places of the blocks of a chunk, in order. In contracts it is the list of the places that are still to come.
+#[derive(Drop)]
+pub struct BlockPlaces<'a> {
+    module: &'a [u8],
+    kind: BlockKind,
+    at: usize,
+    left: u16,
+}
+
+impl<'a> Model for BlockPlaces<'a> {
+    ghost use Rattle.std.specs.Prelude.{ℕ, List, ◌+◌, ◌*◌, ◌<◌};
+    ghost use Rattle.blocks.specs.Sizes.{places_from, size_of};
+
+    ghost Value = { List ℕ };
+
+    ghost view = { λ p. places_from (size_of p.kind p.module.now) p.left p.at };
+
+    // No place wraps, since a block has less than 2 ^ 35 bytes.
+    ghost invariant = { λ p. p.at + p.left * 0x800000000 < 0x10000000000000 };
+}
+
+impl<'a> Iterator for BlockPlaces<'a> {
+    type Item = usize;
+
+    // Each call gives the first of the places that are still to come. Every place is small.
+    ghost next_gives = { λ s r t. YieldsFirst (λ rest. rest) s r t × IfSome r SmallPlace };
+
+    ghost remaining = { item_count (λ rest. rest) };
+
+    fn next(&mut self) -> Option<usize> {
+        if self.left == 0 {
+            return None;
+        }
+        let at = self.at;
+        self.at += size(self.module, self.kind, at);
+        self.left -= 1;
+        Some(at)
+    }
+}
+
+// The places of the given number of blocks of a chunk.
+pub fn places(m: &[u8], kind: BlockKind, chunk: ChunkSpan, count: u16) -> BlockPlaces<'_>
+    ensures { result ≡ blocks_of m.now kind chunk count }
+{
+    BlockPlaces {
+        module: m,
+        kind,
+        at: first_block(kind, chunk),
+        left: count,
+    }
 }
 
 // Whether the given number of blocks fill a chunk exactly.
@@ -129,13 +179,11 @@ fn fills(m: &[u8], kind: BlockKind, chunk: ChunkSpan, count: u16) -> bool
 {
     let end = data_end(chunk);
     let mut at = first_block(kind, chunk);
-    let mut left = count;
-    while 0 < left {
+    for _ in 0..count {
         if end <= at {
             return false;
         }
-        at = at + size(m, kind, at);
-        left = left - 1;
+        at += size(m, kind, at);
     }
     at == end
 }
@@ -161,68 +209,64 @@ fn envelopes_fill(m: &[u8], chunk: ChunkSpan) -> bool
 }
 
 // Checks the flags of the samples.
-fn check_flags(m: &[u8], chunk: ChunkSpan, count: u16) -> Verdict
+fn check_flags(m: &[u8], chunk: ChunkSpan, count: u16) -> Result<(), Refusal>
     ensures { result ≡ first_broken (rules_of_each (flags_rules m.now chunk) (blocks_of m.now SampleBlock chunk count)) }
 {
-    let mut at = block_at(m, BlockKind::Sample, chunk, 0);
-    let mut left = count;
-    while 0 < left {
+    for at in places(m, BlockKind::Sample, chunk, count) {
         if width(sample_flags(m, at)) == 0 {
-            return Verdict::Refused(refuse(Reason::Blocks, chunk.at as usize));
+            return Err(refuse(Reason::Blocks, chunk.at as usize));
         }
-        at = at + size(m, BlockKind::Sample, at);
-        left = left - 1;
     }
-    Verdict::Accepted
+    Ok(())
 }
 
 // Checks VENV and PENV.
-fn check_envelopes(m: &[u8], venv: ChunkSpan, penv: ChunkSpan) -> Verdict
+fn check_envelopes(m: &[u8], venv: ChunkSpan, penv: ChunkSpan) -> Result<(), Refusal>
     ensures { result ≡ first_broken (envelopes_rule m.now venv ∷ envelopes_rule m.now penv ∷ []) }
 {
     if !envelopes_fill(m, venv) {
-        return Verdict::Refused(refuse(Reason::Blocks, venv.at as usize));
+        return Err(refuse(Reason::Blocks, venv.at as usize));
     }
     if !envelopes_fill(m, penv) {
-        return Verdict::Refused(refuse(Reason::Blocks, penv.at as usize));
+        return Err(refuse(Reason::Blocks, penv.at as usize));
     }
-    Verdict::Accepted
+    Ok(())
 }
 
 // Checks that the blocks fill their chunks: 11 for SONG, INST, PATT, SMPL, VENV, PENV.
-pub fn check(m: &[u8], l: Layout) -> Verdict
+pub fn check(m: &[u8], l: Layout) -> Result<(), Refusal>
     ensures { IsAnswer verdict_numbers result (first_broken (block_rules m.now l)) }
 {
     let p = l.spans;
     if !fills(m, BlockKind::Song, p.song, l.songs) {
-        return Verdict::Refused(refuse(Reason::Blocks, p.song.at as usize));
+        return Err(refuse(Reason::Blocks, p.song.at as usize));
     }
     if !fills(m, BlockKind::Instrument, p.inst, l.instruments) {
-        return Verdict::Refused(refuse(Reason::Blocks, p.inst.at as usize));
+        return Err(refuse(Reason::Blocks, p.inst.at as usize));
     }
     if !fills(m, BlockKind::Pattern, p.patt, l.patterns) {
-        return Verdict::Refused(refuse(Reason::Blocks, p.patt.at as usize));
+        return Err(refuse(Reason::Blocks, p.patt.at as usize));
     }
     if !fills(m, BlockKind::Sample, p.smpl, l.samples) {
-        return Verdict::Refused(refuse(Reason::Blocks, p.smpl.at as usize));
+        return Err(refuse(Reason::Blocks, p.smpl.at as usize));
     }
-    if let Verdict::Refused(r) = check_flags(m, p.smpl, l.samples) {
-        return Verdict::Refused(r);
-    }
+    check_flags(m, p.smpl, l.samples)?;
     check_envelopes(m, p.venv, p.penv)
 }
 
-// The block kind of a record kind.
-pub fn block_kind(kind: RecordKind) -> BlockKind
-    ensures { result ≡ block_kind_of kind }
-{
-    match kind {
-        RecordKind::Song => BlockKind::Song,
-        RecordKind::Instrument => BlockKind::Instrument,
-        RecordKind::Pattern => BlockKind::Pattern,
-        RecordKind::Sample => BlockKind::Sample,
-        RecordKind::VolumeEnvelope => BlockKind::Envelope,
-        RecordKind::PanningEnvelope => BlockKind::Envelope,
+impl From<RecordKind> for BlockKind {
+    // The block kind of a record kind.
+    ghost from_gives = { λ kind given. given ≡ block_kind_of kind };
+
+    fn from(kind: RecordKind) -> BlockKind {
+        match kind {
+            RecordKind::Song => BlockKind::Song,
+            RecordKind::Instrument => BlockKind::Instrument,
+            RecordKind::Pattern => BlockKind::Pattern,
+            RecordKind::Sample => BlockKind::Sample,
+            RecordKind::VolumeEnvelope => BlockKind::Envelope,
+            RecordKind::PanningEnvelope => BlockKind::Envelope,
+        }
     }
 }
 

@@ -1,12 +1,15 @@
 -- What copying to the front of an output leaves in it.
-use Prim.Native.Nat.{ℕ, zero, suc, ◌+◌, ◌<◌, ◌≤◌}
-use mathlib.Core.Path.{◌≡◌, refl, sym, ap, ◌∙◌}
+use Prim.Native.Nat.{ℕ, zero, suc, ◌+◌, ◌<◌, ◌≤◌, min}
+use mathlib.Core.Path.{◌≡◌, refl, ap, ◌∙◌}
 use mathlib.Core.List.{List, [], ◌∷◌, ◌++◌}
 use native.Mathlib.Omega.{arith}
 use native.Mathlib.Nat.{suc-add}
 use lib.ListN.{length, get_or, set, take, drop}
 use lib.Seq.{take_all}
 use Rattle.std.proofs.lemmas.List.{drop_all}
+use mathlib.Core.Bool.{Bool, true, false}
+use lib.Dec.{leb}
+use borrow.Author.Tests.{leb-true, leb-false}
 use Rattle.byte_copy.specs.Copied.{copied}
 
 -- One more byte is copied.
@@ -33,10 +36,16 @@ pub copied-in : (bytes out after : List ℕ) → after ≡ copied bytes out → 
 copied-in bytes out after e h = e ∙ copied-all bytes out h ∙ rw (take_all (length bytes) bytes (omega arith))
 
 -- What a copy of the first bytes leaves, up to the end of the shorter of the two.
-pub copied-up : (bytes out : List ℕ) (n : ℕ) → n ≡ length bytes → n ≤ length out → take n bytes ++ drop n out ≡ copied bytes out
-copied-up bytes out n e h =
-    let front : take n bytes ≡ bytes = take_all n bytes (omega arith) in
-    rw (copied-all bytes out (omega arith), ← e, front) refl
-
-pub copied-room : (bytes out : List ℕ) (n : ℕ) → n ≡ length out → n ≤ length bytes → take n bytes ++ drop n out ≡ copied bytes out
-copied-room bytes out n e h = sym (rw (copied-part bytes out (omega arith), ← e) refl)
+pub copied-up : (bytes out : List ℕ) (n : ℕ) → n ≡ min (length bytes) (length out) → take n bytes ++ drop n out ≡ copied bytes out
+copied-up bytes out n e =
+    go (leb (length bytes) (length out)) refl
+  where
+    go : (b : Bool) → leb (length bytes) (length out) ≡ b → take n bytes ++ drop n out ≡ copied bytes out
+    go true t =
+        let h : length bytes ≤ length out = leb-true _ _ t in
+        let all : n ≡ length bytes = omega arith in
+        rw (copied-all bytes out h, all, take_all (length bytes) bytes (omega arith))
+    go false t =
+        let h : length out < length bytes = leb-false _ _ t in
+        let room : n ≡ length out = omega arith in
+        rw (copied-part bytes out (omega arith), room)

@@ -9,11 +9,8 @@ ghost use Rattle.byte_copy.specs.Copied.{copied};
 pub fn copy(bytes: &[u8], out: &mut [u8])
     ensures { out.new ≡ copied bytes.now out.old }
 {
-    let n = if bytes.len() < out.len() {
-        bytes.len()
-    } else {
-        out.len()
-    };
+    let n = bytes.len().min(out.len());
+    // Not by copy_from_slice: that needs memmove, and the archive for C may need memcpy and memset alone.
     for i in 0..n {
         out[i] = bytes[i];
     }

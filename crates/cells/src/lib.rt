@@ -15,7 +15,7 @@ pub enum Note {
 }
 
 // A note in numbers: its kind (0 none, 1 key off, 2 pitch, 3 unknown), the octave and semitone of a pitch, the byte of an unknown note.
-// What a kind does not have is 0.
+// What a kind does not have is 0. These are numbers because C reads them.
 #[derive(Clone, Copy)]
 pub struct NoteNumbers {
     pub kind: u8,
@@ -61,48 +61,52 @@ fn is_pitch(note: u8) -> bool
     (1 <= note / 16) & ((note / 16 <= 8) & (note % 16 <= 11))
 }
 
-// A note in numbers.
-pub fn note_numbers(note: Note) -> NoteNumbers
-    ensures { result ≡ note_numbers note }
-{
-    match note {
-        Note::None => NoteNumbers {
-            kind: 0,
-            octave: 0,
-            semitone: 0,
-            unknown: 0,
-        },
-        Note::KeyOff => NoteNumbers {
-            kind: 1,
-            octave: 0,
-            semitone: 0,
-            unknown: 0,
-        },
-        Note::Pitch { octave, semitone } => NoteNumbers {
-            kind: 2,
-            octave,
-            semitone,
-            unknown: 0,
-        },
-        Note::Unknown(byte) => NoteNumbers {
-            kind: 3,
-            octave: 0,
-            semitone: 0,
-            unknown: byte,
-        },
+impl From<Note> for NoteNumbers {
+    // A note in numbers.
+    ghost from_gives = { λ note given. given ≡ note_numbers note };
+
+    fn from(note: Note) -> NoteNumbers {
+        match note {
+            Note::None => NoteNumbers {
+                kind: 0,
+                octave: 0,
+                semitone: 0,
+                unknown: 0,
+            },
+            Note::KeyOff => NoteNumbers {
+                kind: 1,
+                octave: 0,
+                semitone: 0,
+                unknown: 0,
+            },
+            Note::Pitch { octave, semitone } => NoteNumbers {
+                kind: 2,
+                octave,
+                semitone,
+                unknown: 0,
+            },
+            Note::Unknown(byte) => NoteNumbers {
+                kind: 3,
+                octave: 0,
+                semitone: 0,
+                unknown: byte,
+            },
+        }
     }
 }
 
-// The shown cell of six stored bytes.
-pub fn shown(cell: [u8; 6]) -> Cell
-    ensures { result ≡ shown_cell cell }
-{
-    Cell {
-        note: shown_note(cell[0]),
-        instrument: cell[1],
-        command1: cell[2],
-        parameter1: cell[3],
-        command2: cell[4],
-        parameter2: cell[5],
+impl From<[u8; 6]> for Cell {
+    // The shown cell of six stored bytes.
+    ghost from_gives = { λ cell given. given ≡ shown_cell cell };
+
+    fn from(cell: [u8; 6]) -> Cell {
+        Cell {
+            note: shown_note(cell[0]),
+            instrument: cell[1],
+            command1: cell[2],
+            parameter1: cell[3],
+            command2: cell[4],
+            parameter2: cell[5],
+        }
     }
 }

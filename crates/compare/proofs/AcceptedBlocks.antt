@@ -1,6 +1,7 @@
 -- What acceptance of a module says of a block that is there: it is inside the module, the values of an envelope fit, the flags of a sample
 -- are the bytes of its frames, and the stream of a pattern is accepted.
 use Prim.Native.Nat.{ℕ, ◌+◌, ◌-◌, ◌≤◌, ◌<◌}
+use Rattle.std.specs.Prelude.{Ok}
 use mathlib.Core.Path.{◌≡◌, refl, sym, subst}
 use mathlib.Core.List.{List}
 use mathlib.Core.Bool.{Bool, true, false, cond, not}
@@ -10,12 +11,10 @@ use lib.Dec.{eqb, leb, ltb}
 use borrow.Author.Tests.{ltb-true, eqb-true}
 use Rattle.vocabulary.specs.Lists.{Every}
 use Rattle.vocabulary.proofs.EveryOne.{every_first}
-use Rattle.refusal.specs.declared.Verdict.TheVariants.{Accepted}
 use Rattle.numbers.specs.Numbers.{number16}
 use Rattle.packed_rows.specs.Answers.{check_answer}
 use Rattle.layout.specs.declared.ChunkSpan.{ChunkSpan}
 use Rattle.layout.specs.declared.Layout.{Layout}
-use Rattle.layout.specs.declared.Outline.TheVariants.{Found}
 use Rattle.blocks.specs.StoredFields.{pattern_rows, packed_bytes, sample_flags}
 use Rattle.blocks.specs.Sizes.{width_of, size_of, first_block, blocks_of, envelope_count}
 use Rattle.blocks.specs.Filling.{data_end, flags_rules}
@@ -71,7 +70,7 @@ module _ (m : List ℕ) (l : Layout) (kind : RecordKind) (number at : ℕ) (t : 
       ((every-place P (size_of (block_kind_of kind) m) (count_of m l kind) (first_block (block_kind_of kind) (chunk_of l kind))).0 every
       (number - first_of kind) counted)
 
-module _ (m : List ℕ) (l : Layout) (o : opened m ≡ Found l) where
+module _ (m : List ℕ) (l : Layout) (o : opened m ≡ Ok l) where
   opens : Opens m l
   opens = module-opens m l o
 
@@ -113,7 +112,7 @@ module _ (m : List ℕ) (l : Layout) (o : opened m ≡ Found l) where
         (every_first (block-has m l Sample number at t e (λ (a : ℕ). AllHold (flags_rules m l.spans.smpl a)) opens.content.blocks.flags))
 
   module _ (number at : ℕ) (t : there m l Pattern number ≡ true) (e : at ≡ (block_of m l Pattern number).at) where
-    pub pattern-accepted : check_answer (packed_bytes m at) (pattern_rows m at) l.tracks ≡ Accepted
+    pub pattern-accepted : check_answer (packed_bytes m at) (pattern_rows m at) l.tracks ≡ Ok tt
     pattern-accepted =
         (accepted-says (check_answer (packed_bytes m at) (pattern_rows m at) l.tracks)).0
         (every_first (block-has m l Pattern number at t e (λ (a : ℕ). AllHold (pattern_stream_rules m l.tracks a)) opens.content.streams))

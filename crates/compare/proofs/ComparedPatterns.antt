@@ -1,17 +1,16 @@
 -- Patterns that are compared cell by cell: equal streams have no differences, and for accepted streams the answer is the number of
 -- differences.
 use Prim.Native.Nat.{ℕ, zero, suc, ◌+◌, ◌-◌, ◌*◌, ◌/◌, ◌≤◌, min}
+use Rattle.std.specs.Prelude.{Result, Ok, is_ok, IsOk}
 use mathlib.Core.Path.{◌≡◌, refl, sym, ap, ◌∙◌}
 use mathlib.Core.List.{List, [], ◌++◌}
 use mathlib.Core.Bool.{Bool, true, false, not, ◌&&◌}
-use native.Mathlib.Omega.{arith}
 use lib.ListN.{length, get_or}
 use lib.Dec.{eqb}
 use borrow.Author.Tests.{eq-eqb, ne_eqb}
 use borrow.Rule.Slice.PartMut.{mid_of, put_mid}
 use Rattle.vocabulary.specs.Lists.{joined}
 use Rattle.refusal.specs.declared.Refusal.{Refusal}
-use Rattle.refusal.specs.declared.Verdict.TheVariants.{Accepted}
 use Rattle.cells.specs.Cells.{Cell, Row, empty_cell}
 use Rattle.numbers.specs.Numbers.{each_from}
 use Rattle.differences.specs.Differences.{whole_difference, difference_if, entries_listed, equal_bytes}
@@ -22,8 +21,6 @@ use Rattle.packed_rows.specs.Stream.{read_stream, entries_read}
 use Rattle.packed_rows.specs.Answers.{check_answer}
 use Rattle.packed_rows.specs.Comparing.{field_difference, cell_differences, row_differences, pattern_differences, stream_differences}
 use Rattle.packed_rows.specs.Comparing.{compare_streams_answer, output_compared, compare_streams_output}
-use Rattle.packed_rows.specs.declared.Comparison.{Comparison}
-use Rattle.packed_rows.specs.declared.Comparison.TheVariants.{Compared, Refused}
 use Rattle.layout.specs.declared.Layout.{Layout}
 use Rattle.blocks.specs.StoredFields.{pattern_rows, packed_bytes}
 use Rattle.blocks.specs.declared.RecordKind.TheVariants.{Pattern}
@@ -56,15 +53,15 @@ pattern-same pattern rows tracks a =
     (λ row. row_same pattern tracks row (get_or a row [])) 0 rows
 
 -- Streams that are accepted.
-module _ (a b : List ℕ) (rows tracks pattern : ℕ) (sound : check_answer a rows tracks ≡ Accepted) (sound' : check_answer b rows tracks ≡ Accepted) where
-  pub streams-compared : compare_streams_answer a b rows tracks pattern ≡ Compared (length (stream_differences a b rows tracks pattern))
+module _ (a b : List ℕ) (rows tracks pattern : ℕ) (sound : check_answer a rows tracks ≡ Ok tt) (sound' : check_answer b rows tracks ≡ Ok tt) where
+  pub streams-compared : compare_streams_answer a b rows tracks pattern ≡ Ok (length (stream_differences a b rows tracks pattern))
   streams-compared =
       let fits = accepted-sizes a rows tracks sound in
       let first = (holds a rows tracks sound).read in
       let second = (holds b rows tracks sound').read in
       simp (fits, first, second)
 
-number_in : {a b : ℕ} → Compared a ≡ Compared b → a ≡ b
+number_in : {a b : ℕ} → ◌≡◌ {A = Result ℕ Refusal} (Ok a) (Ok b) → a ≡ b
 number_in e = cc
 
 -- Patterns of one size.
@@ -117,20 +114,20 @@ module _ (m : List ℕ) (l : Layout) (k : List ℕ) (j : Layout) (number at to :
           let none = cells_same t r (sym (rw (e, f) at s) ∙ taken) in
           rw none (refl, refl)
 
-      module _ (both : BothThere m l k j Pattern number at to) (rows : ℕ) (g : rows ≡ pattern_rows m at) (answer : Comparison)
+      module _ (both : BothThere m l k j Pattern number at to) (rows : ℕ) (g : rows ≡ pattern_rows m at) (answer : Result ℕ Refusal)
           (is : answer ≡ compare_streams_answer a b rows l.tracks number) where
-        answered : compare_streams_answer a b rows l.tracks number ≡ Compared (length in_streams)
+        answered : compare_streams_answer a b rows l.tracks number ≡ Ok (length in_streams)
         answered =
             rw (e, f, g)
             (streams-compared (packed_bytes m at) (packed_bytes k to) (pattern_rows m at) l.tracks number
             (pattern-accepted m l both.opens.first number at both.first both.here)
             (rw (t, r) (pattern-accepted k j both.opens.second number to both.second both.other)))
 
-        pub never-refused : {A : Type 0} (why : Refusal) → answer ≡ Refused why → A
-        never-refused why h = let clash = sym h ∙ is ∙ answered in absurd (let z : ◌≡◌ {A = ℕ} 0 1 = cc in omega arith)
+        pub never-refused : IsOk answer
+        never-refused = ap is_ok (is ∙ answered)
 
         -- The entries for streams that differ, written to the output from their place on.
-        pub cells-listed : (entries start : ℕ) (mid : List ℕ) → answer ≡ Compared entries → start ≡ 10 * min n (length out / 10)
+        pub cells-listed : (entries start : ℕ) (mid : List ℕ) → answer ≡ Ok entries → start ≡ 10 * min n (length out / 10)
             → mid ≡ compare_streams_output a b rows l.tracks number (mid_of start (length out - start) out)
             → PatternListed entries (put_mid start (length out - start) out mid)
         cells-listed entries start mid h s w =
@@ -138,6 +135,6 @@ module _ (m : List ℕ) (l : Layout) (k : List ℕ) (j : Layout) (number at to :
             let part : List ℕ = mid_of start (length out - start) out in
             let written : mid ≡ entries_listed in_streams 0 part =
             w
-            ∙ ap (λ (x : Comparison). output_compared x (stream_differences a b rows l.tracks number) part) answered
+            ∙ ap (λ (x : Result ℕ Refusal). output_compared x (stream_differences a b rows l.tracks number) part) answered
             ∙ rw (e, f, g) refl in
             rw (one_size t r) (counted, listed-lent in_streams n out start s mid written)

@@ -1,5 +1,6 @@
 -- How many entries the list of differences of two accepted modules can have at most.
 use Prim.Native.Nat.{ℕ, ◌+◌, ◌-◌, ◌*◌, ◌≤◌, max}
+use Rattle.std.specs.Prelude.{Ok}
 use mathlib.Core.Path.{◌≡◌}
 use mathlib.Core.List.{List, [], ◌∷◌, ◌++◌}
 use mathlib.Core.Bool.{Bool, true, false, cond, not, ◌&&◌}
@@ -19,7 +20,6 @@ use Rattle.packed_rows.specs.ComparingSteps.{SmallCount}
 use Rattle.packed_rows.proofs.EachFrom.{joined-most}
 use Rattle.layout.specs.declared.ChunkSpan.{ChunkSpan}
 use Rattle.layout.specs.declared.Layout.{Layout}
-use Rattle.layout.specs.declared.Outline.TheVariants.{Found}
 use Rattle.blocks.specs.StoredFields.{pattern_rows, packed_bytes}
 use Rattle.blocks.specs.Sizes.{envelope_count}
 use Rattle.blocks.specs.RecordKinds.{count_of}
@@ -82,7 +82,7 @@ pub record Counts (l : Layout) : Type 0 where
   pub patterns : l.patterns ≤ 1024
   pub tracks : l.tracks ≤ 254
 
-module _ (m : List ℕ) (bytes : Bytes m) (l : Layout) (o : opened m ≡ Found l) where
+module _ (m : List ℕ) (bytes : Bytes m) (l : Layout) (o : opened m ≡ Ok l) where
   pub counts : Counts l
   counts =
       let outlined : Outlined m l = outline-chunks m l bytes (module-opens m l o).outlined in

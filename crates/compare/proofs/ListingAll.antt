@@ -1,13 +1,15 @@
--- Lists that are listed one after the other: those of the records of a kind, the numbers of INFO, three kinds, and all differences.
-use Prim.Native.Nat.{ℕ, ◌+◌, ◌-◌, min, max}
+-- Lists that are listed one after the other: those of the records of a kind, the numbers of INFO, and all differences.
+use Prim.Native.Nat.{ℕ, zero, suc, ◌+◌, ◌-◌, ◌<◌, ◌≤◌, min, max}
 use mathlib.Core.Path.{◌≡◌, refl, sym, ap, subst, ◌∙◌}
-use mathlib.Core.List.{List, ◌++◌, append_assoc}
+use mathlib.Core.List.{List, [], ◌∷◌, ◌++◌, map, append_assoc, append-nil}
 use native.Mathlib.Omega.{arith}
-use lib.ListN.{length, length-append}
+use native.Mathlib.Numerals.{add-one}
+use lib.ListN.{length, drop, get_or, length-append, drop_of_length-le}
+use Rattle.vocabulary.specs.Lists.{joined}
 use Rattle.numbers.specs.Numbers.{Bytes}
 use Rattle.differences.specs.Differences.{entries_listed}
 use Rattle.differences.specs.declared.Difference.{Difference}
-use Rattle.differences.proofs.Listing.{listed-append}
+use Rattle.differences.proofs.Listing.{listed-append, Listing, listing-length, listing-turn, listing-last}
 use Rattle.packed_rows.specs.ComparingSteps.{SmallCount}
 use Rattle.layout.specs.declared.Layout.{Layout}
 use Rattle.blocks.specs.RecordKinds.{count_of}
@@ -40,25 +42,6 @@ lists-same e n out {r} {out'} lists = subst (λ (ds : List Difference). Lists ds
 lists-front : (ds : List Difference) (out : List ℕ) (n : ℕ) {r : ℕ} {out' : List ℕ} → Lists ds n out r out' → Lists ds (0 + n) out r out'
 lists-front ds out n {r} {out'} lists = let same : n ≡ 0 + n = omega arith in subst (λ (i : ℕ). Lists ds i out r out') same lists
 
--- Three lists. The numbers of their entries are small if that of all entries is.
-module _ (a b c : List Difference) (n : ℕ) (out : List ℕ) where
-  all_three : length (a ++ (b ++ c)) ≡ length a + length b + length c
-  all_three = omega (arith, length-append a (b ++ c), length-append b c)
-
-  pub three-first : SmallCount (n + length (a ++ (b ++ c))) → SmallCount (n + length a)
-  three-first small = omega (arith, small, all_three)
-
-  module _ {r : ℕ} {out₁ : List ℕ} (one : Lists a n out r out₁) where
-    pub three-second : SmallCount (n + length (a ++ (b ++ c))) → SmallCount (n + r + length b)
-    three-second small = omega (arith, small, all_three, one.0)
-
-    module _ {s : ℕ} {out₂ : List ℕ} (two : Lists b (n + r) out₁ s out₂) where
-      pub three_third : SmallCount (n + length (a ++ (b ++ c))) → SmallCount (n + (r + s) + length c)
-      three_third small = omega (arith, small, all_three, one.0, two.0)
-
-      pub three-listed : {t : ℕ} {out₃ : List ℕ} → Lists c (n + (r + s)) out₂ t out₃ → Lists (a ++ (b ++ c)) n out (r + s + t) out₃
-      three-listed three = lists-same (append_assoc a b c) n out (lists-two (a ++ b) c n out (lists-two a b n out one two) three)
-
 -- All records of a kind.
 module _ (m : List ℕ) (l : Layout) (k : List ℕ) (j : Layout) (kind : RecordKind) (n : ℕ) (out : List ℕ) {first a b common : ℕ}
     (first-is : first ≡ first_of kind) (a-is : a ≡ count_of m l kind) (b-is : b ≡ count_of k j kind) (common-is : common ≡ min a b)
@@ -88,45 +71,51 @@ five-listed a b c d e n out one two three four five =
     (lists-two (((a ++ b) ++ c) ++ d) e n out
     (lists-two ((a ++ b) ++ c) d n out (lists-two (a ++ b) c n out (lists-two a b n out one two) three) four) five)
 
--- All differences: the name, INFO, three kinds, and the three others.
-module _ (m : List ℕ) (bytes : Bytes m) (l : Layout) (k : List ℕ) (others : Bytes k) (j : Layout) (opens : BothOpen m l k j) (out : List ℕ) where
-  abbrev pub first_three : List Difference
-  first_three = kind_differences m l k j Song ++ (kind_differences m l k j Instrument ++ kind_differences m l k j VolumeEnvelope)
+-- All differences: the name, INFO, and the kinds one after the other.
+abbrev pub kinds : List RecordKind
+kinds = Song ∷ Instrument ∷ VolumeEnvelope ∷ PanningEnvelope ∷ Sample ∷ Pattern ∷ []
 
-  abbrev pub last_three : List Difference
-  last_three = kind_differences m l k j PanningEnvelope ++ (kind_differences m l k j Sample ++ kind_differences m l k j Pattern)
+module _ (m : List ℕ) (l : Layout) (k : List ℕ) (j : Layout) where
+  abbrev pub of_kinds : List RecordKind → List Difference
+  of_kinds some = joined (map (kind_differences m l k j) some)
 
-  in_parts : ((name_differences m l k j ++ info_differences l j) ++ first_three) ++ last_three ≡ differences m l k j
-  in_parts = simp append_assoc
+  kind-next : (some : List RecordKind) (i : ℕ) → i < length some
+      → of_kinds (drop i some) ≡ kind_differences m l k j (get_or some i Song) ++ of_kinds (drop (suc i) some)
+  kind-next [] i h = absurd (omega arith)
+  kind-next (kind ∷ some) zero h = refl
+  kind-next (kind ∷ some) (suc i) h = kind-next some i (omega arith)
 
-  all-length : length (name_differences m l k j) + length (info_differences l j) + length first_three + length last_three ≡ length (differences m l k j)
-  all-length =
-      let two = name_differences m l k j ++ info_differences l j in
-      sym (omega (
-        arith,
-        ap length (sym in_parts),
-        length-append (two ++ first_three) last_three,
-        length-append two first_three,
-        length-append (name_differences m l k j) (info_differences l j),
-      ))
+  in_parts : differences m l k j ≡ (name_differences m l k j ++ info_differences l j) ++ of_kinds kinds
+  in_parts = sym (simp (append_assoc, append-nil))
 
-  module _ {r s : ℕ} {out₁ out₂ : List ℕ} (one : Lists (name_differences m l k j) 0 out r out₁) (two : Lists (info_differences l j) r out₁ s out₂) where
-    pub all_first : SmallCount (r + s + length first_three)
-    all_first = omega (arith, differences-small m bytes l k others j opens, all-length, one.0, two.0)
+  -- The loop over the kinds: those before an index are listed.
+  abbrev pub KindsFrom : List ℕ → List ℕ → ℕ → ℕ → Type 0
+  KindsFrom out₀ out n i = Listing (differences m l k j) 0 out₀ out n (of_kinds (drop i kinds))
 
-    module _ {t : ℕ} {out₃ : List ℕ} (three : Lists first_three (r + s) out₂ t out₃) where
-      pub all-last : SmallCount (r + s + t + length last_three)
-      all-last = omega (arith, differences-small m bytes l k others j opens, all-length, one.0, two.0, three.0)
+  pub kinds-first : {out out₁ out₂ : List ℕ} {r s : ℕ} → Lists (name_differences m l k j) 0 out r out₁ → Lists (info_differences l j) r out₁ s out₂
+      → KindsFrom out out₂ (r + s) 0
+  kinds-first {out} {out₁} {r = r} one two =
+      let both = lists-two (name_differences m l k j) (info_differences l j) 0 out one (lists-front (info_differences l j) out₁ r two) in
+      record { done = name_differences m l k j ++ info_differences l j; splits = in_parts; counted = sym both.0; written = both.1 }
 
-      pub all_listed : {u : ℕ} {out₄ : List ℕ} → Lists last_three (r + s + t) out₃ u out₄
-          → (r + s + t + u ≡ length (differences m l k j)) × SmallCount (r + s + t + u) × (out₄ ≡ entries_listed (differences m l k j) 0 out)
-      all_listed {u} {out₄} four =
-          let name = name_differences m l k j in
-          let info = info_differences l j in
-          let all : Lists (differences m l k j) 0 out (r + s + t + u) out₄ =
-          lists-same in_parts 0 out
-          (lists-two ((name ++ info) ++ first_three) last_three 0 out
-          (lists-two (name ++ info) first_three 0 out (lists-two name info 0 out one (lists-front info out₁ r two))
-          (lists-front first_three out₂ (r + s) three))
-          (lists-front last_three out₃ (r + s + t) four)) in
+  module _ {out₀ out : List ℕ} {n i : ℕ} (state : KindsFrom out₀ out n i) where
+    pub kinds-turn : i < 6 → {r : ℕ} {out' : List ℕ} → Lists (kind_differences m l k j (get_or kinds i Song)) n out r out' → KindsFrom out₀ out' (n + r) (i + 1)
+    kinds-turn less {r} {out'} one =
+        let new = kind_differences m l k j (get_or kinds i Song) in
+        rw (add-one i) (listing-turn state new (of_kinds (drop (suc i) kinds)) out' r (kind-next kinds i less) one.0 (lists-front new out n one).1)
+
+    module _ (bytes : Bytes m) (others : Bytes k) (opens : BothOpen m l k j) where
+      pub kinds-small : i < 6 → SmallCount (n + length (kind_differences m l k j (get_or kinds i Song)))
+      kinds-small less =
+          let new = kind_differences m l k j (get_or kinds i Song) in
+          omega (
+            arith,
+            differences-small m bytes l k others j opens,
+            listing-length state,
+            ap length (kind-next kinds i less) ∙ length-append new (of_kinds (drop (suc i) kinds)),
+          )
+
+      pub kinds-last : 6 ≤ i → (n ≡ length (differences m l k j)) × SmallCount n × (out ≡ entries_listed (differences m l k j) 0 out₀)
+      kinds-last over =
+          let all = listing-last state (ap of_kinds (drop_of_length-le kinds {i = i} over)) in
           (all.0, omega (arith, all.0, differences-small m bytes l k others j opens), all.1)

@@ -1,8 +1,8 @@
 -- Envelopes that are shown the same: point by point, and with the bytes before the points.
-use Prim.Native.Nat.{ℕ, suc, ◌+◌, ◌-◌, ◌*◌, ◌<◌, ◌≤◌}
+use Prim.Native.Nat.{ℕ, zero, suc, ◌+◌, ◌*◌, ◌<◌, ◌≤◌}
 use mathlib.Core.Path.{◌≡◌, refl, sym, ap, ◌∙◌}
 use mathlib.Core.List.{List, ◌++◌}
-use mathlib.Core.Bool.{Bool, true, false, ◌&&◌, and_assoc, and-true}
+use mathlib.Core.Bool.{Bool, true, false, ◌&&◌}
 use native.Mathlib.Omega.{arith}
 use lib.ListN.{length, get_or}
 use lib.Dec.{eqb, leb, ltb}
@@ -10,6 +10,7 @@ use lib.IntN.{ℤ, pos, ◌-ℤ◌}
 use mir.Syntax.{w32}
 use mir.Val.{of_z}
 use borrow.Author.Tests.{eqb-true, leb-true, ltb-true, ltb-false}
+use Rattle.std.specs.List.{list_all, range_with_len}
 use Rattle.numbers.specs.Numbers.{Bytes, byte_at, part_of, bytes_from, bytes16, unsigned16, signed16}
 use Rattle.numbers.proofs.AllBytes.{number16-below}
 use Rattle.numbers.proofs.Parts.{bytes-part}
@@ -88,40 +89,20 @@ module _ (m k : List ℕ) (bytes : Bytes m) (others : Bytes k) (kind : EnvelopeK
       two-numbers (signed_in kind) p q v w (rw g' (shown-apart m bytes kind version at point fits)) (rw h' (shown-apart k others kind other to point fits'))
       ∙ rw (e', f', g', h') refl
 
--- The state of the loop over the points: what is left decides, if all points before it are the same.
+-- The points of two envelopes, one by one.
 module _ (m k : List ℕ) (kind : EnvelopeKind) (version other at to : ℕ) where
+  abbrev pub point_same : ℕ → Bool
+  point_same point = equal_bytes (point_record m kind version at point) (point_record k kind other to point)
+
   abbrev pub points_same : ℕ → ℕ → Bool
   points_same n point = equal_bytes (points_from m kind version at n point) (points_from k kind other to n point)
 
-  pub record SamePoints (same : Bool) (point left : ℕ) : Type 0 where
-    pub all : point + left ≡ 32
-    pub decides : (same && points_same left point) ≡ points_same 32 0
-
-  pub points-first : SamePoints true 0 32
-  points-first = record { all = refl; decides = refl }
-
-  point-next : (n point : ℕ)
-      → points_same (suc n) point
-      ≡ (equal_bytes (point_record m kind version at point) (point_record k kind other to point) && points_same n (point + 1))
-  point-next n point =
-      equal-parts (point_record m kind version at point) (point_record k kind other to point) (points_from m kind version at n (point + 1))
-      (points_from k kind other to n (point + 1)) refl
-
-  pub points-turn : {same : Bool} {point left : ℕ} → SamePoints same point left → 0 < left
-      → (r : Bool) → r ≡ equal_bytes (point_record m kind version at point) (point_record k kind other to point)
-      → SamePoints (same && r) (point + 1) (left - 1)
-  points-turn {same} {point} {left} state more r e = record {
-    all = omega (arith, state.all, more);
-    decides = and_assoc same r (points_same (left - 1) (point + 1))
-        ∙ ap (λ (b : Bool). same && (b && points_same (left - 1) (point + 1))) e
-        ∙ ap (same &&◌) (sym (point-next (left - 1) point))
-        ∙ ap (λ (n : ℕ). same && points_same n point) (let one : suc (left - 1) ≡ left = omega (arith, more) in one)
-        ∙ state.decides;
-  }
-
-  pub points-last : {same : Bool} {point left : ℕ} → SamePoints same point left → left ≤ 0 → same ≡ points_same 32 0
-  points-last {same} {point} {left} state over =
-      sym (ap (λ (n : ℕ). same && points_same n point) (let none : left ≡ 0 = omega (arith, over) in none) ∙ and-true same) ∙ state.decides
+  pub each-same : (n point : ℕ) → list_all point_same (range_with_len point n) ≡ points_same n point
+  each-same zero point = refl
+  each-same (suc n) point =
+      ap (point_same point &&◌) (each-same n (point + 1))
+      ∙ sym (equal-parts (point_record m kind version at point) (point_record k kind other to point) (points_from m kind version at n (point + 1))
+      (points_from k kind other to n (point + 1)) refl)
 
 -- The bytes before the points, and the points.
 module _ (m k : List ℕ) (bytes : Bytes m) (others : Bytes k) (kind : EnvelopeKind) (version other at to : ℕ)

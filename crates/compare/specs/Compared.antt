@@ -1,6 +1,6 @@
 -- FORMAT.md, G2 to G5 and G7 (document 02, K2, "Compare two modules"): the list of differences of two accepted modules. `m` is the first
 -- module with its layout `l`, `k` the second with its layout `j`.
-use Rattle.std.specs.Prelude.{ℕ, ◌+◌, ◌*◌, max, List, [], ◌∷◌, ◌++◌, Bool, cond, not, ◌&&◌, length, eqb, ltb}
+use Rattle.std.specs.Prelude.{ℕ, ◌+◌, ◌*◌, max, List, [], ◌∷◌, ◌++◌, Bool, cond, not, ◌&&◌, length, eqb, ltb, Result, Ok, Err}
 use Rattle.vocabulary.specs.Lists.{joined}
 use Rattle.refusal.specs.Numbers.{refusal, no_refusal, refused_outcome}
 use Rattle.refusal.specs.Lengths.{output_of}
@@ -11,8 +11,6 @@ use Rattle.differences.specs.Differences.{whole_difference, difference_if, list_
 use Rattle.differences.specs.declared.Difference.{Difference}
 use Rattle.packed_rows.specs.Comparing.{stream_differences}
 use Rattle.layout.specs.declared.Layout.{Layout}
-use Rattle.layout.specs.declared.Outline.{Outline}
-use Rattle.layout.specs.declared.Outline.TheVariants.{Found, Refused}
 use Rattle.blocks.specs.StoredFields.{pattern_rows, packed_bytes, sample_flags, sample_frames}
 use Rattle.blocks.specs.Sizes.{width_of}
 use Rattle.blocks.specs.RecordKinds.{count_of}
@@ -116,37 +114,37 @@ compared_if ds room =
     cond (ltb room (10 * length ds)) (refused_compare (refusal Room (10 * length ds))) (record { outcome = no_refusal; entries = length ds })
 
 -- G7: "the first module's" refusal, "the second's", 17.
-abbrev pub compare_second : List ℕ → Layout → List ℕ → ℕ → Outline → CompareAnswer
-compare_second m l k room (Found j) = compared_if (differences m l k j) room
-compare_second m l k room (Refused r) = refused_compare r
+abbrev pub compare_second : List ℕ → Layout → List ℕ → ℕ → Result Layout Refusal → CompareAnswer
+compare_second m l k room (Ok j) = compared_if (differences m l k j) room
+compare_second m l k room (Err r) = refused_compare r
 
-abbrev pub compare_first : List ℕ → List ℕ → ℕ → Outline → CompareAnswer
-compare_first m k room (Found l) = compare_second m l k room (opened k)
-compare_first m k room (Refused r) = refused_compare r
+abbrev pub compare_first : List ℕ → List ℕ → ℕ → Result Layout Refusal → CompareAnswer
+compare_first m k room (Ok l) = compare_second m l k room (opened k)
+compare_first m k room (Err r) = refused_compare r
 
 abbrev pub compare_answer : List ℕ → List ℕ → ℕ → CompareAnswer
 compare_answer m k room = compare_first m k room (opened m)
 
 -- F8: what the output then holds.
-abbrev pub output_second : List ℕ → Layout → List ℕ → List ℕ → Outline → List ℕ
-output_second m l k out (Found j) = output_of (10 * length (differences m l k j)) (list_bytes (differences m l k j)) out
-output_second m l k out (Refused r) = out
+abbrev pub output_second : List ℕ → Layout → List ℕ → List ℕ → Result Layout Refusal → List ℕ
+output_second m l k out (Ok j) = output_of (10 * length (differences m l k j)) (list_bytes (differences m l k j)) out
+output_second m l k out (Err r) = out
 
-abbrev pub output_first : List ℕ → List ℕ → List ℕ → Outline → List ℕ
-output_first m k out (Found l) = output_second m l k out (opened k)
-output_first m k out (Refused r) = out
+abbrev pub output_first : List ℕ → List ℕ → List ℕ → Result Layout Refusal → List ℕ
+output_first m k out (Ok l) = output_second m l k out (opened k)
+output_first m k out (Err r) = out
 
 abbrev pub compare_output : List ℕ → List ℕ → List ℕ → List ℕ
 compare_output m k out = output_first m k out (opened m)
 
 -- The list of differences of two modules; empty if one of them is refused.
-abbrev pub differences_second : List ℕ → Layout → List ℕ → Outline → List Difference
-differences_second m l k (Found j) = differences m l k j
-differences_second m l k (Refused r) = []
+abbrev pub differences_second : List ℕ → Layout → List ℕ → Result Layout Refusal → List Difference
+differences_second m l k (Ok j) = differences m l k j
+differences_second m l k (Err r) = []
 
-abbrev pub differences_first : List ℕ → List ℕ → Outline → List Difference
-differences_first m k (Found l) = differences_second m l k (opened k)
-differences_first m k (Refused r) = []
+abbrev pub differences_first : List ℕ → List ℕ → Result Layout Refusal → List Difference
+differences_first m k (Ok l) = differences_second m l k (opened k)
+differences_first m k (Err r) = []
 
 abbrev pub module_differences : List ℕ → List ℕ → List Difference
 module_differences m k = differences_first m k (opened m)

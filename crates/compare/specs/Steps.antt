@@ -1,11 +1,10 @@
 -- Definitions that the contracts of private functions cite.
-use Rattle.std.specs.Prelude.{ℕ, ◌≡◌, List, [], ◌∷◌, true}
+use Rattle.std.specs.Prelude.{ℕ, ◌≡◌, List, [], ◌∷◌, true, Ok}
 use Rattle.vocabulary.specs.Lists.{joined}
 use Rattle.numbers.specs.Numbers.{each_from}
 use Rattle.differences.specs.Differences.{whole_difference}
 use Rattle.differences.specs.declared.Difference.{Difference}
 use Rattle.layout.specs.declared.Layout.{Layout}
-use Rattle.layout.specs.declared.Outline.TheVariants.{Found}
 use Rattle.blocks.specs.declared.RecordKind.{RecordKind}
 use Rattle.module.specs.Verdicts.{opened}
 use Rattle.queries.specs.Finding.{first_of, there, block_of}
@@ -13,8 +12,8 @@ use Rattle.compare.specs.Compared.{kind_of, numbered_differences}
 
 -- Both modules are accepted.
 pub record BothOpen (m : List ℕ) (l : Layout) (k : List ℕ) (j : Layout) : Type 0 where
-  pub first : opened m ≡ Found l
-  pub second : opened k ≡ Found j
+  pub first : opened m ≡ Ok l
+  pub second : opened k ≡ Ok j
 
 -- Both modules have the record with this number, and these are the places of its blocks.
 pub record BothThere (m : List ℕ) (l : Layout) (k : List ℕ) (j : Layout) (kind : RecordKind) (number at to : ℕ) : Type 0 where

@@ -3,11 +3,10 @@
 
 #![tactic(auto)]
 
-ghost use Rattle.std.specs.Prelude.{◌≡◌, ◌++◌, not, ◌+◌, ◌-◌, ◌*◌, ◌<◌, ◌≤◌, max, length};
+ghost use Rattle.std.specs.Prelude.{◌≡◌, not, ◌+◌, ◌-◌, ◌*◌, ◌<◌, ◌≤◌, length};
 ghost use Rattle.numbers.specs.Numbers.{part_of};
 ghost use Rattle.differences.specs.Differences.{whole_difference, difference_if, entries_listed, equal_bytes};
 ghost use Rattle.packed_rows.specs.ComparingSteps.{SmallCount};
-ghost use Rattle.layout.specs.declared.Outline.TheVariants.{Found};
 ghost use Rattle.blocks.specs.StoredFields.{pattern_rows, envelope_sections};
 ghost use Rattle.blocks.specs.Sizes.{size_of};
 ghost use Rattle.blocks.specs.declared.RecordKind.TheVariants.{Song, Instrument, Pattern, Sample, VolumeEnvelope, PanningEnvelope};
@@ -22,14 +21,13 @@ ghost use Rattle.compare.specs.Compared.{refused_compare, compared_if, compare_s
 ghost use Rattle.compare.specs.Steps.{BothOpen, BothThere, common_differences, whole_differences};
 
 use blocks::stored::{envelope_sections, packed_bytes, pattern_rows};
-use blocks::{BlockKind, RecordKind, block_at, block_kind, chunk_of, count_of, size};
+use blocks::{BlockKind, RecordKind, block_at, chunk_of, count_of, size};
 use differences::{equal, list, whole_difference};
 use envelopes::{EnvelopeKind, position, value};
-use layout::{Layout, Outline};
-use numbers::{part, smaller};
-use packed_rows::Comparison;
+use layout::Layout;
+use numbers::part;
 use queries::first_of;
-use refusal::{Outcome, Reason, Refusal, Verdict, outcome_of, refuse};
+use refusal::{Outcome, Reason, Refusal, refuse};
 use summary::name_of;
 
 // The number of entries in the list of differences.
@@ -45,16 +43,9 @@ fn refused(r: Refusal) -> CompareAnswer
     ensures { result ≡ refused_compare r }
 {
     CompareAnswer {
-        outcome: outcome_of(Verdict::Refused(r)),
+        outcome: Outcome::from(Err(r)),
         entries: 0,
     }
-}
-
-// The larger of two numbers.
-fn larger(a: usize, b: usize) -> usize
-    ensures { result ≡ max a b }
-{
-    if a < b { b } else { a }
 }
 
 // The kind of the entries for records of a kind.
@@ -109,15 +100,7 @@ fn same_points(
     ensures { result ≡ equal_bytes (points_from m.now kind version at 32 0) (points_from k.now kind other to 32 0) }
 {
     let sections = envelope_sections(m, at);
-    let mut same = true;
-    let mut point: u8 = 0;
-    let mut left: u8 = 32;
-    while 0 < left {
-        same = same & same_point(m, k, kind, version, other, at, to, sections, point);
-        point = point + 1;
-        left = left - 1;
-    }
-    same
+    (0..32).all(|point| same_point(m, k, kind, version, other, at, to, sections, point))
 }
 
 // Whether two envelopes are shown the same.
@@ -182,12 +165,9 @@ fn list_cells(
         return 0;
     }
     let rows = pattern_rows(m, at) as usize;
-    let start = 10 * smaller(n, out.len() / 10);
-    match packed_rows::compare(a, b, rows, l.tracks as usize, number, &mut out[start..]) {
-        Comparison::Compared(entries) => entries,
-        // Both modules are accepted, so this does not occur.
-        Comparison::Refused(_) => 0,
-    }
+    let start = 10 * n.min(out.len() / 10);
+    // Both modules are accepted, so their streams are.
+    packed_rows::compare(a, b, rows, l.tracks as usize, number, &mut out[start..]).unwrap()
 }
 
 // Lists the differences of two patterns, after n entries, and returns their number.
@@ -290,18 +270,15 @@ fn list_common(
     ensures { (result ≡ length (common_differences m.now l k.now j kind common))
         × (out.new ≡ entries_listed (common_differences m.now l k.now j kind common) n out.old) }
 {
-    let blocks = block_kind(kind);
+    let blocks = BlockKind::from(kind);
     let mut at = block_at(m, blocks, chunk_of(l, kind), 0);
     let mut to = block_at(k, blocks, chunk_of(j, kind), 0);
-    let mut number = first_of(kind);
+    let first = first_of(kind);
     let mut count: usize = 0;
-    let mut left = common;
-    while 0 < left {
+    for number in first..first + common {
         count = count + list_block(m, l, k, j, kind, number as u16, at, to, n + count, out);
         at = at + size(m, blocks, at);
         to = to + size(k, blocks, to);
-        number = number + 1;
-        left = left - 1;
     }
     count
 }
@@ -313,10 +290,8 @@ fn list_single(kind: RecordKind, start: usize, end: usize, n: usize, out: &mut [
         × (out.new ≡ entries_listed (whole_differences kind start (end - start)) n out.old) }
 {
     let mut count: usize = 0;
-    let mut number = start;
-    while number < end {
+    for number in start..end {
         count = count + list_whole(false, kind, number as u16, n + count, out);
-        number = number + 1;
     }
     count
 }
@@ -338,9 +313,9 @@ fn list_kind(
     let first = first_of(kind);
     let a = count_of(m, l, kind) as usize;
     let b = count_of(k, j, kind) as usize;
-    let common = smaller(a, b);
+    let common = a.min(b);
     let count = list_common(m, l, k, j, kind, common, n, out);
-    count + list_single(kind, first + common, first + larger(a, b), n + count, out)
+    count + list_single(kind, first + common, first + a.max(b), n + count, out)
 }
 
 // Lists an entry for a number of INFO after n others if it differs, and returns the number of entries listed.
@@ -373,31 +348,6 @@ fn list_name(m: &[u8], l: Layout, k: &[u8], j: Layout, out: &mut [u8]) -> usize
     list(!equal(&a, &b), whole_difference(1, 0), 0, out)
 }
 
-// Lists the differences of the records of three kinds, after n entries, and returns their number.
-fn list_three(
-    m: &[u8],
-    l: Layout,
-    k: &[u8],
-    j: Layout,
-    a: RecordKind,
-    b: RecordKind,
-    c: RecordKind,
-    n: usize,
-    out: &mut [u8],
-) -> usize
-    requires { BothOpen m.now l k.now j
-        × SmallCount (n + length (kind_differences m.now l k.now j a
-        ++ (kind_differences m.now l k.now j b ++ kind_differences m.now l k.now j c))) }
-    ensures { (result ≡ length (kind_differences m.now l k.now j a
-        ++ (kind_differences m.now l k.now j b ++ kind_differences m.now l k.now j c)))
-        × (out.new ≡ entries_listed (kind_differences m.now l k.now j a
-        ++ (kind_differences m.now l k.now j b ++ kind_differences m.now l k.now j c)) n out.old) }
-{
-    let first = list_kind(m, l, k, j, a, n, out);
-    let second = first + list_kind(m, l, k, j, b, n + first, out);
-    second + list_kind(m, l, k, j, c, n + second, out)
-}
-
 // Lists all differences of two accepted modules, and returns their number. Entries for which the output has no room are not written.
 fn list_all(m: &[u8], l: Layout, k: &[u8], j: Layout, out: &mut [u8]) -> usize
     requires { BothOpen m.now l k.now j }
@@ -405,31 +355,18 @@ fn list_all(m: &[u8], l: Layout, k: &[u8], j: Layout, out: &mut [u8]) -> usize
         × (out.new ≡ entries_listed (differences m.now l k.now j) 0 out.old) }
 {
     let name = list_name(m, l, k, j, out);
-    let info = name + list_info(l, j, name, out);
-    let three = info
-        + list_three(
-            m,
-            l,
-            k,
-            j,
-            RecordKind::Song,
-            RecordKind::Instrument,
-            RecordKind::VolumeEnvelope,
-            info,
-            out,
-        );
-    three
-        + list_three(
-            m,
-            l,
-            k,
-            j,
-            RecordKind::PanningEnvelope,
-            RecordKind::Sample,
-            RecordKind::Pattern,
-            three,
-            out,
-        )
+    let mut n = name + list_info(l, j, name, out);
+    for kind in [
+        RecordKind::Song,
+        RecordKind::Instrument,
+        RecordKind::VolumeEnvelope,
+        RecordKind::PanningEnvelope,
+        RecordKind::Sample,
+        RecordKind::Pattern,
+    ] {
+        n = n + list_kind(m, l, k, j, kind, n, out);
+    }
+    n
 }
 
 // The number of all differences of two accepted modules.
@@ -445,27 +382,27 @@ fn count_all(m: &[u8], l: Layout, k: &[u8], j: Layout) -> usize
 fn compare_opened(m: &[u8], l: Layout, k: &[u8], j: Layout, out: &mut [u8]) -> CompareAnswer
     requires { BothOpen m.now l k.now j }
     ensures { (result ≡ compared_if (differences m.now l k.now j) (length out.old))
-        × (out.new ≡ output_second m.now l k.now out.old (Found j)) }
+        × (out.new ≡ output_second m.now l k.now out.old (Ok j)) }
 {
     let needed = 10 * count_all(m, l, k, j);
     if out.len() < needed {
         return refused(refuse(Reason::Room, needed));
     }
     CompareAnswer {
-        outcome: outcome_of(Verdict::Accepted),
+        outcome: Outcome::from(Ok(())),
         entries: list_all(m, l, k, j, out),
     }
 }
 
 // Compares an accepted module with another: the other module's own refusal, 17.
 fn compare_second(m: &[u8], l: Layout, k: &[u8], out: &mut [u8]) -> CompareAnswer
-    requires { opened m.now ≡ Found l }
+    requires { opened m.now ≡ Ok l }
     ensures { (result ≡ compare_second m.now l k.now (length out.old) (opened k.now))
         × (out.new ≡ output_second m.now l k.now out.old (opened k.now)) }
 {
     match module::open(k) {
-        Outline::Found(j) => compare_opened(m, l, k, j, out),
-        Outline::Refused(r) => refused(r),
+        Ok(j) => compare_opened(m, l, k, j, out),
+        Err(r) => refused(r),
     }
 }
 
@@ -475,7 +412,7 @@ pub fn compare(m: &[u8], k: &[u8], out: &mut [u8]) -> CompareAnswer
         × (out.new ≡ compare_output m.now k.now out.old) }
 {
     match module::open(m) {
-        Outline::Found(l) => compare_second(m, l, k, out),
-        Outline::Refused(r) => refused(r),
+        Ok(l) => compare_second(m, l, k, out),
+        Err(r) => refused(r),
     }
 }

@@ -1,9 +1,9 @@
 -- Two modules that show the same do not differ, so a module does not differ from its repacked module.
 use Prim.Native.Nat.{ℕ}
+use Rattle.std.specs.Prelude.{Ok}
 use mathlib.Core.Path.{◌≡◌, sym}
 use mathlib.Core.List.{List, []}
 use Rattle.samples.specs.Shown.{frames_part}
-use Rattle.refusal.specs.declared.Verdict.TheVariants.{Accepted}
 use Rattle.numbers.specs.Numbers.{Bytes}
 use Rattle.module.specs.Verdicts.{module_verdict}
 use Rattle.repack.specs.Repacked.{repacked}
@@ -28,7 +28,7 @@ shown-agree {m} {k} s = record {
   cells = λ number out. sym (s.cells_written number out);
 }
 
-pub differences-repacked : (m : List ℕ) → Bytes m → module_verdict m ≡ Accepted → module_differences m (repacked m) ≡ []
+pub differences-repacked : (m : List ℕ) → Bytes m → module_verdict m ≡ Ok tt → module_differences m (repacked m) ≡ []
 differences-repacked m bytes accepted =
     (differences-none m (repacked m) bytes (repacked-bytes m bytes accepted) accepted (repacked-accepted m bytes accepted)).1
     (shown-agree (repacked-shows-same m bytes accepted))

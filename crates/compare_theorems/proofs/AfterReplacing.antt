@@ -1,6 +1,7 @@
 -- What differs after a sample is replaced: the sample, unless it had the new frames at 16 bits, and each instrument whose loop was cleared;
 -- nothing else.
 use Prim.Native.Nat.{ℕ, ◌≤◌}
+use Rattle.std.specs.Prelude.{Ok}
 use mathlib.Core.Path.{◌≡◌, refl, sym, ap, subst, ◌∙◌}
 use mathlib.Core.Logic.{◌↔◌}
 use mathlib.Core.List.{List, map}
@@ -11,7 +12,6 @@ use lib.Dec.{eqb}
 use borrow.Author.Tests.{eqb-true, eqb-false}
 use Rattle.vocabulary.specs.Lists.{joined}
 use Rattle.vocabulary.proofs.Splits.{Within}
-use Rattle.refusal.specs.declared.Verdict.TheVariants.{Accepted}
 use Rattle.numbers.specs.Numbers.{Bytes, bytes16}
 use Rattle.differences.specs.Differences.{whole_difference}
 use Rattle.differences.specs.declared.Difference.{Difference}
@@ -37,7 +37,7 @@ use Rattle.compare_theorems.proofs.ShownAfter.{ReplacedShown, name-stays, info-s
 use Rattle.compare_theorems.proofs.ShownAfter.{differs-cleared, cleared-differs, sample-stays, sample-width, sample-frames}
 
 module _ (m : List ℕ) (bytes : Bytes m) (sample : ℕ) (new : List ℕ) (room : ℕ) (call : DescribedCall m sample new room) where
-  accepted : module_verdict m ≡ Accepted
+  accepted : module_verdict m ≡ Ok tt
   accepted = ap verdict_of_outline call.passed.opens
 
   abbrev result : List ℕ

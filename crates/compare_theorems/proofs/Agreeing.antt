@@ -1,5 +1,8 @@
 -- Theorem 21: the list of differences of two accepted modules is empty exactly if the answers of the queries agree.
 use Prim.Native.Nat.{ℕ, ◌+◌, ◌-◌, ◌*◌, ◌<◌}
+use Rattle.std.specs.Prelude.{Result, Ok}
+use Rattle.refusal.specs.declared.Refusal.{Refusal}
+use Rattle.queries.specs.declared.Block.{Block}
 use mathlib.Core.Path.{◌≡◌, refl, sym, ap, ◌∙◌}
 use mathlib.Core.Logic.{◌↔◌, ◌⊎◌, inl, inr}
 use mathlib.Core.List.{List, []}
@@ -10,22 +13,18 @@ use lib.Dec.{eqb, ltb}
 use borrow.Author.Tests.{ltb-true, ltb-false}
 use Rattle.samples.specs.Shown.{frames_part}
 use Rattle.refusal.specs.Numbers.{no_refusal}
-use Rattle.refusal.specs.declared.Verdict.TheVariants.{Accepted}
 use Rattle.cells.specs.Cells.{cell_bytes}
 use Rattle.numbers.specs.Numbers.{Bytes}
 use Rattle.differences.specs.Differences.{equal_bytes}
 use Rattle.differences.specs.declared.Difference.{Difference}
 use Rattle.packed_rows.specs.Answers.{check_answer, unpack_output}
 use Rattle.layout.specs.declared.Layout.{Layout}
-use Rattle.layout.specs.declared.Outline.TheVariants.{Found as Opened}
 use Rattle.blocks.specs.StoredFields.{pattern_rows, packed_bytes}
 use Rattle.blocks.specs.RecordKinds.{count_of}
 use Rattle.blocks.specs.declared.RecordKind.{RecordKind}
 use Rattle.blocks.specs.declared.RecordKind.TheVariants.{Song, Instrument, Pattern, Sample, VolumeEnvelope, PanningEnvelope}
 use Rattle.module.specs.Verdicts.{opened, module_verdict}
 use Rattle.queries.specs.Finding.{first_of, block_of, found}
-use Rattle.queries.specs.declared.Found.{Found}
-use Rattle.queries.specs.declared.Found.TheVariants.{At}
 use Rattle.acceptance.proofs.Holding.{eqb-says, false-never}
 use Rattle.acceptance.proofs.OpenModules.{accepted-opens}
 use Rattle.envelopes.specs.Shown.{count_if, count_answer, envelope_answer}
@@ -55,7 +54,7 @@ decided true says h = says.0 refl
 decided false says h = absurd (h (λ s. false-never (says.1 s)))
 
 -- From answers that do not differ to answers that agree.
-module _ (m k : List ℕ) (bytes : Bytes m) (others : Bytes k) (l j : Layout) (o : opened m ≡ Opened l) (p : opened k ≡ Opened j)
+module _ (m k : List ℕ) (bytes : Bytes m) (others : Bytes k) (l j : Layout) (o : opened m ≡ Ok l) (p : opened k ≡ Ok j)
     (nothing : (d : Difference) → Differs m k d → ⊥) where
   name-agrees : name_answer m ≡ name_answer k
   name-agrees = decided (equal_bytes (name_of m l) (name_of k j)) (name-tested m k bytes others l j o p) (λ h. nothing _ (name h))
@@ -91,7 +90,7 @@ module _ (m k : List ℕ) (bytes : Bytes m) (others : Bytes k) (l j : Layout) (o
     not-fewer less =
         let number = first_of kind + count_of m l kind in go number refl refl refl (which-have m k l j o p kind number) (record-agrees kind number)
       where
-        go : (number : ℕ) → number ≡ first_of kind + count_of m l kind → {f g : Found} → found m kind number ≡ f → found k kind number ≡ g
+        go : (number : ℕ) → number ≡ first_of kind + count_of m l kind → {f g : Result Block Refusal} → found m kind number ≡ f → found k kind number ≡ g
             → WhichHave m k l j kind number f g → Same m k kind number → ⊥
         go number n e f (both t u) s = omega (arith, n, ((there-says m l kind number).0 t).1)
         go number n e f (first t u) s = omega (arith, n, ((there-says m l kind number).0 t).1)
@@ -102,7 +101,7 @@ module _ (m k : List ℕ) (bytes : Bytes m) (others : Bytes k) (l j : Layout) (o
     not_more less =
         let number = first_of kind + count_of k j kind in go number refl refl refl (which-have m k l j o p kind number) (record-agrees kind number)
       where
-        go : (number : ℕ) → number ≡ first_of kind + count_of k j kind → {f g : Found} → found m kind number ≡ f → found k kind number ≡ g
+        go : (number : ℕ) → number ≡ first_of kind + count_of k j kind → {f g : Result Block Refusal} → found m kind number ≡ f → found k kind number ≡ g
             → WhichHave m k l j kind number f g → Same m k kind number → ⊥
         go number n e f (both t u) s = omega (arith, n, ((there-says k j kind number).0 u).1)
         go number n e f (first t u) s = first-only m k (block_of m l kind number) kind (rw (e, f) at s)
@@ -134,7 +133,7 @@ module _ (m k : List ℕ) (bytes : Bytes m) (others : Bytes k) (l j : Layout) (o
     abbrev sizes : SameSizes m k number
     sizes = record { rows = (record-agrees Pattern number).0; tracks = (record-agrees Pattern number).1 }
 
-    module _ (e : found m Pattern number ≡ At (block_of m l Pattern number)) (f : found k Pattern number ≡ At (block_of k j Pattern number)) where
+    module _ (e : found m Pattern number ≡ Ok (block_of m l Pattern number)) (f : found k Pattern number ≡ Ok (block_of k j Pattern number)) where
       abbrev at : ℕ
       at = (block_of m l Pattern number).at
 
@@ -159,7 +158,7 @@ module _ (m k : List ℕ) (bytes : Bytes m) (others : Bytes k) (l j : Layout) (o
       both-write : (out : List ℕ) → cells_output m number out ≡ cells_output k number out
       both-write out =
           let here = stream-accepted m number (block_of m l Pattern number) e in
-          let there : check_answer (packed_bytes k to) (pattern_rows m at) l.tracks ≡ Accepted =
+          let there : check_answer (packed_bytes k to) (pattern_rows m at) l.tracks ≡ Ok tt =
           rw (rows_agree, tracks-agree) (stream-accepted k number (block_of k j Pattern number) f) in
           ap (cells_output_if m out) e
           ∙ same-output (pattern_rows m at) l.tracks (packed_bytes m at) (packed_bytes k to) here there fields-agree out
@@ -170,7 +169,7 @@ module _ (m k : List ℕ) (bytes : Bytes m) (others : Bytes k) (l j : Layout) (o
     cells_agree : (out : List ℕ) → cells_output m number out ≡ cells_output k number out
     cells_agree out = go refl refl (which-have m k l j o p Pattern number) (record-agrees Pattern number)
       where
-        go : {f g : Found} → found m Pattern number ≡ f → found k Pattern number ≡ g → WhichHave m k l j Pattern number f g
+        go : {f g : Result Block Refusal} → found m Pattern number ≡ f → found k Pattern number ≡ g → WhichHave m k l j Pattern number f g
             → Same m k Pattern number → cells_output m number out ≡ cells_output k number out
         go e f (both t u) s = both-write e f out
         go e f (first t u) s = absurd (first-only m k (block_of m l Pattern number) Pattern (rw (e, f) at s))
@@ -217,7 +216,7 @@ module _ (m k : List ℕ) (a : AnswersAgree m k) where
   nothing-differs d (cell number row track field s there h) = h (field-same number row track field)
 
 -- Theorem 21.
-pub differences-none : (m k : List ℕ) → Bytes m → Bytes k → module_verdict m ≡ Accepted → module_verdict k ≡ Accepted
+pub differences-none : (m k : List ℕ) → Bytes m → Bytes k → module_verdict m ≡ Ok tt → module_verdict k ≡ Ok tt
     → (module_differences m k ≡ []) ↔ AnswersAgree m k
 differences-none m k bytes others a b =
     let exact = differences-exact m k bytes others a b in

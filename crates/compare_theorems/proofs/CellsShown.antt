@@ -1,6 +1,9 @@
 -- The cells of a pattern that both modules have with the same sizes: the entries of the list are those of the fields that the queries show
 -- and that differ.
 use Prim.Native.Nat.{ℕ, ◌+◌, ◌-◌, ◌*◌, ◌≤◌, ◌<◌}
+use Rattle.std.specs.Prelude.{Result, Ok}
+use Rattle.refusal.specs.declared.Refusal.{Refusal}
+use Rattle.queries.specs.declared.Block.{Block}
 use mathlib.Core.Path.{◌≡◌, refl, sym, ap, ◌∙◌}
 use mathlib.Core.Logic.{◌↔◌}
 use mathlib.Core.List.{List}
@@ -12,13 +15,10 @@ use Rattle.differences.specs.declared.Difference.{Difference}
 use Rattle.packed_rows.specs.Steps.{rows_read}
 use Rattle.packed_rows.specs.Comparing.{stream_differences}
 use Rattle.layout.specs.declared.Layout.{Layout}
-use Rattle.layout.specs.declared.Outline.TheVariants.{Found as Opened}
 use Rattle.blocks.specs.StoredFields.{pattern_rows, packed_bytes}
 use Rattle.blocks.specs.declared.RecordKind.TheVariants.{Pattern}
 use Rattle.module.specs.Verdicts.{opened}
 use Rattle.queries.specs.Finding.{block_of, found}
-use Rattle.queries.specs.declared.Found.{Found}
-use Rattle.queries.specs.declared.Found.TheVariants.{At}
 use Rattle.patterns.specs.Shown.{rows_if, rows_answer, cells_output_if}
 use Rattle.summary.specs.Shown.{info_answer}
 use Rattle.query_theorems.proofs.FoundPatterns.{stream-accepted}
@@ -27,7 +27,7 @@ use Rattle.compare_theorems.proofs.SameShown.{tracks-here}
 use Rattle.compare_theorems.proofs.PatternsCompared.{field_of, pattern-exact, stream-field}
 
 -- A pattern that a module has.
-module _ (m : List ℕ) (l : Layout) (o : opened m ≡ Opened l) (number : ℕ) (e : found m Pattern number ≡ At (block_of m l Pattern number)) where
+module _ (m : List ℕ) (l : Layout) (o : opened m ≡ Ok l) (number : ℕ) (e : found m Pattern number ≡ Ok (block_of m l Pattern number)) where
   abbrev at : ℕ
   at = (block_of m l Pattern number).at
 
@@ -36,12 +36,12 @@ module _ (m : List ℕ) (l : Layout) (o : opened m ≡ Opened l) (number : ℕ) 
   stored_rows = rows_read (packed_bytes m at) (pattern_rows m at) l.tracks
 
   pub rows-shown : (rows_answer m number).rows ≡ pattern_rows m at
-  rows-shown = ap (λ (f : Found). (rows_if m f).rows) e
+  rows-shown = ap (λ (f : Result Block Refusal). (rows_if m f).rows) e
 
   module _ (row track field : ℕ) where
     pub field-there : row < pattern_rows m at → 1 ≤ track → track ≤ l.tracks → 1 ≤ field → field ≤ 6 → FieldThere m number row track field
     field-there r t u f g = record {
-      found = ap (λ (f : Found). (rows_if m f).outcome.number) e;
+      found = ap (λ (f : Result Block Refusal). (rows_if m f).outcome.number) e;
       row_most = omega (arith, r, rows-shown);
       track_least = t;
       track_most = omega (arith, u, tracks-here m l o);
@@ -51,9 +51,9 @@ module _ (m : List ℕ) (l : Layout) (o : opened m ≡ Opened l) (number : ℕ) 
 
     pub field-shown : FieldThere m number row track field → shown_field m number row track field ≡ field_of stored_rows row track field
     field-shown h =
-        ap (λ (f : Found). get_or (cells_output_if m (replicate (cell_bytes (rows_if m f).rows (info_answer m).tracks) 0) f)
+        ap (λ (f : Result Block Refusal). get_or (cells_output_if m (replicate (cell_bytes (rows_if m f).rows (info_answer m).tracks) 0) f)
         (row * ((info_answer m).tracks * 6) + ((track - 1) * 6 + (field - 1))) 0) e
-        ∙ ap (λ (t : ℕ). get_or (cells_output_if m (replicate (cell_bytes (pattern_rows m at) t) 0) (At (block_of m l Pattern number)))
+        ∙ ap (λ (t : ℕ). get_or (cells_output_if m (replicate (cell_bytes (pattern_rows m at) t) 0) (Ok (block_of m l Pattern number)))
         (row * (t * 6) + ((track - 1) * 6 + (field - 1))) 0) (tracks-here m l o)
         ∙ stream-field (packed_bytes m at) (pattern_rows m at) l.tracks (stream-accepted m number (block_of m l Pattern number) e) row track field
         (omega (arith, h.row_most, rows-shown)) h.track_least (omega (arith, h.track_most, tracks-here m l o)) h.field_least h.field_most
@@ -68,8 +68,8 @@ pub record CellDiffers (m k : List ℕ) (number : ℕ) (d : Difference) : Type 0
   pub entry : d ≡ record { kind = 8; number = number; row = row; track = track; field = field }
 
 -- A pattern that both modules have, with the same sizes.
-module _ (m k : List ℕ) (l j : Layout) (o : opened m ≡ Opened l) (p : opened k ≡ Opened j) (number : ℕ)
-    (e : found m Pattern number ≡ At (block_of m l Pattern number)) (f : found k Pattern number ≡ At (block_of k j Pattern number))
+module _ (m k : List ℕ) (l j : Layout) (o : opened m ≡ Ok l) (p : opened k ≡ Ok j) (number : ℕ)
+    (e : found m Pattern number ≡ Ok (block_of m l Pattern number)) (f : found k Pattern number ≡ Ok (block_of k j Pattern number))
     (rows : pattern_rows m (block_of m l Pattern number).at ≡ pattern_rows k (block_of k j Pattern number).at) (tracks : l.tracks ≡ j.tracks) where
   abbrev here : ℕ
   here = (block_of m l Pattern number).at

@@ -1,6 +1,8 @@
 -- The bytes of two envelopes of one kind are equal exactly if the queries show the same of the two blocks. A shown value is −128 to 128
 -- (theorem 18), so that its 2 bytes determine it.
 use Prim.Native.Nat.{ℕ, zero, suc, ◌+◌, ◌≤◌, ◌<◌}
+use Rattle.std.specs.Prelude.{Result, Ok}
+use Rattle.refusal.specs.declared.Refusal.{Refusal}
 use mathlib.Core.Path.{◌≡◌, refl, ap, subst}
 use mathlib.Core.Logic.{◌↔◌}
 use mathlib.Core.List.{List, ◌∷◌}
@@ -14,8 +16,6 @@ use Rattle.blocks.specs.StoredFields.{envelope_instrument, envelope_flags, envel
 use Rattle.blocks.specs.StoredFields.{envelope_loop_last, envelope_second_sustain}
 use Rattle.queries.specs.Finding.{found}
 use Rattle.queries.specs.declared.Block.{Block}
-use Rattle.queries.specs.declared.Found.{Found}
-use Rattle.queries.specs.declared.Found.TheVariants.{At}
 use Rattle.acceptance.proofs.BlockFields.{le_z-says}
 use Rattle.envelopes.specs.Shown.{record_kind, position_shown, value_shown, shown_envelope, envelope_if}
 use Rattle.envelopes.specs.declared.EnvelopeKind.{EnvelopeKind}
@@ -92,9 +92,9 @@ module _ (m k : List ℕ) (kind : EnvelopeKind) (version other at to : ℕ) wher
           }
 
 -- The values of an envelope that is found.
-pub values-small : (m : List ℕ) (kind : EnvelopeKind) (number : ℕ) (b : Block) → found m (record_kind kind) number ≡ At b
+pub values-small : (m : List ℕ) (kind : EnvelopeKind) (number : ℕ) (b : Block) → found m (record_kind kind) number ≡ Ok b
     → AllSmall (shown_envelope m kind b.version b.at).values
-values-small m kind number b e i = subst (λ (f : Found). Small (get_or (envelope_if m kind f).values i (pos 0))) e (all kind)
+values-small m kind number b e i = subst (λ (f : Result Block Refusal). Small (get_or (envelope_if m kind f).values i (pos 0))) e (all kind)
   where
     all : (kind : EnvelopeKind) → Small (value_at m kind number i)
     all Volume = small-volume (value_at m Volume number i) (volume-values m number i)

@@ -1,6 +1,9 @@
 -- Theorem 21: an entry is in the list of differences of two accepted modules exactly if it says something that differs in the answers of the
 -- queries.
 use Prim.Native.Nat.{ℕ, ◌<◌}
+use Rattle.std.specs.Prelude.{Result, Ok}
+use Rattle.refusal.specs.declared.Refusal.{Refusal}
+use Rattle.queries.specs.declared.Block.{Block}
 use mathlib.Core.Path.{◌≡◌, refl, sym, ap, subst, ◌∙◌}
 use mathlib.Core.Logic.Iff
 use mathlib.Core.Logic.{◌↔◌, ◌⊎◌, inl, inr}
@@ -11,20 +14,15 @@ use lib.ListN.{get_or}
 use lib.Dec.{eqb}
 use Rattle.vocabulary.specs.Lists.{joined}
 use Rattle.vocabulary.proofs.Splits.{Within}
-use Rattle.refusal.specs.declared.Verdict.TheVariants.{Accepted}
 use Rattle.numbers.specs.Numbers.{Bytes, each_from}
 use Rattle.differences.specs.Differences.{whole_difference, equal_bytes}
 use Rattle.differences.specs.declared.Difference.{Difference}
 use Rattle.layout.specs.declared.Layout.{Layout}
-use Rattle.layout.specs.declared.Outline.{Outline}
-use Rattle.layout.specs.declared.Outline.TheVariants.{Found as Opened}
 use Rattle.blocks.specs.StoredFields.{pattern_rows}
 use Rattle.blocks.specs.declared.RecordKind.{RecordKind}
 use Rattle.blocks.specs.declared.RecordKind.TheVariants.{Song, Instrument, Pattern, Sample, VolumeEnvelope, PanningEnvelope}
 use Rattle.module.specs.Verdicts.{opened, module_verdict}
 use Rattle.queries.specs.Finding.{block_of, found}
-use Rattle.queries.specs.declared.Found.{Found}
-use Rattle.queries.specs.declared.Found.TheVariants.{At}
 use Rattle.acceptance.proofs.Holding.{eqb-says}
 use Rattle.acceptance.proofs.OpenModules.{accepted-opens}
 use Rattle.patterns.specs.Shown.{rows_if, rows_answer}
@@ -48,12 +46,12 @@ use Rattle.compare_theorems.proofs.CellsShown.{CellDiffers, cells-exact}
 abbrev pub info_field : Layout → ℕ → ℕ
 info_field x field = get_or (info_numbers (shown_info x)) field 0
 
-module _ (m k : List ℕ) (bytes : Bytes m) (others : Bytes k) (l j : Layout) (o : opened m ≡ Opened l) (p : opened k ≡ Opened j) where
+module _ (m k : List ℕ) (bytes : Bytes m) (others : Bytes k) (l j : Layout) (o : opened m ≡ Ok l) (p : opened k ≡ Ok j) where
   -- The name.
   name-same : (name_of m l ≡ name_of k j) ↔ (name_answer m ≡ name_answer k)
   name-same =
-      let here : name_answer m ≡ name_if m (Opened l) = ap (name_if m) o in
-      let there : name_answer k ≡ name_if k (Opened j) = ap (name_if k) p in
+      let here : name_answer m ≡ name_if m (Ok l) = ap (name_if m) o in
+      let there : name_answer k ≡ name_if k (Ok j) = ap (name_if k) p in
       (λ e. here ∙ rw e refl ∙ sym there, λ e. ap (λ (a : NameAnswer). a.name) (sym here ∙ e ∙ there))
 
   pub name-tested : (equal_bytes (name_of m l) (name_of k j) ≡ true) ↔ (name_answer m ≡ name_answer k)
@@ -73,8 +71,8 @@ module _ (m k : List ℕ) (bytes : Bytes m) (others : Bytes k) (l j : Layout) (o
   pub info-same : (field : ℕ)
       → (info_field l field ≡ info_field j field) ↔ (get_or (info_numbers (info_answer m)) field 0 ≡ get_or (info_numbers (info_answer k)) field 0)
   info-same field =
-      let here : get_or (info_numbers (info_answer m)) field 0 ≡ info_field l field = ap (λ (x : Outline). get_or (info_numbers (info_if x)) field 0) o in
-      let there : get_or (info_numbers (info_answer k)) field 0 ≡ info_field j field = ap (λ (x : Outline). get_or (info_numbers (info_if x)) field 0) p in
+      let here : get_or (info_numbers (info_answer m)) field 0 ≡ info_field l field = ap (λ (x : Result Layout Refusal). get_or (info_numbers (info_if x)) field 0) o in
+      let there : get_or (info_numbers (info_answer k)) field 0 ≡ info_field j field = ap (λ (x : Result Layout Refusal). get_or (info_numbers (info_if x)) field 0) p in
       (λ e. here ∙ e ∙ sym there, λ e. sym here ∙ e ∙ there)
 
   info-tested : (field : ℕ)
@@ -97,20 +95,20 @@ module _ (m k : List ℕ) (bytes : Bytes m) (others : Bytes k) (l j : Layout) (o
   record-differs PanningEnvelope number h = panning_envelope number h
 
   -- The sizes of a pattern that both modules have, as they are stored.
-  module _ (number : ℕ) (e : found m Pattern number ≡ At (block_of m l Pattern number)) (f : found k Pattern number ≡ At (block_of k j Pattern number)) where
+  module _ (number : ℕ) (e : found m Pattern number ≡ Ok (block_of m l Pattern number)) (f : found k Pattern number ≡ Ok (block_of k j Pattern number)) where
     pub stored-rows : rows_answer m number ≡ rows_answer k number
         → pattern_rows m (block_of m l Pattern number).at ≡ pattern_rows k (block_of k j Pattern number).at
     stored-rows s = ap (λ (a : RowsAnswer). a.rows) (sym (ap (rows_if m) e) ∙ s ∙ ap (rows_if k) f)
 
     pub stored-tracks : Same m k Pattern number → l.tracks ≡ j.tracks
-    stored-tracks s = (tracks-shown m k l j o p).0 (s.1 (ap (λ (x : Found). (rows_if m x).outcome.number) e))
+    stored-tracks s = (tracks-shown m k l j o p).0 (s.1 (ap (λ (x : Result Block Refusal). (rows_if m x).outcome.number) e))
 
     pattern_cells : Same m k Pattern number → (d : Difference)
         → Within (cell_entries m l k j Pattern number (block_of m l Pattern number).at (block_of k j Pattern number).at) d ↔ CellDiffers m k number d
     pattern_cells s = cells-exact m k l j o p number e f (stored-rows s.0) (stored-tracks s)
 
-  cells-differ : (kind : RecordKind) (number : ℕ) (d : Difference) → found m kind number ≡ At (block_of m l kind number)
-      → found k kind number ≡ At (block_of k j kind number) → Same m k kind number
+  cells-differ : (kind : RecordKind) (number : ℕ) (d : Difference) → found m kind number ≡ Ok (block_of m l kind number)
+      → found k kind number ≡ Ok (block_of k j kind number) → Same m k kind number
       → Within (cell_entries m l k j kind number (block_of m l kind number).at (block_of k j kind number).at) d
       → Differs m k d
   cells-differ Song number d e f s w = absurd (in-none w)
@@ -201,14 +199,14 @@ module _ (m k : List ℕ) (bytes : Bytes m) (others : Bytes k) (l j : Layout) (o
       → KindDiffers m k l j Pattern (record { kind = 8; number = number; row = row; track = track; field = field })
   cell_in number row track field s there h = go refl refl (which-have m k l j o p Pattern number)
     where
-      go : {f g : Found} → found m Pattern number ≡ f → found k Pattern number ≡ g → WhichHave m k l j Pattern number f g
+      go : {f g : Result Block Refusal} → found m Pattern number ≡ f → found k Pattern number ≡ g → WhichHave m k l j Pattern number f g
           → KindDiffers m k l j Pattern (record { kind = 8; number = number; row = row; track = track; field = field })
       go e f (both t u) =
           cells number e f (s.rows, s.tracks) ((pattern_cells number e f (s.rows, s.tracks) _).1
           (record { row = row; track = track; field = field; there = there; differs = h; entry = refl }))
       go e f (first t u) = absurd (first-only m k (block_of m l Pattern number) Pattern (rw (e, f) at s.rows, rw e at s.tracks))
-      go e f (second t u) = absurd (omega (arith, sym (ap (λ (x : Found). (rows_if m x).outcome.number) e) ∙ there.found))
-      go e f (neither t u) = absurd (omega (arith, sym (ap (λ (x : Found). (rows_if m x).outcome.number) e) ∙ there.found))
+      go e f (second t u) = absurd (omega (arith, sym (ap (λ (x : Result Block Refusal). (rows_if m x).outcome.number) e) ∙ there.found))
+      go e f (neither t u) = absurd (omega (arith, sym (ap (λ (x : Result Block Refusal). (rows_if m x).outcome.number) e) ∙ there.found))
 
   differs-in-list : (d : Difference) → Differs m k d → Within (differences m l k j) d
   differs-in-list d (name h) = in-front (name_differences m l k j) _ ((name-exact (whole_difference 1 0)).1 (h, refl))
@@ -222,7 +220,7 @@ module _ (m k : List ℕ) (bytes : Bytes m) (others : Bytes k) (l j : Layout) (o
   differs-in-list d (cell number row track field s there h) = kind-in _ Pattern (cell_in number row track field s there h)
 
 -- Theorem 21, both directions.
-pub differences-exact : (m k : List ℕ) → Bytes m → Bytes k → module_verdict m ≡ Accepted → module_verdict k ≡ Accepted
+pub differences-exact : (m k : List ℕ) → Bytes m → Bytes k → module_verdict m ≡ Ok tt → module_verdict k ≡ Ok tt
     → (d : Difference) → Within (module_differences m k) d ↔ Differs m k d
 differences-exact m k bytes others a b d =
     let (l, o) = accepted-opens m a in

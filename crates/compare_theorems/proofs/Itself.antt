@@ -1,5 +1,7 @@
 -- A module does not differ from itself.
 use Prim.Native.Nat.{ℕ, ◌+◌, ◌-◌, ◌≤◌, ◌<◌, max}
+use Rattle.std.specs.Prelude.{Result, Ok, Err}
+use Rattle.refusal.specs.declared.Refusal.{Refusal}
 use mathlib.Core.Path.{◌≡◌, refl, ap, ◌∙◌}
 use mathlib.Core.List.{List, [], ◌∷◌, ◌++◌}
 use mathlib.Core.Bool.{Bool, true, cond, not, ◌&&◌}
@@ -13,8 +15,6 @@ use Rattle.packed_rows.specs.Entries.{rows_from}
 use Rattle.packed_rows.specs.Stream.{read_stream, entries_read}
 use Rattle.packed_rows.specs.Comparing.{stream_differences}
 use Rattle.layout.specs.declared.Layout.{Layout}
-use Rattle.layout.specs.declared.Outline.{Outline}
-use Rattle.layout.specs.declared.Outline.TheVariants.{Found, Refused}
 use Rattle.blocks.specs.StoredFields.{pattern_rows, packed_bytes}
 use Rattle.blocks.specs.RecordKinds.{count_of}
 use Rattle.blocks.specs.declared.RecordKind.{RecordKind}
@@ -93,6 +93,6 @@ module _ (m : List ℕ) (l : Layout) where
 pub differences-itself : (m : List ℕ) → module_differences m m ≡ []
 differences-itself m = go (opened m) refl
   where
-    go : (o : Outline) → opened m ≡ o → module_differences m m ≡ []
-    go (Found l) o = both_found m m o o ∙ list-itself m l
-    go (Refused r) o = first-refused m m o
+    go : (o : Result Layout Refusal) → opened m ≡ o → module_differences m m ≡ []
+    go (Ok l) o = both_found m m o o ∙ list-itself m l
+    go (Err r) o = first-refused m m o

@@ -1,6 +1,9 @@
 -- The entries of one kind in the list of differences, number by number: one entry for a record of which the two modules do not show the
 -- same; and for patterns with the same sizes, the entries of their cells.
 use Prim.Native.Nat.{ℕ, ◌+◌, ◌-◌, ◌≤◌, ◌<◌, max}
+use Rattle.std.specs.Prelude.{Result, Ok, Err}
+use Rattle.refusal.specs.declared.Refusal.{Refusal}
+use Rattle.queries.specs.declared.Block.{Block}
 use mathlib.Core.Path.{◌≡◌, refl, sym, ap, subst, ◌∙◌}
 use mathlib.Core.Logic.{◌↔◌, ◌⊎◌, inl, inr}
 use mathlib.Core.List.{List, [], ◌∷◌}
@@ -16,15 +19,12 @@ use Rattle.differences.specs.Differences.{whole_difference, difference_if}
 use Rattle.differences.specs.declared.Difference.{Difference}
 use Rattle.packed_rows.specs.Comparing.{stream_differences}
 use Rattle.layout.specs.declared.Layout.{Layout}
-use Rattle.layout.specs.declared.Outline.TheVariants.{Found as Opened}
 use Rattle.blocks.specs.StoredFields.{pattern_rows, packed_bytes}
 use Rattle.blocks.specs.RecordKinds.{count_of}
 use Rattle.blocks.specs.declared.RecordKind.{RecordKind}
 use Rattle.blocks.specs.declared.RecordKind.TheVariants.{Song, Instrument, Pattern, Sample, VolumeEnvelope, PanningEnvelope}
 use Rattle.module.specs.Verdicts.{opened}
 use Rattle.queries.specs.Finding.{first_of, there, block_of, found_in, found_if, found}
-use Rattle.queries.specs.declared.Found.{Found}
-use Rattle.queries.specs.declared.Found.TheVariants.{At, Refused}
 use Rattle.queries.proofs.Numbering.{found-there}
 use Rattle.acceptance.proofs.Holding.{and-says, false-never}
 use Rattle.compare.specs.Compared.{kind_of, block_differences, numbered_differences, kind_differences}
@@ -32,15 +32,15 @@ use Rattle.compare_theorems.proofs.InList.{in_one, in-joined}
 use Rattle.compare_theorems.proofs.SameShown.{Same, same_test, first-only, second-only, both-lack, both-compared}
 
 -- What is found for a number in the two modules: a block in both, in one of them or in none.
-pub data WhichHave (m k : List ℕ) (l j : Layout) (kind : RecordKind) (number : ℕ) : Found → Found → Type 0 where
+pub data WhichHave (m k : List ℕ) (l j : Layout) (kind : RecordKind) (number : ℕ) : Result Block Refusal → Result Block Refusal → Type 0 where
   both : there m l kind number ≡ true → there k j kind number ≡ true
-      → WhichHave m k l j kind number (At (block_of m l kind number)) (At (block_of k j kind number))
+      → WhichHave m k l j kind number (Ok (block_of m l kind number)) (Ok (block_of k j kind number))
   first : there m l kind number ≡ true → there k j kind number ≡ false
-      → WhichHave m k l j kind number (At (block_of m l kind number)) (Refused (refusal NotThere 0))
+      → WhichHave m k l j kind number (Ok (block_of m l kind number)) (Err (refusal NotThere 0))
   second : there m l kind number ≡ false → there k j kind number ≡ true
-      → WhichHave m k l j kind number (Refused (refusal NotThere 0)) (At (block_of k j kind number))
+      → WhichHave m k l j kind number (Err (refusal NotThere 0)) (Ok (block_of k j kind number))
   neither : there m l kind number ≡ false → there k j kind number ≡ false
-      → WhichHave m k l j kind number (Refused (refusal NotThere 0)) (Refused (refusal NotThere 0))
+      → WhichHave m k l j kind number (Err (refusal NotThere 0)) (Err (refusal NotThere 0))
 
 -- The entries for two blocks of which the same is shown: those of the cells of two patterns; none for the other kinds.
 abbrev pub cell_entries : List ℕ → Layout → List ℕ → Layout → RecordKind → ℕ → ℕ → ℕ → List Difference
@@ -87,16 +87,16 @@ there-says m l kind number =
           tests.1 (le-leb (first_of kind) number least, lt-ltb (number - first_of kind) (count_of m l kind) (omega (arith, least, most))),
     )
 
-module _ (m k : List ℕ) (l j : Layout) (o : opened m ≡ Opened l) (p : opened k ≡ Opened j) (kind : RecordKind) where
+module _ (m k : List ℕ) (l j : Layout) (o : opened m ≡ Ok l) (p : opened k ≡ Ok j) (kind : RecordKind) where
   pub which-have : (number : ℕ) → WhichHave m k l j kind number (found m kind number) (found k kind number)
   which-have number =
-      subst (λ (f : Found). WhichHave m k l j kind number f (found k kind number)) (sym (ap (found_if m kind number) o))
-      (subst (λ (g : Found). WhichHave m k l j kind number (found_in m l kind number) g) (sym (ap (found_if k kind number) p))
+      subst (λ (f : Result Block Refusal). WhichHave m k l j kind number f (found k kind number)) (sym (ap (found_if m kind number) o))
+      (subst (λ (g : Result Block Refusal). WhichHave m k l j kind number (found_in m l kind number) g) (sym (ap (found_if k kind number) p))
       (go (there m l kind number) (there k j kind number) refl refl))
     where
       go : (t u : Bool) → there m l kind number ≡ t → there k j kind number ≡ u
-          → WhichHave m k l j kind number (cond t (At (block_of m l kind number)) (Refused (refusal NotThere 0)))
-          (cond u (At (block_of k j kind number)) (Refused (refusal NotThere 0)))
+          → WhichHave m k l j kind number (cond t (Ok (block_of m l kind number)) (Err (refusal NotThere 0)))
+          (cond u (Ok (block_of k j kind number)) (Err (refusal NotThere 0)))
       go true true t u = both t u
       go true false t u = first t u
       go false true t u = second t u
@@ -105,11 +105,11 @@ module _ (m k : List ℕ) (l j : Layout) (o : opened m ≡ Opened l) (p : opened
 -- What is in the list for a kind.
 pub data KindDiffers (m k : List ℕ) (l j : Layout) (kind : RecordKind) (d : Difference) : Type 0 where
   whole : (number : ℕ) → (Same m k kind number → ⊥) → d ≡ whole_difference (kind_of kind) number → KindDiffers m k l j kind d
-  cells : (number : ℕ) → found m kind number ≡ At (block_of m l kind number) → found k kind number ≡ At (block_of k j kind number) → Same m k kind number
+  cells : (number : ℕ) → found m kind number ≡ Ok (block_of m l kind number) → found k kind number ≡ Ok (block_of k j kind number) → Same m k kind number
       → Within (cell_entries m l k j kind number (block_of m l kind number).at (block_of k j kind number).at) d
       → KindDiffers m k l j kind d
 
-module _ (m k : List ℕ) (bytes : Bytes m) (others : Bytes k) (l j : Layout) (o : opened m ≡ Opened l) (p : opened k ≡ Opened j) (kind : RecordKind) where
+module _ (m k : List ℕ) (bytes : Bytes m) (others : Bytes k) (l j : Layout) (o : opened m ≡ Ok l) (p : opened k ≡ Ok j) (kind : RecordKind) where
   abbrev at : ℕ → ℕ
   at number = (block_of m l kind number).at
 
@@ -117,7 +117,7 @@ module _ (m k : List ℕ) (bytes : Bytes m) (others : Bytes k) (l j : Layout) (o
   to number = (block_of k j kind number).at
 
   -- Records that both modules have.
-  module _ (number : ℕ) (e : found m kind number ≡ At (block_of m l kind number)) (f : found k kind number ≡ At (block_of k j kind number)) where
+  module _ (number : ℕ) (e : found m kind number ≡ Ok (block_of m l kind number)) (f : found k kind number ≡ Ok (block_of k j kind number)) where
     compared : (same_test m l k j kind (at number) (to number) ≡ true) ↔ Same m k kind number
     compared = rw (e, f) (both-compared m k bytes others l j o p kind number e f)
 
@@ -164,7 +164,7 @@ module _ (m k : List ℕ) (bytes : Bytes m) (others : Bytes k) (l j : Layout) (o
       → Within (numbered_differences m l k j kind number) d → KindDiffers m k l j kind d
   number-entry number d = go refl refl (which-have m k l j o p kind number)
     where
-      go : {f g : Found} → found m kind number ≡ f → found k kind number ≡ g → WhichHave m k l j kind number f g
+      go : {f g : Result Block Refusal} → found m kind number ≡ f → found k kind number ≡ g → WhichHave m k l j kind number f g
           → (there m l kind number ≡ true) ⊎ (there k j kind number ≡ true)
           → Within (numbered_differences m l k j kind number) d → KindDiffers m k l j kind d
       go e f (both t u) h w = block-entry number e f d (rw (t, u) at w)
@@ -188,14 +188,14 @@ module _ (m k : List ℕ) (bytes : Bytes m) (others : Bytes k) (l j : Layout) (o
   whole_in : (number : ℕ) → (Same m k kind number → ⊥) → Within (kind_differences m l k j kind) (whole_difference (kind_of kind) number)
   whole_in number = go refl refl (which-have m k l j o p kind number)
     where
-      go : {f g : Found} → found m kind number ≡ f → found k kind number ≡ g → WhichHave m k l j kind number f g → (Same m k kind number → ⊥)
+      go : {f g : Result Block Refusal} → found m kind number ≡ f → found k kind number ≡ g → WhichHave m k l j kind number f g → (Same m k kind number → ⊥)
           → Within (kind_differences m l k j kind) (whole_difference (kind_of kind) number)
       go e f (both t u) h = in-kind number _ (inl t) (rw (t, u) (block-whole number e f h))
       go e f (first t u) h = in-kind number _ (inl t) (rw (t, u) ((in_one _).1 refl))
       go e f (second t u) h = in-kind number _ (inr u) (rw t ((in_one _).1 refl))
       go e f (neither t u) h = absurd (h (rw (e, f) (both-lack m k kind)))
 
-  cells_in : (number : ℕ) (d : Difference) → found m kind number ≡ At (block_of m l kind number) → found k kind number ≡ At (block_of k j kind number)
+  cells_in : (number : ℕ) (d : Difference) → found m kind number ≡ Ok (block_of m l kind number) → found k kind number ≡ Ok (block_of k j kind number)
       → Same m k kind number → Within (cell_entries m l k j kind number (at number) (to number)) d
       → Within (kind_differences m l k j kind) d
   cells_in number d e f s w =
@@ -219,12 +219,12 @@ module _ (m k : List ℕ) (bytes : Bytes m) (others : Bytes k) (l j : Layout) (o
   pub same_or_not : (number : ℕ) → Same m k kind number ⊎ (Same m k kind number → ⊥)
   same_or_not number = go refl refl (which-have m k l j o p kind number)
     where
-      tested : found m kind number ≡ At (block_of m l kind number) → found k kind number ≡ At (block_of k j kind number)
+      tested : found m kind number ≡ Ok (block_of m l kind number) → found k kind number ≡ Ok (block_of k j kind number)
           → (t : Bool) → same_test m l k j kind (at number) (to number) ≡ t → Same m k kind number ⊎ (Same m k kind number → ⊥)
       tested e f true t = inl ((compared number e f).0 t)
       tested e f false t = inr (λ s. false-never (sym t ∙ (compared number e f).1 s))
 
-      go : {f g : Found} → found m kind number ≡ f → found k kind number ≡ g → WhichHave m k l j kind number f g
+      go : {f g : Result Block Refusal} → found m kind number ≡ f → found k kind number ≡ g → WhichHave m k l j kind number f g
           → Same m k kind number ⊎ (Same m k kind number → ⊥)
       go e f (both t u) = tested e f (same_test m l k j kind (at number) (to number)) refl
       go e f (first t u) = inr (λ s. first-only m k (block_of m l kind number) kind (rw (e, f) at s))

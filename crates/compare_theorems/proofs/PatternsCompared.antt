@@ -1,5 +1,6 @@
 -- The entries for the cells of two patterns with the same sizes: one for each field of which the query for all cells does not show the same.
 use Prim.Native.Nat.{ℕ, ◌+◌, ◌-◌, ◌*◌, ◌≤◌, ◌<◌}
+use Rattle.std.specs.Prelude.{Ok}
 use mathlib.Core.Path.{◌≡◌, refl, sym, ap, ◌∙◌}
 use mathlib.Core.Logic.{◌↔◌}
 use mathlib.Core.List.{List, [], ◌++◌, append-nil}
@@ -8,7 +9,6 @@ use native.Mathlib.Omega.{arith}
 use lib.ListN.{length, get_or, replicate, drop_of_length-le, length-replicate}
 use lib.Dec.{eqb}
 use Rattle.vocabulary.proofs.Splits.{Within}
-use Rattle.refusal.specs.declared.Verdict.TheVariants.{Accepted}
 use Rattle.cells.specs.Cells.{Row, empty_cell, cell_bytes}
 use Rattle.differences.specs.declared.Difference.{Difference}
 use Rattle.packed_rows.specs.Entries.{row_from}
@@ -84,7 +84,7 @@ module _ (pattern rows tracks : ℕ) (a b : List Row) (d : Difference) where
   )
 
 -- A field as the query for all cells writes it.
-module _ (stream : List ℕ) (rows tracks : ℕ) (accepted : check_answer stream rows tracks ≡ Accepted) where
+module _ (stream : List ℕ) (rows tracks : ℕ) (accepted : check_answer stream rows tracks ≡ Ok tt) where
   abbrev zeros : List ℕ
   zeros = replicate (cell_bytes rows tracks) 0
 

@@ -1,11 +1,11 @@
 -- Two patterns with the same sizes and the same fields have the same rows of cells, and the query for all cells writes the same for both.
 use Prim.Native.Nat.{ℕ, zero, suc, ◌+◌, ◌-◌, ◌≤◌, ◌<◌}
+use Rattle.std.specs.Prelude.{Ok}
 use mathlib.Core.Path.{◌≡◌, sym, ◌∙◌}
 use mathlib.Core.List.{List, []}
 use native.Mathlib.Omega.{arith}
 use lib.ListN.{get_or}
 use lib.Seq.{ext_get_or}
-use Rattle.refusal.specs.declared.Verdict.TheVariants.{Accepted}
 use Rattle.cells.specs.Cells.{Row, empty_cell}
 use Rattle.packed_rows.specs.Answers.{check_answer, unpack_output}
 use Rattle.packed_rows.specs.Steps.{rows_read}
@@ -49,13 +49,13 @@ module _ {rows tracks : ℕ} {a b : List Row} (s : Shaped rows tracks a) (t : Sh
       ext_get_or [] a b (here ∙ sym there) (λ row less. same_row row (omega (arith, less, here)))
 
 -- Two accepted streams.
-module _ (rows tracks : ℕ) (stream other : List ℕ) (accepted : check_answer stream rows tracks ≡ Accepted)
-    (other_accepted : check_answer other rows tracks ≡ Accepted)
+module _ (rows tracks : ℕ) (stream other : List ℕ) (accepted : check_answer stream rows tracks ≡ Ok tt)
+    (other_accepted : check_answer other rows tracks ≡ Ok tt)
     (same : SameFields rows tracks (rows_read stream rows tracks) (rows_read other rows tracks)) where
   same-rows : rows_read stream rows tracks ≡ rows_read other rows tracks
   same-rows = same-pattern (shaped stream accepted) (shaped other other_accepted) same
     where
-      shaped : (s : List ℕ) → check_answer s rows tracks ≡ Accepted → Shaped rows tracks (rows_read s rows tracks)
+      shaped : (s : List ℕ) → check_answer s rows tracks ≡ Ok tt → Shaped rows tracks (rows_read s rows tracks)
       shaped s h = let a = holds s rows tracks h in rw a.read (accepted-shaped a)
 
   pub same-output : (out : List ℕ) → unpack_output stream rows tracks out ≡ unpack_output other rows tracks out

@@ -1,6 +1,7 @@
 -- What two modules show for a number, by what is found for it. If both have the record, what is compared of the two blocks is equal exactly
 -- if the same is shown; if one module has it, the answers differ; if none has it, they are the same refusal.
 use Prim.Native.Nat.{ℕ, ◌+◌, ◌*◌}
+use Rattle.std.specs.Prelude.{Result, Ok, Err}
 use mathlib.Core.Path.{◌≡◌, refl, sym, ap, subst, ◌∙◌}
 use mathlib.Core.Logic.Iff
 use mathlib.Core.Logic.{◌↔◌}
@@ -15,16 +16,12 @@ use Rattle.numbers.specs.Numbers.{Bytes, part_of}
 use Rattle.differences.specs.Differences.{equal_bytes}
 use Rattle.differences.proofs.EqualBytes.{equal-says, same-equal}
 use Rattle.layout.specs.declared.Layout.{Layout}
-use Rattle.layout.specs.declared.Outline.{Outline}
-use Rattle.layout.specs.declared.Outline.TheVariants.{Found as Opened}
 use Rattle.blocks.specs.StoredFields.{pattern_rows, sample_frames}
 use Rattle.blocks.specs.declared.RecordKind.{RecordKind}
 use Rattle.blocks.specs.declared.RecordKind.TheVariants.{Song, Instrument, Pattern, Sample, VolumeEnvelope, PanningEnvelope}
 use Rattle.module.specs.Verdicts.{opened}
 use Rattle.queries.specs.Finding.{block_of, found}
 use Rattle.queries.specs.declared.Block.{Block}
-use Rattle.queries.specs.declared.Found.{Found}
-use Rattle.queries.specs.declared.Found.TheVariants.{At, Refused}
 use Rattle.acceptance.proofs.Holding.{and-says, eqb-says}
 use Rattle.samples.specs.Shown.{bytes_per_frame, sample_if, frames_if}
 use Rattle.samples.specs.declared.SampleAnswer.{SampleAnswer}
@@ -44,7 +41,7 @@ use Rattle.compare_theorems.proofs.RecordsCompared.{song-exact, instrument-exact
 use Rattle.compare_theorems.proofs.EnvelopesCompared.{envelope-exact, values-small}
 
 -- The same is shown for what was found in the two modules: for a pattern its sizes, for any other kind everything.
-abbrev pub SameShown : List ℕ → List ℕ → RecordKind → Found → Found → Type 0
+abbrev pub SameShown : List ℕ → List ℕ → RecordKind → Result Block Refusal → Result Block Refusal → Type 0
 SameShown m k Song f g = (song_if m f ≡ song_if k g) × ((entry : ℕ) → entry_if m entry f ≡ entry_if k entry g)
 SameShown m k Instrument f g = instrument_if m f ≡ instrument_if k g
 SameShown m k Pattern f g = (rows_if m f ≡ rows_if k g) × ((rows_if m f).outcome.number ≡ 0 → (info_answer m).tracks ≡ (info_answer k).tracks)
@@ -75,7 +72,7 @@ module _ (m k : List ℕ) (b : Block) where
   abbrev none : Refusal
   none = refusal NotThere 0
 
-  pub first-only : (kind : RecordKind) → SameShown m k kind (At b) (Refused none) → ⊥
+  pub first-only : (kind : RecordKind) → SameShown m k kind (Ok b) (Err none) → ⊥
   first-only Song h = let z : ◌≡◌ {A = ℕ} 0 18 = ap (λ (a : SongAnswer). a.outcome.number) h.0 in absurd (omega arith)
   first-only Instrument h = let z : ◌≡◌ {A = ℕ} 0 18 = ap (λ (a : InstrumentAnswer). a.outcome.number) h in absurd (omega arith)
   first-only Pattern h = let z : ◌≡◌ {A = ℕ} 0 18 = ap (λ (a : RowsAnswer). a.outcome.number) h.0 in absurd (omega arith)
@@ -83,7 +80,7 @@ module _ (m k : List ℕ) (b : Block) where
   first-only VolumeEnvelope h = let z : ◌≡◌ {A = ℕ} 0 18 = ap (λ (a : EnvelopeAnswer). a.outcome.number) h in absurd (omega arith)
   first-only PanningEnvelope h = let z : ◌≡◌ {A = ℕ} 0 18 = ap (λ (a : EnvelopeAnswer). a.outcome.number) h in absurd (omega arith)
 
-  pub second-only : (kind : RecordKind) → SameShown m k kind (Refused none) (At b) → ⊥
+  pub second-only : (kind : RecordKind) → SameShown m k kind (Err none) (Ok b) → ⊥
   second-only Song h = let z : ◌≡◌ {A = ℕ} 18 0 = ap (λ (a : SongAnswer). a.outcome.number) h.0 in absurd (omega arith)
   second-only Instrument h = let z : ◌≡◌ {A = ℕ} 18 0 = ap (λ (a : InstrumentAnswer). a.outcome.number) h in absurd (omega arith)
   second-only Pattern h = let z : ◌≡◌ {A = ℕ} 18 0 = ap (λ (a : RowsAnswer). a.outcome.number) h.0 in absurd (omega arith)
@@ -92,7 +89,7 @@ module _ (m k : List ℕ) (b : Block) where
   second-only PanningEnvelope h = let z : ◌≡◌ {A = ℕ} 18 0 = ap (λ (a : EnvelopeAnswer). a.outcome.number) h in absurd (omega arith)
 
 -- A record that none of them has.
-pub both-lack : (m k : List ℕ) (kind : RecordKind) → SameShown m k kind (Refused (refusal NotThere 0)) (Refused (refusal NotThere 0))
+pub both-lack : (m k : List ℕ) (kind : RecordKind) → SameShown m k kind (Err (refusal NotThere 0)) (Err (refusal NotThere 0))
 both-lack m k Song = (refl, λ entry. refl)
 both-lack m k Instrument = refl
 both-lack m k Pattern = (refl, λ e. absurd (omega (arith, e)))
@@ -101,10 +98,10 @@ both-lack m k VolumeEnvelope = refl
 both-lack m k PanningEnvelope = refl
 
 -- INFO's tracks.
-pub tracks-here : (m : List ℕ) (l : Layout) → opened m ≡ Opened l → (info_answer m).tracks ≡ l.tracks
-tracks-here m l o = ap (λ (x : Outline). (info_if x).tracks) o
+pub tracks-here : (m : List ℕ) (l : Layout) → opened m ≡ Ok l → (info_answer m).tracks ≡ l.tracks
+tracks-here m l o = ap (λ (x : Result Layout Refusal). (info_if x).tracks) o
 
-module _ (m k : List ℕ) (l j : Layout) (o : opened m ≡ Opened l) (p : opened k ≡ Opened j) where
+module _ (m k : List ℕ) (l j : Layout) (o : opened m ≡ Ok l) (p : opened k ≡ Ok j) where
   pub tracks-shown : ((info_answer m).tracks ≡ (info_answer k).tracks) ↔ (l.tracks ≡ j.tracks)
   tracks-shown =
       let here = tracks-here m l o in
@@ -112,11 +109,11 @@ module _ (m k : List ℕ) (l j : Layout) (o : opened m ≡ Opened l) (p : opened
       (λ e. sym here ∙ e ∙ there, λ e. here ∙ e ∙ sym there)
 
 -- A record that both have.
-module _ (m k : List ℕ) (bytes : Bytes m) (others : Bytes k) (l j : Layout) (o : opened m ≡ Opened l) (p : opened k ≡ Opened j) where
-  pub both-compared : (kind : RecordKind) (number : ℕ) → found m kind number ≡ At (block_of m l kind number)
-      → found k kind number ≡ At (block_of k j kind number)
+module _ (m k : List ℕ) (bytes : Bytes m) (others : Bytes k) (l j : Layout) (o : opened m ≡ Ok l) (p : opened k ≡ Ok j) where
+  pub both-compared : (kind : RecordKind) (number : ℕ) → found m kind number ≡ Ok (block_of m l kind number)
+      → found k kind number ≡ Ok (block_of k j kind number)
       → (same_test m l k j kind (block_of m l kind number).at (block_of k j kind number).at ≡ true)
-      ↔ SameShown m k kind (At (block_of m l kind number)) (At (block_of k j kind number))
+      ↔ SameShown m k kind (Ok (block_of m l kind number)) (Ok (block_of k j kind number))
   unfolding record_at
   both-compared Song number e f = Iff.trans (equal-exact _ _) (song-exact m k bytes others (block_of m l Song number).at (block_of k j Song number).at)
   both-compared Instrument number e f =

@@ -1,5 +1,7 @@
 -- Two modules in the other order have the same differences.
 use Prim.Native.Nat.{ℕ, ◌-◌, max}
+use Rattle.std.specs.Prelude.{Result, Ok, Err}
+use Rattle.refusal.specs.declared.Refusal.{Refusal}
 use mathlib.Core.Path.{◌≡◌, refl, sym, ap, ◌∙◌}
 use mathlib.Core.List.{List, [], ◌∷◌, ◌++◌}
 use mathlib.Core.Bool.{Bool, true, false, cond, not, ◌&&◌}
@@ -17,8 +19,6 @@ use Rattle.packed_rows.specs.Entries.{rows_from}
 use Rattle.packed_rows.specs.Stream.{read_stream, entries_read}
 use Rattle.packed_rows.specs.Comparing.{field_difference, cell_differences, row_differences, pattern_differences, stream_differences}
 use Rattle.layout.specs.declared.Layout.{Layout}
-use Rattle.layout.specs.declared.Outline.{Outline}
-use Rattle.layout.specs.declared.Outline.TheVariants.{Found, Refused}
 use Rattle.blocks.specs.StoredFields.{pattern_rows, packed_bytes}
 use Rattle.blocks.specs.RecordKinds.{count_of}
 use Rattle.blocks.specs.declared.RecordKind.{RecordKind}
@@ -153,8 +153,8 @@ module _ (m : List ℕ) (l : Layout) (k : List ℕ) (j : Layout) where
 pub differences-swapped : (m k : List ℕ) → module_differences m k ≡ module_differences k m
 differences-swapped m k = go (opened m) (opened k) refl refl
   where
-    go : (o p : Outline) → opened m ≡ o → opened k ≡ p → module_differences m k ≡ module_differences k m
-    go (Found l) (Found j) o p = both_found m k o p ∙ list-swapped m l k j ∙ sym (both_found k m p o)
-    go (Found l) (Refused r) o p = second-refused m k p ∙ sym (first-refused k m p)
-    go (Refused r) (Found j) o p = first-refused m k o ∙ sym (second-refused k m o)
-    go (Refused r) (Refused s) o p = first-refused m k o ∙ sym (first-refused k m p)
+    go : (o p : Result Layout Refusal) → opened m ≡ o → opened k ≡ p → module_differences m k ≡ module_differences k m
+    go (Ok l) (Ok j) o p = both_found m k o p ∙ list-swapped m l k j ∙ sym (both_found k m p o)
+    go (Ok l) (Err r) o p = second-refused m k p ∙ sym (first-refused k m p)
+    go (Err r) (Ok j) o p = first-refused m k o ∙ sym (second-refused k m o)
+    go (Err r) (Err s) o p = first-refused m k o ∙ sym (first-refused k m p)

@@ -17,6 +17,7 @@
 -- The list is `module_differences`. The contract of the call cites `compare_answer` and `compare_output`: for accepted modules it answers the
 -- number of entries of this list and writes its bytes, or answers 17 (`list-answered`, `list_written`).
 use Prim.Native.Nat.{ℕ, ◌*◌}
+use Rattle.std.specs.Prelude.{Ok}
 use mathlib.Core.Path.{◌≡◌}
 use mathlib.Core.Logic.{◌↔◌}
 use mathlib.Core.List.{List, [], map}
@@ -24,7 +25,6 @@ use lib.ListN.{length}
 use Rattle.vocabulary.specs.Lists.{Every}
 use Rattle.vocabulary.proofs.Splits.{Within}
 use Rattle.refusal.specs.Lengths.{output_of}
-use Rattle.refusal.specs.declared.Verdict.TheVariants.{Accepted}
 use Rattle.numbers.specs.Numbers.{Bytes}
 use Rattle.differences.specs.Differences.{list_bytes}
 use Rattle.differences.specs.declared.Difference.{Difference}
@@ -47,7 +47,7 @@ use Rattle.compare_theorems.proofs.WorkedComparisons as WorkedComparisons
 use Rattle.compare_theorems.proofs.WorkedComparisons.{WorkedComparison, worked_comparisons}
 
 -- Theorem 21.
-module _ (m k : List ℕ) (bytes : Bytes m) (others : Bytes k) (accepted : module_verdict m ≡ Accepted) (too : module_verdict k ≡ Accepted) where
+module _ (m k : List ℕ) (bytes : Bytes m) (others : Bytes k) (accepted : module_verdict m ≡ Ok tt) (too : module_verdict k ≡ Ok tt) where
   pub differences-exact : (d : Difference) → Within (module_differences m k) d ↔ Differs m k d
   differences-exact = Exact.differences-exact m k bytes others accepted too
 
@@ -67,7 +67,7 @@ module _ (m k : List ℕ) where
 pub differences-itself : (m : List ℕ) → module_differences m m ≡ []
 differences-itself = Itself.differences-itself
 
-pub differences-repacked : (m : List ℕ) → Bytes m → module_verdict m ≡ Accepted → module_differences m (repacked m) ≡ []
+pub differences-repacked : (m : List ℕ) → Bytes m → module_verdict m ≡ Ok tt → module_differences m (repacked m) ≡ []
 differences-repacked = AfterRepacking.differences-repacked
 
 pub differences-replaced : (m : List ℕ) → Bytes m → (sample : ℕ) (new : List ℕ) → Bytes new → (room : ℕ)
@@ -76,7 +76,7 @@ pub differences-replaced : (m : List ℕ) → Bytes m → (sample : ℕ) (new : 
 differences-replaced = AfterReplacing.differences-replaced
 
 -- The call: what it answers and writes is this list.
-module _ (m k : List ℕ) (accepted : module_verdict m ≡ Accepted) (too : module_verdict k ≡ Accepted) where
+module _ (m k : List ℕ) (accepted : module_verdict m ≡ Ok tt) (too : module_verdict k ≡ Ok tt) where
   pub list-answered : (room : ℕ) → compare_answer m k room ≡ compared_if (module_differences m k) room
   list-answered = BothOpen.list-answered m k accepted too
 

@@ -1,5 +1,6 @@
 -- G1: every number of an entry fits 2 bytes, if the modules are lists of bytes.
 use Prim.Native.Nat.{ℕ, ◌+◌, ◌-◌, ◌≤◌, ◌<◌, max}
+use Rattle.std.specs.Prelude.{Ok}
 use mathlib.Core.Path.{◌≡◌, ap, ◌∙◌}
 use mathlib.Core.List.{List, [], ◌∷◌}
 use mathlib.Core.Bool.{Bool, true, false, cond, not, ◌&&◌}
@@ -17,7 +18,6 @@ use Rattle.packed_rows.specs.Stream.{read_stream, entries_read}
 use Rattle.packed_rows.specs.Comparing.{field_difference, cell_differences, row_differences, pattern_differences, stream_differences}
 use Rattle.layout.specs.declared.ChunkSpan.{ChunkSpan}
 use Rattle.layout.specs.declared.Layout.{Layout}
-use Rattle.layout.specs.declared.Outline.TheVariants.{Found}
 use Rattle.blocks.specs.Sizes.{envelope_count}
 use Rattle.blocks.specs.StoredFields.{pattern_rows, packed_bytes}
 use Rattle.blocks.specs.RecordKinds.{count_of}
@@ -43,7 +43,7 @@ record NumbersFit (m : List ℕ) (l : Layout) : Type 0 where
   pub numbers : (kind : RecordKind) → first_of kind + count_of m l kind ≤ 65536
   pub tracks : l.tracks ≤ 254
 
-module _ (m : List ℕ) (bytes : Bytes m) (l : Layout) (opens : opened m ≡ Found l) where
+module _ (m : List ℕ) (bytes : Bytes m) (l : Layout) (opens : opened m ≡ Ok l) where
   envelopes-below : (chunk : ChunkSpan) → envelope_count m chunk ≤ 65536
   envelopes-below chunk = go chunk.present
     where
@@ -57,7 +57,7 @@ module _ (m : List ℕ) (bytes : Bytes m) (l : Layout) (opens : opened m ≡ Fou
       go : (d : Description) → WellFormed d → encoded d ≡ m → NumbersFit m l
       go d w is =
           let (k, first, layout) = encoded-opens d w in
-          let second : opened (encoded d) ≡ Found l = ap opened is ∙ opens in
+          let second : opened (encoded d) ≡ Ok l = ap opened is ∙ opens in
           let one : k ≡ l = cc in
           let same = info-numbers d w layout w.info w.info_there in
           let fits = w.lists.info_fits in

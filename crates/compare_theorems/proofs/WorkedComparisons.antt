@@ -6,10 +6,11 @@ use mathlib.Core.Path.{◌≡◌, refl}
 use mathlib.Core.List.{List, [], ◌∷◌, ◌++◌, map}
 use lib.ListN.{length, replicate}
 use Rattle.vocabulary.specs.Lists.{joined}
+use Rattle.refusal.specs.Lengths.{value_numbers}
 use Rattle.vocabulary.specs.Letters.{name_letters, song_letters, inst_letters, patt_letters, smpl_letters, venv_letters, penv_letters}
 use Rattle.numbers.specs.Numbers.{byte_at, number16, number32, put_at}
 use Rattle.packed_rows.specs.Stream.{read_from, reading}
-use Rattle.packed_rows.specs.Comparing.{compare_streams_answer, compare_streams_output, comparison_numbers}
+use Rattle.packed_rows.specs.Comparing.{compare_streams_answer, compare_streams_output}
 use Rattle.layout.specs.Chunks.{chunks_from, chunks}
 use Rattle.blocks.specs.Sizes.{size_of}
 use Rattle.records.specs.Records.{record_at}
@@ -50,7 +51,7 @@ outputs m k room said = record { found = compare_output m k (replicate room 170)
 -- Two streams with these rows and 4 tracks, as pattern 5: the answer in numbers, and the output.
 streams : List ℕ → List ℕ → ℕ → ℕ → List ℕ → List ℕ → WorkedComparison
 streams a b rows room answer said = record {
-  found = comparison_numbers (compare_streams_answer a b rows 4 5) ++ compare_streams_output a b rows 4 5 (replicate room 170);
+  found = value_numbers (compare_streams_answer a b rows 4 5) ++ compare_streams_output a b rows 4 5 (replicate room 170);
   said = answer ++ said;
 }
 

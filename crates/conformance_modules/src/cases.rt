@@ -6,22 +6,14 @@ use crate::replaced::{Replacement, print_replaced_twice};
 use crate::shown::{Asked, print_records};
 use conformance_text::answers::{print_outcome, print_output};
 use conformance_text::heads::{eight_bytes, four_bytes};
-use conformance_text::text::{fill, within};
-use listing_text::Listing;
-use refusal::{LengthAnswer, outcome_of, refused, written};
-
-fn of_listing(l: Listing) -> LengthAnswer {
-    match l {
-        Listing::Written(n) => written(n),
-        Listing::Refused(r) => refused(r),
-    }
-}
+use conformance_text::text::fill;
+use refusal::{LengthAnswer, Outcome};
 
 fn print_module(m: &[u8], out: &mut [u8], line: &mut [u8]) {
     let verdict = module::check(m);
-    print_outcome(b"module", outcome_of(verdict), line);
+    print_outcome(b"module", Outcome::from(verdict), line);
     fill(out);
-    let a = of_listing(listing_text::lines(m, out));
+    let a = LengthAnswer::from(listing_text::lines(m, out));
     print_output(b"lines", a, out, line);
     print_repacked(m, out, line);
 }
@@ -40,7 +32,7 @@ fn print_records_into(m: &[u8], out: &mut [u8], line: &mut [u8]) {
 
 // Prints the answer of the call for all records, with the first n bytes of an output.
 fn print_all_records(m: &[u8], n: usize, out: &mut [u8], line: &mut [u8]) {
-    let room = within(n, out);
+    let room = n.min(out.len());
     print_records_into(m, &mut out[..room], line);
 }
 
@@ -65,9 +57,9 @@ fn module_case(s: &[u8], out: &mut [u8], line: &mut [u8]) -> usize
     }
     let end = 9 + length;
     let m = &s[9..end];
-    let room = within(four_bytes(s, 1), out);
+    let room = four_bytes(s, 1).min(out.len());
     print_module(m, &mut out[..room], line);
-    let whole = within(length, out);
+    let whole = length.min(out.len());
     print_repacked(m, &mut out[..whole], line);
     print_records_twice(m, room, out, line);
     end
@@ -100,7 +92,7 @@ fn records_case(s: &[u8], out: &mut [u8], line: &mut [u8]) -> usize
     }
     let end = 81 + length;
     let a = asked(s);
-    let room = within(four_bytes(s, 73), out);
+    let room = four_bytes(s, 73).min(out.len());
     print_records(&s[81..end], a, &mut out[..room], line);
     end
 }
@@ -145,7 +137,7 @@ fn comparison_case(s: &[u8], out: &mut [u8], line: &mut [u8]) -> usize
         return 0;
     }
     let end = start + second;
-    let room = within(four_bytes(s, 1), out);
+    let room = four_bytes(s, 1).min(out.len());
     print_compared_twice(&s[13..start], &s[start..end], &mut out[..room], line);
     end
 }
@@ -156,20 +148,13 @@ fn case(s: &[u8], out: &mut [u8], line: &mut [u8]) -> usize
     if s.len() == 0 {
         return 0;
     }
-    let kind = s[0];
-    if kind == 4 {
-        return module_case(s, out, line);
+    match s[0] {
+        4 => module_case(s, out, line),
+        5 => records_case(s, out, line),
+        6 => replacement_case(s, out, line),
+        7 => comparison_case(s, out, line),
+        _ => 0,
     }
-    if kind == 5 {
-        return records_case(s, out, line);
-    }
-    if kind == 6 {
-        return replacement_case(s, out, line);
-    }
-    if kind == 7 {
-        return comparison_case(s, out, line);
-    }
-    0
 }
 
 // Prints the answers for every case, and returns the number of cases.

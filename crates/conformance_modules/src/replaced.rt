@@ -1,6 +1,6 @@
 // Replacing a sample of a module: a line with the refusal's number and place, the length, the number of loops that were cleared, and the
 // output in hexadecimal.
-use conformance_text::text::{fill, print_bytes, within};
+use conformance_text::text::{fill, print_bytes};
 
 // The sample to replace, and the room of the case.
 #[derive(Clone, Copy)]
@@ -30,7 +30,7 @@ fn print_replaced_within(
     out: &mut [u8],
     line: &mut [u8],
 ) {
-    let room = within(n, out);
+    let room = n.min(out.len());
     print_replaced(m, sample, frames, &mut out[..room], line);
 }
 

@@ -1,10 +1,8 @@
 // The records of a module: a line for each query, with a word, the refusal's number and place, and the fields of the record. Names, parts
 // and outputs come last, in hexadecimal.
-use crate::signed::{put_all_signed, put_signed, put_words, wider};
+use crate::signed::{put_all_signed, put_signed, put_words};
 use conformance_text::answers::{print_cell_answer, print_output};
-use conformance_text::text::{
-    begin, fill, finish, finish_bytes, print_bytes, print_numbers, within,
-};
+use conformance_text::text::{begin, fill, finish, finish_bytes, print_bytes, print_numbers};
 use envelopes::{CountAnswer, EnvelopeAnswer, EnvelopeKind};
 
 // The indices of the queries.
@@ -97,9 +95,8 @@ fn print_instrument(m: &[u8], instrument: usize, line: &mut [u8]) {
         a.loop_length as usize,
         a.flags as usize,
     ];
-    let panning = wider(a.panning);
     let mut at = begin(line, b"instrument", &numbers);
-    at = put_signed(line, at, panning);
+    at = put_signed(line, at, a.panning as i32);
     finish_bytes(line, at, &name);
 }
 
@@ -199,7 +196,7 @@ fn print_sample(m: &[u8], sample: usize, line: &mut [u8]) {
 fn print_frames(m: &[u8], sample: usize, line: &mut [u8]) {
     let a = samples::frames_place(m, sample);
     let part = samples::frames(m, sample);
-    let n = within(65536, part);
+    let n = part.len().min(65536);
     let numbers = [
         a.outcome.number as usize,
         a.outcome.place,
@@ -211,13 +208,12 @@ fn print_frames(m: &[u8], sample: usize, line: &mut [u8]) {
 
 fn print_frame(m: &[u8], sample: usize, frame: usize, line: &mut [u8]) {
     let a = samples::frame(m, sample, frame);
-    let shown = wider(a.frame);
     let mut at = begin(
         line,
         b"frame",
         &[a.outcome.number as usize, a.outcome.place],
     );
-    at = put_signed(line, at, shown);
+    at = put_signed(line, at, a.frame as i32);
     finish(line, at);
 }
 

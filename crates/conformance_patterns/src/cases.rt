@@ -1,46 +1,32 @@
 // Running the cases, one after the other.
 ghost use Rattle.std.specs.Prelude.{◌≤◌, length};
 
+use cells::Cell;
 use conformance_text::answers::{cell_values, print_cell_answer, print_outcome, print_output};
 use conformance_text::heads::{eight_bytes, four_bytes};
-use conformance_text::text::{fill, print_numbers, within};
-use packed_rows::{Packing, Unpacking};
-use refusal::{LengthAnswer, outcome_of, refused, written};
-
-fn of_unpacking(u: Unpacking) -> LengthAnswer {
-    match u {
-        Unpacking::Unpacked(n) => written(n),
-        Unpacking::Refused(r) => refused(r),
-    }
-}
-
-fn of_packing(p: Packing) -> LengthAnswer {
-    match p {
-        Packing::Packed(n) => written(n),
-        Packing::Refused(r) => refused(r),
-    }
-}
+use conformance_text::text::{fill, print_numbers};
+use refusal::{LengthAnswer, Outcome};
 
 fn print_check(stream: &[u8], rows: usize, tracks: usize, line: &mut [u8]) {
     let verdict = packed_rows::check(stream, rows, tracks);
-    print_outcome(b"check", outcome_of(verdict), line);
+    print_outcome(b"check", Outcome::from(verdict), line);
 }
 
 fn print_unpack(stream: &[u8], rows: usize, tracks: usize, out: &mut [u8], line: &mut [u8]) {
     fill(out);
-    let a = of_unpacking(packed_rows::unpack(stream, rows, tracks, out));
+    let a = LengthAnswer::from(packed_rows::unpack(stream, rows, tracks, out));
     print_output(b"unpack", a, out, line);
 }
 
 fn print_repack(stream: &[u8], rows: usize, tracks: usize, out: &mut [u8], line: &mut [u8]) {
     fill(out);
-    let a = of_packing(packed_rows::repack(stream, rows, tracks, out));
+    let a = LengthAnswer::from(packed_rows::repack(stream, rows, tracks, out));
     print_output(b"repack", a, out, line);
 }
 
 fn print_pack(cells: &[u8], rows: usize, tracks: usize, out: &mut [u8], line: &mut [u8]) {
     fill(out);
-    let a = of_packing(packed_rows::pack(cells, rows, tracks, out));
+    let a = LengthAnswer::from(packed_rows::pack(cells, rows, tracks, out));
     print_output(b"pack", a, out, line);
 }
 
@@ -71,7 +57,7 @@ fn print_stream(
 }
 
 fn print_shown(cell: [u8; 6], line: &mut [u8]) {
-    print_numbers(b"shown", &cell_values(cells::shown(cell)), line);
+    print_numbers(b"shown", &cell_values(Cell::from(cell)), line);
 }
 
 // Each function below takes the input from the first byte of a case on, and returns the length of the case, or 0 if there is no complete
@@ -93,7 +79,7 @@ fn stream_case(s: &[u8], out: &mut [u8], line: &mut [u8]) -> usize
     let tracks = eight_bytes(s, 9);
     let row = eight_bytes(s, 17);
     let track = eight_bytes(s, 25);
-    let room = within(four_bytes(s, 33), out);
+    let room = four_bytes(s, 33).min(out.len());
     print_stream(stream, rows, tracks, row, track, &mut out[..room], line);
     end
 }
@@ -111,7 +97,7 @@ fn cells_case(s: &[u8], out: &mut [u8], line: &mut [u8]) -> usize
     let end = 25 + length;
     let rows = eight_bytes(s, 1);
     let tracks = eight_bytes(s, 9);
-    let room = within(four_bytes(s, 17), out);
+    let room = four_bytes(s, 17).min(out.len());
     print_pack(&s[25..end], rows, tracks, &mut out[..room], line);
     end
 }
@@ -132,17 +118,12 @@ fn case(s: &[u8], out: &mut [u8], line: &mut [u8]) -> usize
     if s.len() == 0 {
         return 0;
     }
-    let kind = s[0];
-    if kind == 1 {
-        return stream_case(s, out, line);
+    match s[0] {
+        1 => stream_case(s, out, line),
+        2 => cells_case(s, out, line),
+        3 => shown_case(s, line),
+        _ => 0,
     }
-    if kind == 2 {
-        return cells_case(s, out, line);
-    }
-    if kind == 3 {
-        return shown_case(s, line);
-    }
-    0
 }
 
 // Prints the answers for every case, and returns the number of cases.

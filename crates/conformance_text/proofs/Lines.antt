@@ -7,8 +7,11 @@ use mathlib.Core.Path.{◌≡◌, refl, sym, ap, ◌∙◌, subst}
 use mathlib.Core.Bool.{Bool, true, false}
 use mathlib.Core.List.{List, [], ◌∷◌, ◌++◌, map}
 use lib.Dec.{leb}
-use lib.ListN.{length, get_or, set, drop, length-append, drop_of_length-le}
-use lib.Seq.{sets, length-sets, set_out, drop-cons}
+use lib.ListN.{length, get_or, set, take, drop, length-append, take-append-drop, drop_of_length-le}
+use lib.Seq.{sets, length-sets, set_out, drop-cons, length-take-le, take_all}
+use borrow.Rule.Slice.PartMut.{put_mid}
+use Rattle.std.proofs.lemmas.Slice.{put_mid-paste}
+use Rattle.std.proofs.lemmas.List.Edits.{sets-eq}
 use borrow.Author.Tests.{leb-true, leb-false}
 use Rattle.vocabulary.specs.Lists.{joined}
 use Rattle.conformance_text.specs.Text.{line_end, HasPut}
@@ -36,26 +39,28 @@ clamped text line at =
         let h : length line < at = leb-false _ _ e in
         past_end text line (min at (length line)) (omega arith) ∙ sym (past_end text line at (omega arith))
 
--- The loop that writes a text: `i` bytes are written from `start` on, which is the place or the line's end.
-module _ (line₀ : List ℕ) (at : ℕ) (text : List ℕ) (start : ℕ) where
-  pub put_first : start ≡ min at (length line₀) → sets line₀ (start + 0) (drop 0 text) ≡ sets line₀ at text
-  put_first e = rw (e, add-zero (min at (length line₀))) (clamped text line₀ at)
-
-  module _ (line : List ℕ) (i : ℕ) (done : sets line (start + i) (drop i text) ≡ sets line₀ at text) where
-    pub put-turn : i < length text → sets (set line (start + i) (get_or text i 0)) (start + (i + 1)) (drop (i + 1) text) ≡ sets line₀ at text
-    put-turn h =
-        let place : start + (i + 1) ≡ suc (start + i) = omega arith in
-        rw (place, add-one i) (ap (λ (l : List ℕ). sets line (start + i) l) (sym (drop-cons text i 0 h)) ∙ done)
-
-    pub put_last : i ≡ min (length line - start) (length text) → start ≤ length line → line ≡ sets line₀ at text
-    put_last all h =
-        go (leb (length text) i) refl
-      where
-        go : (b : Bool) → leb (length text) i ≡ b → line ≡ sets line₀ at text
-        go true e = ap (λ (l : List ℕ). sets line (start + i) l) (sym (drop_of_length-le text (leb-true _ _ e))) ∙ done
-        go false e =
-            let less : i < length text = leb-false _ _ e in
-            sym (past_end (drop i text) line (start + i) (omega arith)) ∙ done
+-- A text that is copied to a line as far as there is room: `n` bytes of it, from `start` on, which is the place or the line's end.
+pub copied : (line : List ℕ) (at : ℕ) (text : List ℕ) (start n k : ℕ) (part : List ℕ) → start ≡ min at (length line)
+    → n ≡ min (length text) (length line - start)
+    → n ≡ k
+    → part ≡ take n text
+    → put_mid start k line part ≡ sets line at text
+copied line at text start n k part s m same front =
+    let long : length (take n text) ≡ n = length-take-le n text (omega arith) in
+    let held : List ℕ = sets line start (take n text) in
+    put_mid-paste start k line part (take n text) n front same (sym long)
+    ∙ rw (take_all n (take n text) (omega arith)) (ap (λ (e : ℕ). take start line ++ take n text ++ drop (start + e) line) (sym long))
+    ∙ sym (sets-eq (take n text) line start (omega arith))
+    ∙ rest (leb (length text) n) refl held (start + length (take n text)) (omega (arith, length-sets line start (take n text), long))
+    ∙ sym (sets-append (take n text) (drop n text) line start)
+    ∙ ap (sets line start) (take-append-drop n text)
+    ∙ ap (λ (i : ℕ). sets line i text) s
+    ∙ clamped text line at
+  where
+    -- Either nothing is left of the text, or the line is full.
+    rest : (b : Bool) → leb (length text) n ≡ b → (l : List ℕ) (i : ℕ) → (n < length text → length l ≤ i) → l ≡ sets l i (drop n text)
+    rest true e l i full = ap (sets l i) (sym (drop_of_length-le text (leb-true _ _ e)))
+    rest false e l i full = sym (past_end (drop n text) l i (full (leb-false _ _ e)))
 
 -- Of `text`, which is written at `at`, everything but `rest` is written, and `next` is the place after it.
 pub record Going (line₀ : List ℕ) (at : ℕ) (text line : List ℕ) (next : ℕ) (rest : List ℕ) : Type 0 where
@@ -99,9 +104,6 @@ module _ (line₀ : List ℕ) (at : ℕ) (text : List ℕ) where
           same = step.same ∙ g.same;
         }
 
-    pub going-last : Going line₀ at text line next [] → HasPut line₀ at text line next
-    going-last g = (omega (arith, g.room, g.inside, g.place), g.same)
-
 -- The texts of the elements from a place on.
 abbrev pub texts : (ℕ → List ℕ) → List ℕ → ℕ → List ℕ
 texts f xs i = joined (map f (drop i xs))
@@ -113,8 +115,3 @@ module _ (line₀ : List ℕ) (at : ℕ) (text : List ℕ) (f : ℕ → List ℕ
   going-turn h g put =
       let parts : texts f xs i ≡ f (get_or xs i 0) ++ texts f xs (i + 1) = rw (drop-cons xs i 0 h, add-one i) in
       going_more line₀ at text (f (get_or xs i 0)) (texts f xs (i + 1)) (subst (Going line₀ at text line next) parts g) put
-
-  pub going_end : length xs ≤ i → Going line₀ at text line next (texts f xs i) → HasPut line₀ at text line next
-  going_end h g =
-      let none : texts f xs i ≡ [] = rw (drop_of_length-le xs h) in
-      going-last line₀ at text (subst (Going line₀ at text line next) none g)

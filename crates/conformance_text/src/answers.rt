@@ -8,9 +8,8 @@ ghost use Rattle.conformance_text.specs.Text.{numbers_line, bytes_line};
 ghost use Rattle.conformance_text.specs.Answers.{cell_line};
 
 use crate::text::{print_bytes, print_numbers};
-use cells::{Cell, note_numbers};
-use packed_rows::CellAnswer;
-use refusal::{LengthAnswer, Outcome};
+use cells::{Cell, NoteNumbers};
+use refusal::{LengthAnswer, Outcome, Refusal};
 
 // Prints the line of a check.
 pub fn print_outcome(word: &[u8], outcome: Outcome, line: &mut [u8])
@@ -33,7 +32,7 @@ pub fn cell_values(c: Cell) -> [usize; 9]
     ensures { result ≡ cell_values c }
 {
     let note = c.note;
-    let n = note_numbers(note);
+    let n = NoteNumbers::from(note);
     [
         n.kind as usize,
         n.octave as usize,
@@ -48,16 +47,16 @@ pub fn cell_values(c: Cell) -> [usize; 9]
 }
 
 // Prints the line for the answer to a query for a cell.
-pub fn print_cell_answer(answer: CellAnswer, line: &mut [u8])
+pub fn print_cell_answer(answer: Result<Cell, Refusal>, line: &mut [u8])
     ensures { line.new ≡ sets line.old 0 (cell_line answer) }
 {
     match answer {
-        CellAnswer::Found(c) => {
+        Ok(c) => {
             let v = cell_values(c);
             let numbers = [0, 0, v[0], v[1], v[2], v[3], v[4], v[5], v[6], v[7], v[8]];
             print_numbers(b"cell", &numbers, line);
         }
-        CellAnswer::Refused(r) => {
+        Err(r) => {
             let numbers = [r.number as usize, r.place, 0, 0, 0, 0, 0, 0, 0, 0, 0];
             print_numbers(b"cell", &numbers, line);
         }

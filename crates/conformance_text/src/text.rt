@@ -1,39 +1,23 @@
 // Lines of text. A line is lent whole, with the place to write at; what does not fit is dropped.
-ghost use Rattle.std.specs.Prelude.{◌≡◌, ◌++◌, ◌≤◌, min, length, replicate};
+ghost use Rattle.std.specs.Prelude.{◌≡◌, ◌++◌, ◌≤◌, length, replicate};
 ghost use Rattle.std.proofs.lemmas.List.Edits.{sets};
-ghost use Rattle.io.specs.Counts.{IsPrefixLen};
 ghost use Rattle.io.specs.Digits.{last_digits};
 ghost use Rattle.conformance_text.specs.Text.{HasPut, decimal64, numbers_text, hex_text, newline, bytes_end, numbers_line, bytes_line};
-
-// The length of the part of `xs` with `n` bytes: `n`, or the length of `xs` if that is less.
-pub fn within(n: usize, xs: &[u8]) -> usize
-    ensures { (result ≡ min n (length xs.now)) × IsPrefixLen result xs.now }
-{
-    if n < xs.len() { n } else { xs.len() }
-}
 
 // Sets every byte to 170.
 pub fn fill(out: &mut [u8])
     ensures { out.new ≡ replicate (length out.old) 170 }
 {
-    let mut i = 0;
-    while i < out.len() {
-        out[i] = 0xaa;
-        i += 1;
-    }
+    out.fill(0xaa);
 }
 
 // Writes bytes to a line, and returns the place after them.
 fn put(line: &mut [u8], at: usize, text: &[u8]) -> usize
     ensures { HasPut line.old at text.now line.new result }
 {
-    let start = within(at, line);
-    let n = within(line.len() - start, text);
-    let mut i = 0;
-    while i < n {
-        line[start + i] = text[i];
-        i += 1;
-    }
+    let start = at.min(line.len());
+    let n = text.len().min(line.len() - start);
+    line[start..start + n].copy_from_slice(&text[..n]);
     start + n
 }
 
@@ -53,10 +37,8 @@ fn put_numbers(line: &mut [u8], at: usize, numbers: &[usize]) -> usize
     ensures { HasPut line.old at (numbers_text numbers.now) line.new result }
 {
     let mut next = at;
-    let mut i = 0;
-    while i < numbers.len() {
-        next = put_number(line, next, b" ", numbers[i]);
-        i += 1;
+    for &number in numbers {
+        next = put_number(line, next, b" ", number);
     }
     next
 }
@@ -76,10 +58,8 @@ fn put_hex(line: &mut [u8], at: usize, bytes: &[u8]) -> usize
     ensures { HasPut line.old at (hex_text bytes.now) line.new result }
 {
     let mut next = at;
-    let mut i = 0;
-    while i < bytes.len() {
-        next = put_byte(line, next, bytes[i]);
-        i += 1;
+    for &x in bytes {
+        next = put_byte(line, next, x);
     }
     next
 }
@@ -97,8 +77,7 @@ pub fn finish(line: &mut [u8], at: usize)
     ensures { line.new ≡ sets line.old at newline }
 {
     let end = put(line, at, b"\n");
-    let n = within(end, line);
-    io::write_all(1, &line[..n]);
+    io::write_all(1, &line[..end]);
 }
 
 // Ends a line with bytes in hexadecimal, and prints it.

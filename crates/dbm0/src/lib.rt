@@ -6,7 +6,6 @@
 ghost use Rattle.std.specs.Prelude.{◌≡◌, length};
 ghost use Rattle.refusal.specs.Numbers.{outcome_numbers, verdict_numbers};
 ghost use Rattle.packed_rows.specs.Answers.{cell_numbers};
-ghost use Rattle.packed_rows.specs.declared.CellAnswer.TheVariants.{Found, Refused as CellRefused};
 ghost use Rattle.module.specs.Verdicts.{module_verdict};
 ghost use Rattle.repack.specs.Repacked.{repack_answer, repack_output};
 ghost use Rattle.replace.specs.Replaced.{replace_answer, replace_output};
@@ -21,13 +20,12 @@ ghost use Rattle.records.specs.Records.{all_answer, all_output};
 ghost use Rattle.compare.specs.Compared.{compare_answer, compare_output};
 ghost use Rattle.dbm0.specs.Answers.{fields_of_cell};
 
-use cells::{Cell, note_numbers};
+use cells::{Cell, NoteNumbers};
 use compare::CompareAnswer;
 use envelopes::{CountAnswer, EnvelopeAnswer, EnvelopeKind};
 use instruments::InstrumentAnswer;
-use packed_rows::CellAnswer;
 use patterns::RowsAnswer;
-use refusal::{LengthAnswer, Outcome, Refusal, Verdict, outcome_of};
+use refusal::{LengthAnswer, Outcome, Refusal};
 use replace::ReplaceAnswer;
 use samples::{FrameAnswer, FramesAnswer, SampleAnswer};
 use songs::{EntryAnswer, SongAnswer};
@@ -54,7 +52,7 @@ pub struct PatternCell {
 pub extern "C" fn dbm0_check_module(m: &[u8]) -> Outcome
     ensures { outcome_numbers result ≡ verdict_numbers (module_verdict m.now) }
 {
-    outcome_of(module::check(m))
+    Outcome::from(module::check(m))
 }
 
 // Version and revision.
@@ -155,10 +153,10 @@ pub extern "C" fn dbm0_rows(m: &[u8], pattern: usize) -> RowsAnswer
 }
 
 fn no_cell(r: Refusal) -> PatternCell
-    ensures { fields_of_cell result ≡ cell_numbers (CellRefused r) }
+    ensures { fields_of_cell result ≡ cell_numbers (Err r) }
 {
     PatternCell {
-        outcome: outcome_of(Verdict::Refused(r)),
+        outcome: Outcome::from(Err(r)),
         kind: 0,
         octave: 0,
         semitone: 0,
@@ -172,12 +170,12 @@ fn no_cell(r: Refusal) -> PatternCell
 }
 
 fn shown_cell(c: Cell) -> PatternCell
-    ensures { fields_of_cell result ≡ cell_numbers (Found c) }
+    ensures { fields_of_cell result ≡ cell_numbers (Ok c) }
 {
     let stored = c.note;
-    let note = note_numbers(stored);
+    let note = NoteNumbers::from(stored);
     PatternCell {
-        outcome: outcome_of(Verdict::Accepted),
+        outcome: Outcome::from(Ok(())),
         kind: note.kind,
         octave: note.octave,
         semitone: note.semitone,
@@ -196,8 +194,8 @@ pub extern "C" fn dbm0_cell(m: &[u8], pattern: usize, row: usize, track: usize) 
     ensures { fields_of_cell result ≡ cell_numbers (cell_answer m.now pattern row track) }
 {
     match patterns::cell(m, pattern, row, track) {
-        CellAnswer::Found(c) => shown_cell(c),
-        CellAnswer::Refused(r) => no_cell(r),
+        Ok(c) => shown_cell(c),
+        Err(r) => no_cell(r),
     }
 }
 

@@ -8,7 +8,8 @@ ghost use Rattle.differences.specs.Differences.{difference_bytes, whole_differen
 
 use numbers::put16;
 
-// An entry of the list of differences. Row, track and field are 0 except for a field of a cell.
+// An entry of the list of differences. Row, track and field are 0 except for a field of a cell. The kind is a number, because the
+// entry is promised for every kind that fits its 2 bytes.
 #[derive(Clone, Copy)]
 pub struct Difference {
     pub kind: u16,
@@ -65,10 +66,8 @@ fn equal_all(a: &[u8], b: &[u8]) -> bool
     ensures { result ≡ equal_bytes a.now b.now }
 {
     let mut same = true;
-    let mut i: usize = 0;
-    while i < a.len() {
-        same = same & (a[i] == b[i]);
-        i = i + 1;
+    for i in 0..a.len() {
+        same &= a[i] == b[i];
     }
     same
 }

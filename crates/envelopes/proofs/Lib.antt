@@ -1,2 +1,3 @@
+mod AllPoints
 pub mod Scaling
 mod Records

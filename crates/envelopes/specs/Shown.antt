@@ -1,11 +1,11 @@
 -- FORMAT.md, B6, Q3 and Q9 (document 01, "Layout"): envelopes as they are shown. Each answer begins with the refusal's number and place, 0
 -- and 0 if there is none; on a refusal all other fields are 0.
-use Rattle.std.specs.Prelude.{ℕ, ◌*◌, List, cond, replicate, eqb, leb, ℤ, pos, ◌-ℤ◌}
+use Rattle.std.specs.Prelude.{ℕ, ◌*◌, List, cond, replicate, eqb, leb, ℤ, pos, ◌-ℤ◌, Result, Ok, Err}
+use Rattle.layout.specs.declared.Layout.{Layout}
+use Rattle.queries.specs.declared.Block.{Block}
 use Rattle.refusal.specs.Numbers.{no_refusal, refused_outcome}
 use Rattle.refusal.specs.declared.Refusal.{Refusal}
 use Rattle.numbers.specs.Numbers.{signed16, each_from}
-use Rattle.layout.specs.declared.Outline.{Outline}
-use Rattle.layout.specs.declared.Outline.TheVariants.{Found as Opened, Refused as OpeningRefused}
 use Rattle.blocks.specs.StoredFields.{envelope_instrument, envelope_flags, envelope_sections}
 use Rattle.blocks.specs.StoredFields.{envelope_first_sustain, envelope_loop_first, envelope_loop_last, envelope_second_sustain}
 use Rattle.blocks.specs.StoredFields.{envelope_position, envelope_value}
@@ -15,8 +15,6 @@ use Rattle.blocks.specs.declared.RecordKind.{RecordKind}
 use Rattle.blocks.specs.declared.RecordKind.TheVariants.{VolumeEnvelope, PanningEnvelope}
 use Rattle.module.specs.Verdicts.{opened}
 use Rattle.queries.specs.Finding.{found}
-use Rattle.queries.specs.declared.Found.{Found}
-use Rattle.queries.specs.declared.Found.TheVariants.{At, Refused}
 use Rattle.envelopes.specs.declared.EnvelopeKind.{EnvelopeKind}
 use Rattle.envelopes.specs.declared.EnvelopeKind.TheVariants.{Volume, Panning}
 use Rattle.envelopes.specs.declared.CountAnswer.{CountAnswer}
@@ -30,9 +28,9 @@ record_kind Panning = PanningEnvelope
 abbrev pub no_count : Refusal → CountAnswer
 no_count r = record { outcome = refused_outcome r; count = 0 }
 
-abbrev pub count_if : List ℕ → EnvelopeKind → Outline → CountAnswer
-count_if m kind (Opened l) = record { outcome = no_refusal; count = envelope_count m (chunk_of l (record_kind kind)) }
-count_if m kind (OpeningRefused r) = no_count r
+abbrev pub count_if : List ℕ → EnvelopeKind → Result Layout Refusal → CountAnswer
+count_if m kind (Ok l) = record { outcome = no_refusal; count = envelope_count m (chunk_of l (record_kind kind)) }
+count_if m kind (Err r) = no_count r
 
 -- Q9: the number of envelopes: the count of their chunk, 0 if it is missing.
 abbrev pub count_answer : List ℕ → EnvelopeKind → CountAnswer
@@ -79,9 +77,9 @@ shown_envelope m kind version at = record {
   values = each_from (value_shown m kind version at (envelope_sections m at)) 0 32;
 }
 
-abbrev pub envelope_if : List ℕ → EnvelopeKind → Found → EnvelopeAnswer
-envelope_if m kind (At b) = shown_envelope m kind b.version b.at
-envelope_if m kind (Refused r) = no_envelope r
+abbrev pub envelope_if : List ℕ → EnvelopeKind → Result Block Refusal → EnvelopeAnswer
+envelope_if m kind (Ok b) = shown_envelope m kind b.version b.at
+envelope_if m kind (Err r) = no_envelope r
 
 -- Q1: the module's own refusal, then 18, else the envelope.
 abbrev pub envelope_answer : List ℕ → EnvelopeKind → ℕ → EnvelopeAnswer

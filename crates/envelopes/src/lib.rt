@@ -2,7 +2,7 @@
 
 #![tactic(auto)]
 
-ghost use Rattle.std.specs.Prelude.{◌≡◌, leb, length};
+ghost use Rattle.std.specs.Prelude.{◌≡◌, leb};
 ghost use Rattle.numbers.specs.Numbers.{each_from};
 ghost use Rattle.envelopes.specs.Shown.{record_kind, no_count, count_answer, position_shown, value_of, value_shown, no_envelope, shown_envelope, envelope_answer};
 
@@ -12,10 +12,10 @@ use blocks::stored::{
     envelope_value,
 };
 use blocks::{RecordKind, chunk_of, envelope_count};
-use layout::Outline;
 use numbers::signed;
-use queries::{Found, find};
-use refusal::{Outcome, Refusal, Verdict, outcome_of};
+use queries::find;
+use refusal::{Outcome, Refusal};
+use std::array;
 
 // The two kinds of envelope.
 #[derive(Clone, Copy)]
@@ -48,12 +48,14 @@ pub struct EnvelopeAnswer {
     pub values: [i32; 32],
 }
 
-fn record_kind(kind: EnvelopeKind) -> RecordKind
-    ensures { result ≡ record_kind kind }
-{
-    match kind {
-        EnvelopeKind::Volume => RecordKind::VolumeEnvelope,
-        EnvelopeKind::Panning => RecordKind::PanningEnvelope,
+impl From<EnvelopeKind> for RecordKind {
+    ghost from_gives = { λ kind given. given ≡ record_kind kind };
+
+    fn from(kind: EnvelopeKind) -> RecordKind {
+        match kind {
+            EnvelopeKind::Volume => RecordKind::VolumeEnvelope,
+            EnvelopeKind::Panning => RecordKind::PanningEnvelope,
+        }
     }
 }
 
@@ -61,7 +63,7 @@ fn no_count(r: Refusal) -> CountAnswer
     ensures { result ≡ no_count r }
 {
     CountAnswer {
-        outcome: outcome_of(Verdict::Refused(r)),
+        outcome: Outcome::from(Err(r)),
         count: 0,
     }
 }
@@ -71,11 +73,11 @@ pub fn count(m: &[u8], kind: EnvelopeKind) -> CountAnswer
     ensures { result ≡ count_answer m.now kind }
 {
     match module::open(m) {
-        Outline::Found(l) => CountAnswer {
-            outcome: outcome_of(Verdict::Accepted),
-            count: envelope_count(m, chunk_of(l, record_kind(kind))),
+        Ok(l) => CountAnswer {
+            outcome: Outcome::from(Ok(())),
+            count: envelope_count(m, chunk_of(l, RecordKind::from(kind))),
         },
-        Outline::Refused(r) => no_count(r),
+        Err(r) => no_count(r),
     }
 }
 
@@ -121,52 +123,25 @@ pub fn value(m: &[u8], kind: EnvelopeKind, version: u8, at: usize, sections: u8,
     0
 }
 
-// Fills in the positions of all points.
-fn fill_positions(m: &[u8], at: usize, sections: u8, out: &mut [u16])
-    requires { length out.old ≡ 32 }
-    ensures { out.new ≡ each_from (position_shown m.now at sections) 0 32 }
-{
-    let mut i = 0;
-    while i < out.len() {
-        out[i] = position(m, at, sections, i as u8);
-        i = i + 1;
-    }
-}
-
-// Fills in the values of all points.
-fn fill_values(m: &[u8], kind: EnvelopeKind, version: u8, at: usize, sections: u8, out: &mut [i32])
-    requires { length out.old ≡ 32 }
-    ensures { out.new ≡ each_from (value_shown m.now kind version at sections) 0 32 }
-{
-    let mut i = 0;
-    while i < out.len() {
-        let v = value(m, kind, version, at, sections, i as u8);
-        out[i] = v;
-        i = i + 1;
-    }
-}
-
+// The shown positions of all points.
 fn positions(m: &[u8], at: usize, sections: u8) -> [u16; 32]
     ensures { result ≡ each_from (position_shown m.now at sections) 0 32 }
 {
-    let mut all = [0u16; 32];
-    fill_positions(m, at, sections, &mut all);
-    all
+    array::from_fn(|point| position(m, at, sections, point as u8))
 }
 
+// The shown values of all points.
 fn values(m: &[u8], kind: EnvelopeKind, version: u8, at: usize, sections: u8) -> [i32; 32]
     ensures { result ≡ each_from (value_shown m.now kind version at sections) 0 32 }
 {
-    let mut all = [0i32; 32];
-    fill_values(m, kind, version, at, sections, &mut all);
-    all
+    array::from_fn(|point| value(m, kind, version, at, sections, point as u8))
 }
 
 fn no_envelope(r: Refusal) -> EnvelopeAnswer
     ensures { result ≡ no_envelope r }
 {
     EnvelopeAnswer {
-        outcome: outcome_of(Verdict::Refused(r)),
+        outcome: Outcome::from(Err(r)),
         instrument: 0,
         flags: 0,
         sections: 0,
@@ -185,7 +160,7 @@ fn envelope_at(m: &[u8], kind: EnvelopeKind, version: u8, at: usize) -> Envelope
 {
     let sections = envelope_sections(m, at);
     EnvelopeAnswer {
-        outcome: outcome_of(Verdict::Accepted),
+        outcome: Outcome::from(Ok(())),
         instrument: envelope_instrument(m, at),
         flags: envelope_flags(m, at),
         sections,
@@ -202,8 +177,8 @@ fn envelope_at(m: &[u8], kind: EnvelopeKind, version: u8, at: usize) -> Envelope
 pub fn envelope(m: &[u8], kind: EnvelopeKind, envelope: usize) -> EnvelopeAnswer
     ensures { result ≡ envelope_answer m.now kind envelope }
 {
-    match find(m, record_kind(kind), envelope) {
-        Found::At(b) => envelope_at(m, kind, b.version, b.at),
-        Found::Refused(r) => no_envelope(r),
+    match find(m, RecordKind::from(kind), envelope) {
+        Ok(b) => envelope_at(m, kind, b.version, b.at),
+        Err(r) => no_envelope(r),
     }
 }

@@ -1,6 +1,7 @@
 -- Every module for which the rules hold is the encoding of a well-formed description: its chunks are those of the module, each decoded
 -- according to its letters.
 use Prim.Native.Nat.{ℕ, ◌≤◌}
+use Rattle.std.specs.Prelude.{Ok}
 use mathlib.Core.Path.{◌≡◌, refl, sym, ap, subst, ◌∙◌}
 use mathlib.Core.List.{List, [], ◌∷◌, ◌++◌, map, append_assoc}
 use mathlib.Core.Bool.{Bool, true, false, cond}
@@ -13,7 +14,6 @@ use Rattle.vocabulary.specs.Letters.{info_letters}
 use Rattle.vocabulary.proofs.EveryOne.{every_append, every_of, every-both}
 use Rattle.vocabulary.proofs.MappedLists.{map-append, every_map}
 use Rattle.vocabulary.proofs.Splits.{Within, within-every, every-within, within-mapped, only_one, no-two-mapped}
-use Rattle.refusal.specs.declared.Verdict.TheVariants.{Accepted}
 use Rattle.numbers.specs.Numbers.{byte_at, Bytes, number16, number32, bytes16}
 use Rattle.numbers.proofs.Parts.{bytes-part}
 use Rattle.numbers.proofs.AllBytes.{bytes_drop, bytes-front, bytes_after, bytes-joined}
@@ -364,5 +364,5 @@ module _ (m : List ℕ) (bytes : Bytes m) (r : Rules m) where
 pub described : (m : List ℕ) → Bytes m → Rules m → (d : Description) × WellFormed d × (encoded d ≡ m)
 described m bytes r = (description m bytes r, well-formed m bytes r, module-again m bytes r)
 
-pub accepted-described : (m : List ℕ) → Bytes m → module_verdict m ≡ Accepted → (d : Description) × WellFormed d × (encoded d ≡ m)
+pub accepted-described : (m : List ℕ) → Bytes m → module_verdict m ≡ Ok tt → (d : Description) × WellFormed d × (encoded d ≡ m)
 accepted-described m bytes accepted = described m bytes ((accepted-exactly m bytes).0 accepted)

@@ -1,6 +1,7 @@
 -- The encoding of a well-formed description is accepted: the rules of a module hold for it, with its header and the encodings of its
 -- chunks.
 use Prim.Native.Nat.{ℕ, ◌+◌, ◌≤◌, ◌<◌}
+use Rattle.std.specs.Prelude.{Ok}
 use mathlib.Core.Path.{◌≡◌, refl, sym, ap, subst, ◌∙◌}
 use mathlib.Core.Logic.{◌⊎◌, inl, inr}
 use mathlib.Core.List.{List, [], ◌∷◌, ◌++◌, map, append_assoc}
@@ -14,7 +15,6 @@ use Rattle.vocabulary.specs.Letters.{name_letters, info_letters, song_letters, i
 use Rattle.vocabulary.proofs.EveryOne.{every-at, every_of}
 use Rattle.vocabulary.proofs.MappedLists.{every_map, map-split}
 use Rattle.vocabulary.proofs.Splits.{within-mapped, mapped-within, no-two-mapped}
-use Rattle.refusal.specs.declared.Verdict.TheVariants.{Accepted}
 use Rattle.numbers.proofs.AllBytes.{bytes-nil, bytes-cons, bytes-append, bytes-every, bytes-joined, bytes16-bytes, bytes32-bytes}
 use Rattle.numbers.specs.Numbers.{byte_at, Bytes, number32, bytes32}
 use Rattle.packed_rows.specs.Theorems.{every}
@@ -283,5 +283,5 @@ module _ (d : Description) (w : WellFormed d) where
     content = encoded-content;
   }
 
-  pub encoded-accepted : module_verdict (encoded d) ≡ Accepted
+  pub encoded-accepted : module_verdict (encoded d) ≡ Ok tt
   encoded-accepted = (accepted-exactly (encoded d) encoded-bytes).1 encoded-rules

@@ -1,6 +1,9 @@
 -- The places of a description's records in its encoding. The module opens with the layout of the description's chunks. A record that is
 -- requested by a number of its list is found at a place where its encoding is, and every other number is refused.
 use Prim.Native.Nat.{ℕ, ◌+◌, ◌-◌, ◌<◌}
+use Rattle.std.specs.Prelude.{Result, Ok, Err}
+use Rattle.refusal.specs.declared.Refusal.{Refusal}
+use Rattle.queries.specs.declared.Block.{Block}
 use mathlib.Core.Path.{◌≡◌, refl, sym, ap, ◌∙◌}
 use mathlib.Core.List.{List, [], ◌++◌, map}
 use mathlib.Core.Bool.{Bool, true, false, cond, ◌&&◌}
@@ -13,14 +16,11 @@ use Rattle.vocabulary.proofs.MappedLists.{every_map}
 use Rattle.numbers.specs.Numbers.{number16, bytes32}
 use Rattle.packed_rows.proofs.Shapes.{get_or-mapped}
 use Rattle.layout.specs.declared.Layout.{Layout}
-use Rattle.layout.specs.declared.Outline.TheVariants.{Found as Opened}
 use Rattle.blocks.specs.Sizes.{first_block, block_at}
 use Rattle.blocks.specs.RecordKinds.{block_kind_of, chunk_of, count_of}
 use Rattle.blocks.specs.declared.RecordKind.{RecordKind}
 use Rattle.module.specs.Verdicts.{opened}
 use Rattle.queries.specs.Finding.{first_of, block_of, found_if, found}
-use Rattle.queries.specs.declared.Found.{Found}
-use Rattle.queries.specs.declared.Found.TheVariants.{At, Refused}
 use Rattle.acceptance.proofs.Spans.{SpanHolds, LayoutOf}
 use Rattle.acceptance.proofs.Locating.{PartAt}
 use Rattle.acceptance.proofs.Holding.{and-says, ltb-says}
@@ -60,12 +60,12 @@ module _ {m : List ℕ} {l : Layout} (kind : RecordKind) {A : Type 0} (bytes : A
   }
 
 -- The answer of a query for a number: what is shown of the record with that number, or the refusal.
-module _ {m : List ℕ} {l : Layout} (opens : opened m ≡ Opened l) {kind : RecordKind} {A : Type 0} {bytes : A → List ℕ}
-    {Fits : A → Type 0} {xs : List A} (s : Listed m l kind bytes Fits xs) {R : Type 0} (answer : Found → R) (show : A → R)
+module _ {m : List ℕ} {l : Layout} (opens : opened m ≡ Ok l) {kind : RecordKind} {A : Type 0} {bytes : A → List ℕ}
+    {Fits : A → Type 0} {xs : List A} (s : Listed m l kind bytes Fits xs) {R : Type 0} (answer : Result Block Refusal → R) (show : A → R)
     (other : A) where
-  pub by_number : ((x : A) → Fits x → (at : ℕ) → PartAt m at (bytes x) → answer (At (record { at = at; version = l.version; tracks = l.tracks })) ≡ show x)
+  pub by_number : ((x : A) → Fits x → (at : ℕ) → PartAt m at (bytes x) → answer (Ok (record { at = at; version = l.version; tracks = l.tracks })) ≡ show x)
       → (number : ℕ)
-      → answer (found m kind number) ≡ listed show (answer (Refused not_there)) other (first_of kind) xs number
+      → answer (found m kind number) ≡ listed show (answer (Err not_there)) other (first_of kind) xs number
   by_number shown number =
       ap (λ o. answer (found_if m kind number o)) opens ∙ rw s.count (go (leb (first_of kind) number && ltb (number - first_of kind) (length xs)) refl)
     where
@@ -73,8 +73,8 @@ module _ {m : List ℕ} {l : Layout} (opens : opened m ≡ Opened l) {kind : Rec
       i = number - first_of kind
 
       go : (t : Bool) → leb (first_of kind) number && ltb (number - first_of kind) (length xs) ≡ t
-          → answer (cond t (At (block_of m l kind number)) (Refused not_there))
-          ≡ cond t (show (get_or xs (number - first_of kind) other)) (answer (Refused not_there))
+          → answer (cond t (Ok (block_of m l kind number)) (Err not_there))
+          ≡ cond t (show (get_or xs (number - first_of kind) other)) (answer (Err not_there))
       go true e =
           let h : i < length xs = (ltb-says i (length xs)).0 ((and-says (leb (first_of kind) number) (ltb i (length xs))).0 e).1 in
           shown (get_or xs i other) (every-at i other h s.fits) (block_at m (block_kind_of kind) (chunk_of l kind) i) (s.block i other h)
@@ -91,7 +91,7 @@ module _ (d : Description) (w : WellFormed d) where
   }
 
   -- The encoding opens, with the layout of the description's chunks.
-  pub encoded-opens : (l : Layout) × (opened (encoded d) ≡ Opened l) × LayoutOf (encoded d) (header_bytes d) (map chunk_bytes d.chunks) l
+  pub encoded-opens : (l : Layout) × (opened (encoded d) ≡ Ok l) × LayoutOf (encoded d) (header_bytes d) (map chunk_bytes d.chunks) l
   encoded-opens =
       let (l, opens) = accepted-opens (encoded d) (encoded-accepted d w) in
       let (k, outlined, layout) = chunks-outline (encoded d) (header_bytes d) (map chunk_bytes d.chunks) (encoded-chunks d w) mandatory in

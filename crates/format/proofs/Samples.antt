@@ -1,10 +1,10 @@
 -- Two modules of samples/, as descriptions and byte by byte (FORMAT.md, "Two modules, byte by byte"): the encoding of each description is
 -- the file's bytes, and the check accepts them.
 use Prim.Native.Nat.{ℕ, ◌-◌}
+use Rattle.std.specs.Prelude.{Ok}
 use mathlib.Core.Path.{◌≡◌, refl}
 use mathlib.Core.List.{List, [], ◌∷◌, ◌++◌}
 use lib.ListN.{length, replicate}
-use Rattle.refusal.specs.declared.Verdict.TheVariants.{Accepted}
 use Rattle.numbers.specs.Numbers.{byte_at, number16, number32}
 use Rattle.packed_rows.specs.Entries.{Entry}
 use Rattle.packed_rows.specs.Stream.{read_from, reading}
@@ -136,6 +136,6 @@ unfolding smallest smallest_bytes old old_bytes
 worked = (refl, refl)
 
 -- The check accepts both, by computation.
-pub worked-accepted : (module_verdict smallest_bytes ≡ Accepted) × (module_verdict old_bytes ≡ Accepted)
+pub worked-accepted : (module_verdict smallest_bytes ≡ Ok tt) × (module_verdict old_bytes ≡ Ok tt)
 unfolding smallest_bytes old_bytes read_from reading byte_at number16 number32 chunks_from chunks size_of
 worked-accepted = (refl, refl)

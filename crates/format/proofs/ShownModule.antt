@@ -1,17 +1,16 @@
 -- The encoding of a well-formed description shows the description: the answer of every query is what the description says.
 use Prim.Native.Nat.{ℕ, ◌+◌}
+use Rattle.std.specs.Prelude.{Ok, Err}
 use mathlib.Core.Path.{◌≡◌, refl, sym, ap, subst, ◌∙◌}
 use mathlib.Core.Logic.{inl, inr}
 use mathlib.Core.List.{List, map}
 use mathlib.Core.Bool.{Bool, true, false, cond}
 use lib.ListN.{length, replicate}
 use Rattle.refusal.specs.Numbers.{no_refusal}
-use Rattle.refusal.specs.Lengths.{refused_length}
+use Rattle.refusal.specs.Lengths.{refused_length, length_answer}
 use Rattle.numbers.specs.Numbers.{byte_at, number16, part_of, bytes_from}
 use Rattle.packed_rows.specs.Answers.{cell_of, unpack_answer as stream_answer, unpack_output as stream_output}
-use Rattle.packed_rows.specs.declared.CellAnswer.TheVariants.{Refused}
 use Rattle.layout.specs.declared.Layout.{Layout}
-use Rattle.layout.specs.declared.Outline.TheVariants.{Found as Opened}
 use Rattle.blocks.specs.StoredFields.{packed_bytes}
 use Rattle.module.specs.Verdicts.{opened}
 use Rattle.queries.specs.Finding.{answer_found, output_found}
@@ -22,7 +21,7 @@ use Rattle.samples.specs.Shown.{sample_if, frames_if, frame_if, all_frames_size,
 use Rattle.envelopes.specs.Shown.{record_kind, count_if, count_answer, no_envelope, shown_envelope, envelope_if, envelope_answer}
 use Rattle.envelopes.specs.declared.EnvelopeKind.{EnvelopeKind}
 use Rattle.envelopes.specs.declared.EnvelopeKind.TheVariants.{Volume, Panning}
-use Rattle.patterns.specs.Shown.{length_of_unpacking, rows_if, cell_if, cell_answer, cells_if, cells_answer, cells_output_if, cells_output}
+use Rattle.patterns.specs.Shown.{rows_if, cell_if, cell_answer, cells_if, cells_answer, cells_output_if, cells_output}
 use Rattle.songs.specs.Shown.{song_if, entry_if, playlist_size, playlist_bytes}
 use Rattle.summary.specs.Shown.{version_if, version_answer, name_if, name_answer, info_if, info_answer}
 use Rattle.instruments.specs.Shown.{instrument_if}
@@ -45,7 +44,7 @@ use Rattle.format.proofs.ShownEnvelopes.{envelope-shown}
 use Rattle.format.proofs.ShownPatterns.{rows-shown, cell-shown, cells-shown, cells-written}
 use Rattle.format.proofs.ShownSamples.{sample-shown, frames-length, frames-shown, frame-shown, all-frames-shown, all-frames-written}
 
-module _ (d : Description) (w : WellFormed d) {l : Layout} (opens : opened (encoded d) ≡ Opened l)
+module _ (d : Description) (w : WellFormed d) {l : Layout} (opens : opened (encoded d) ≡ Ok l)
     (layout : LayoutOf (encoded d) (header_bytes d) (map chunk_bytes d.chunks) l) where
   -- Q4 to Q6: version and revision, the name, and the five numbers of INFO.
   version-same : l.version ≡ d.version
@@ -103,7 +102,7 @@ module _ (d : Description) (w : WellFormed d) {l : Layout} (opens : opened (enco
     tracks_same : l.tracks ≡ info.tracks
     tracks_same = (info-numbers d w layout info j).4
 
-    cell_at : (row track : ℕ) → cell_answer (encoded d) number row track ≡ of_pattern (described_cell info.tracks row track) (Refused not_there) patterns number
+    cell_at : (row track : ℕ) → cell_answer (encoded d) number row track ≡ of_pattern (described_cell info.tracks row track) (Err not_there) patterns number
     cell_at row track =
         by_number opens (patterns-listed d w layout info patterns j i) (cell_if (encoded d) row track) (described_cell info.tracks row track) empty_pattern
         (λ x f at p.
@@ -114,7 +113,7 @@ module _ (d : Description) (w : WellFormed d) {l : Layout} (opens : opened (enco
     cells_at room =
         by_number opens (patterns-listed d w layout info patterns j i) (cells_if (encoded d) room) (cells_length info.tracks room) empty_pattern
         (λ x f at p.
-        ap (λ (tracks : ℕ). length_of_unpacking (stream_answer (packed_bytes (encoded d) at) (number16 (encoded d) at) tracks room)) tracks_same
+        ap (λ (tracks : ℕ). length_answer (stream_answer (packed_bytes (encoded d) at) (number16 (encoded d) at) tracks room)) tracks_same
         ∙ cells-shown x f p tracks-fit room) number
 
     cells-out : (out : List ℕ) → cells_output (encoded d) number out ≡ of_pattern (cells_written info.tracks out) out patterns number

@@ -1,6 +1,9 @@
 -- Patterns: the packed stream in the encoding of a pattern in the module is read as the pattern's entries, by theorem 6 of `packed_rows`.
 -- So what the queries show of it is the pattern, by its rows and its cells.
 use Prim.Native.Nat.{ℕ, ◌+◌, ◌-◌, ◌%◌}
+use Rattle.std.specs.Prelude.{Result, Ok, Err}
+use Rattle.refusal.specs.declared.Refusal.{Refusal}
+use Rattle.cells.specs.declared.Cell.{Cell}
 use mathlib.Core.Path.{◌≡◌, refl, sym, ap, ◌∙◌}
 use mathlib.Core.List.{List, [], ◌++◌}
 use mathlib.Core.Bool.{Bool, true, false, cond, not}
@@ -10,16 +13,13 @@ use lib.Dec.{ltb}
 use borrow.Author.Tests.{le-leb, eq-eqb}
 use Rattle.refusal.specs.Numbers.{refusal}
 use Rattle.refusal.specs.declared.Reason.TheVariants.{Room}
-use Rattle.refusal.specs.Lengths.{refused_length, written_length, length_if, output_if}
+use Rattle.refusal.specs.Lengths.{refused_length, written_length, length_if, output_if, length_answer, output_written}
 use Rattle.cells.specs.Cells.{sizes_fit, cell_bytes, bytes_of, empty_cell}
 use Rattle.cells.specs.Shown.{shown_cell}
 use Rattle.numbers.specs.Numbers.{number16, bytes16, bytes32}
 use Rattle.packed_rows.specs.Entries.{Entry, rows_from, stream_of}
 use Rattle.packed_rows.specs.Stream.{read_stream, whole}
-use Rattle.packed_rows.specs.Answers.{cell_there, cell_of, output_unpacked, unpack_answer as stream_answer, unpack_output as stream_output}
-use Rattle.packed_rows.specs.declared.CellAnswer.{CellAnswer}
-use Rattle.packed_rows.specs.declared.CellAnswer.TheVariants.{Found, Refused}
-use Rattle.packed_rows.specs.declared.Unpacking.TheVariants.{Unpacked, Refused as UnpackingRefused}
+use Rattle.packed_rows.specs.Answers.{cell_there, cell_of, unpack_answer as stream_answer, unpack_output as stream_output}
 use Rattle.packed_rows.proofs.Shapes.{rows-from-shaped, length-bytes}
 use Rattle.packed_rows.proofs.Theorems.{reads-exactly}
 use Rattle.blocks.specs.StoredFields.{packed_bytes}
@@ -28,7 +28,6 @@ use Rattle.blocks.specs.declared.BlockKind.TheVariants.{Pattern as PatternBlock}
 use Rattle.acceptance.proofs.Locating.{PartAt, number16-start}
 use Rattle.acceptance.proofs.Cutting.{Sized}
 use Rattle.acceptance.proofs.BlockStreams.{TracksFit, stream-same}
-use Rattle.patterns.specs.Shown.{length_of_unpacking}
 use Rattle.format.specs.Description.{Pattern}
 use Rattle.format.specs.Encoding.{pattern_bytes}
 use Rattle.format.specs.WellFormed.{PatternFits}
@@ -41,18 +40,18 @@ module _ (rows tracks : ℕ) (stream : List ℕ) (entries : List (List Entry)) (
   cell-read : (row track : ℕ)
       → cell_of stream rows tracks row track
       ≡ cond (cell_there rows tracks row track)
-      (Found (shown_cell (get_or (get_or (rows_from tracks entries) row []) (track - 1) empty_cell))) (Refused not_there)
+      (Ok (shown_cell (get_or (get_or (rows_from tracks entries) row []) (track - 1) empty_cell))) (Err not_there)
   cell-read row track = simp (fits, reads) (go (cell_there rows tracks row track) _ _)
     where
-      go : (there : Bool) (shown refused : CellAnswer) → cond (not there) refused shown ≡ cond there shown refused
+      go : (there : Bool) (shown refused : Result Cell Refusal) → cond (not there) refused shown ≡ cond there shown refused
       go true shown refused = refl
       go false shown refused = refl
 
-  length-read : (room : ℕ) → length_of_unpacking (stream_answer stream rows tracks room) ≡ length_if (cell_bytes rows tracks) room
+  length-read : (room : ℕ) → length_answer (stream_answer stream rows tracks room) ≡ length_if (cell_bytes rows tracks) room
   length-read room = simp (fits, reads) (go (ltb room (cell_bytes rows tracks)))
     where
       go : (lacks : Bool)
-          → length_of_unpacking (cond lacks (UnpackingRefused (refusal Room (cell_bytes rows tracks))) (Unpacked (cell_bytes rows tracks)))
+          → length_answer (cond lacks (Err (refusal Room (cell_bytes rows tracks))) (Ok (cell_bytes rows tracks)))
           ≡ cond lacks (refused_length (refusal Room (cell_bytes rows tracks))) (written_length (cell_bytes rows tracks))
       go true = refl
       go false = refl
@@ -65,7 +64,7 @@ module _ (rows tracks : ℕ) (stream : List ℕ) (entries : List (List Entry)) (
       cells = bytes_of (rows_from tracks entries)
 
       go : (lacks : Bool)
-          → output_unpacked (cond lacks (UnpackingRefused (refusal Room (cell_bytes rows tracks))) (Unpacked (cell_bytes rows tracks))) cells out
+          → output_written (cond lacks (Err (refusal Room (cell_bytes rows tracks))) (Ok (cell_bytes rows tracks))) cells out
           ≡ output_if (cond lacks (refused_length (refusal Room (cell_bytes rows tracks))) (written_length (cell_bytes rows tracks))) cells out
       go true = refl
       go false = ap (λ (n : ℕ). cells ++ drop n out) (sym size)
@@ -98,7 +97,7 @@ module _ {tracks : ℕ} (p : Pattern) (f : PatternFits tracks p) where
       pub cell-shown : (row track : ℕ) → cell_of (packed_bytes m at) (number16 m at) tracks row track ≡ described_cell tracks row track p
       cell-shown row track = rw rows-shown (cell-read (length p.rows) tracks (packed_bytes m at) p.rows fits reads row track)
 
-      pub cells-shown : (room : ℕ) → length_of_unpacking (stream_answer (packed_bytes m at) (number16 m at) tracks room) ≡ cells_length tracks room p
+      pub cells-shown : (room : ℕ) → length_answer (stream_answer (packed_bytes m at) (number16 m at) tracks room) ≡ cells_length tracks room p
       cells-shown room = rw rows-shown (length-read (length p.rows) tracks (packed_bytes m at) p.rows fits reads room)
 
       pub cells-written : (out : List ℕ) → stream_output (packed_bytes m at) (number16 m at) tracks out ≡ cells_written tracks out p

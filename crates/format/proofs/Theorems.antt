@@ -9,10 +9,10 @@
 --
 -- The check is `module_verdict` and the repacked module is `repacked`. The contracts cite these two, and also the answers in `Shows`.
 use Prim.Native.Nat.{ℕ}
+use Rattle.std.specs.Prelude.{Ok}
 use mathlib.Core.Path.{◌≡◌, ap, sym, ◌∙◌}
 use mathlib.Core.Logic.{◌↔◌}
 use mathlib.Core.List.{List}
-use Rattle.refusal.specs.declared.Verdict.TheVariants.{Accepted}
 use Rattle.numbers.specs.Numbers.{Bytes}
 use Rattle.module.specs.Verdicts.{module_verdict}
 use Rattle.repack.specs.Repacked.{repacked}
@@ -32,7 +32,7 @@ module _ (d : Description) (w : WellFormed d) where
   pub encoding-bytes : Bytes (encoded d)
   encoding-bytes = EncodedModule.encoded-bytes d w
 
-  pub encoding-accepted : module_verdict (encoded d) ≡ Accepted
+  pub encoding-accepted : module_verdict (encoded d) ≡ Ok tt
   encoding-accepted = EncodedModule.encoded-accepted d w
 
   pub encoding-shows : Shows (encoded d) d
@@ -44,11 +44,11 @@ module _ (d : Description) (w : WellFormed d) where
   pub repacked-well-formed : WellFormed (repacked_description w.info.tracks d)
   repacked-well-formed = RepackedModule.repacked-well-formed d w
 
-pub accepted-encoded : (m : List ℕ) → Bytes m → module_verdict m ≡ Accepted → (d : Description) × WellFormed d × (encoded d ≡ m)
+pub accepted-encoded : (m : List ℕ) → Bytes m → module_verdict m ≡ Ok tt → (d : Description) × WellFormed d × (encoded d ≡ m)
 accepted-encoded = DescribedModule.accepted-described
 
 pub one-description : (d e : Description) → WellFormed d → WellFormed e → encoded d ≡ encoded e → d ≡ e
 one-description = Unique.described-once
 
-pub accepted-exactly-encodings : (m : List ℕ) → Bytes m → (module_verdict m ≡ Accepted) ↔ ((d : Description) × WellFormed d × (encoded d ≡ m))
+pub accepted-exactly-encodings : (m : List ℕ) → Bytes m → (module_verdict m ≡ Ok tt) ↔ ((d : Description) × WellFormed d × (encoded d ≡ m))
 accepted-exactly-encodings m bytes = (accepted-encoded m bytes, λ h. sym (ap module_verdict h.2) ∙ encoding-accepted h.0 h.1)

@@ -1,6 +1,7 @@
 -- FORMAT.md, D6: what the queries show of a description. The answers are those that the contracts of the queries cite. Each begins with the
 -- refusal's number and place, 0 and 0 if there is none.
-use Rattle.std.specs.Prelude.{ℕ, ◌-◌, ◌*◌, ◌≡◌, ◌⊎◌, List, [], map, cond, ◌&&◌, length, get_or, replicate, leb, ltb, ℤ, pos, ◌*ℤ◌}
+use Rattle.std.specs.Prelude.{ℕ, ◌-◌, ◌*◌, ◌≡◌, ◌⊎◌, List, [], map, cond, ◌&&◌, length, get_or, replicate, leb, ltb, ℤ, pos, ◌*ℤ◌, Result, Ok, Err}
+use Rattle.cells.specs.declared.Cell.{Cell}
 use Rattle.vocabulary.specs.Lists.{joined}
 use Rattle.refusal.specs.Numbers.{refusal, no_refusal, refused_outcome}
 use Rattle.refusal.specs.declared.Reason.TheVariants.{NotThere}
@@ -12,8 +13,6 @@ use Rattle.cells.specs.Shown.{shown_cell}
 use Rattle.numbers.specs.Numbers.{signed_by, signed16, each_from, bytes16, unsigned16}
 use Rattle.packed_rows.specs.Entries.{rows_from}
 use Rattle.packed_rows.specs.Answers.{cell_there}
-use Rattle.packed_rows.specs.declared.CellAnswer.{CellAnswer}
-use Rattle.packed_rows.specs.declared.CellAnswer.TheVariants.{Found, Refused}
 use Rattle.samples.specs.Shown.{no_sample, sample_answer, frames_answer, frames_part, divided_down, no_frame, frame_answer}
 use Rattle.samples.specs.Shown.{all_frames_answer, all_frames_output}
 use Rattle.samples.specs.declared.SampleAnswer.{SampleAnswer}
@@ -146,11 +145,11 @@ of_pattern show refused patterns number = listed show refused empty_pattern 0 pa
 abbrev pub described_rows : Pattern → RowsAnswer
 described_rows p = record { outcome = no_refusal; rows = length p.rows }
 
-abbrev pub described_cell : ℕ → ℕ → ℕ → Pattern → CellAnswer
+abbrev pub described_cell : ℕ → ℕ → ℕ → Pattern → Result Cell Refusal
 described_cell tracks row track p =
     cond (cell_there (length p.rows) tracks row track)
-    (Found (shown_cell (get_or (get_or (rows_from tracks p.rows) row []) (track - 1) empty_cell)))
-    (Refused not_there)
+    (Ok (shown_cell (get_or (get_or (rows_from tracks p.rows) row []) (track - 1) empty_cell)))
+    (Err not_there)
 
 abbrev pub cells_length : ℕ → ℕ → Pattern → LengthAnswer
 cells_length tracks room p = length_if (cell_bytes (length p.rows) tracks) room
@@ -213,7 +212,7 @@ pub record Shows (m : List ℕ) (d : Description) : Type 0 where
       → rows_answer m number ≡ of_pattern described_rows (no_rows not_there) patterns number
   pub cell : (info : Info) (patterns : List Pattern) → In d.chunks (INFO info) → In d.chunks (PATT patterns)
       → (number row track : ℕ)
-      → cell_answer m number row track ≡ of_pattern (described_cell info.tracks row track) (Refused not_there) patterns number
+      → cell_answer m number row track ≡ of_pattern (described_cell info.tracks row track) (Err not_there) patterns number
   pub cells : (info : Info) (patterns : List Pattern) → In d.chunks (INFO info) → In d.chunks (PATT patterns)
       → (number room : ℕ)
       → cells_answer m number room ≡ of_pattern (cells_length info.tracks room) (refused_length not_there) patterns number

@@ -1,6 +1,7 @@
 -- FORMAT.md, B3, Q3 and Q8 (document 01, "Layout"): an instrument as it is shown. The answer begins with the refusal's number and place, 0
 -- and 0 if there is none; on a refusal all other fields are 0.
-use Rattle.std.specs.Prelude.{ℕ, List, replicate, pos}
+use Rattle.std.specs.Prelude.{ℕ, List, replicate, pos, Result, Ok, Err}
+use Rattle.queries.specs.declared.Block.{Block}
 use Rattle.refusal.specs.Numbers.{no_refusal, refused_outcome}
 use Rattle.refusal.specs.declared.Refusal.{Refusal}
 use Rattle.numbers.specs.Numbers.{signed16}
@@ -8,8 +9,6 @@ use Rattle.blocks.specs.StoredFields.{instrument_name, instrument_sample, instru
 use Rattle.blocks.specs.StoredFields.{instrument_loop_start, instrument_loop_length, instrument_panning, instrument_flags}
 use Rattle.blocks.specs.declared.RecordKind.TheVariants.{Instrument}
 use Rattle.queries.specs.Finding.{found}
-use Rattle.queries.specs.declared.Found.{Found}
-use Rattle.queries.specs.declared.Found.TheVariants.{At, Refused}
 use Rattle.instruments.specs.declared.InstrumentAnswer.{InstrumentAnswer}
 
 abbrev pub no_instrument : Refusal → InstrumentAnswer
@@ -40,9 +39,9 @@ shown_instrument m at = record {
   loop_length = instrument_loop_length m at;
 }
 
-abbrev pub instrument_if : List ℕ → Found → InstrumentAnswer
-instrument_if m (At b) = shown_instrument m b.at
-instrument_if m (Refused r) = no_instrument r
+abbrev pub instrument_if : List ℕ → Result Block Refusal → InstrumentAnswer
+instrument_if m (Ok b) = shown_instrument m b.at
+instrument_if m (Err r) = no_instrument r
 
 -- Q1: the module's own refusal, then 18, else the instrument.
 abbrev pub instrument_answer : List ℕ → ℕ → InstrumentAnswer

@@ -3,7 +3,6 @@
 #![tactic(auto)]
 
 ghost use Rattle.std.specs.Prelude.{◌≡◌};
-ghost use Rattle.numbers.specs.Numbers.{bytes_from};
 ghost use Rattle.instruments.specs.Shown.{no_instrument, shown_instrument, instrument_answer};
 
 use blocks::RecordKind;
@@ -11,9 +10,9 @@ use blocks::stored::{
     instrument_flags, instrument_loop_length, instrument_loop_start, instrument_panning,
     instrument_rate, instrument_sample, instrument_volume,
 };
-use numbers::{copy, signed};
-use queries::{Found, find};
-use refusal::{Outcome, Refusal, Verdict, outcome_of};
+use numbers::signed;
+use queries::{find, name};
+use refusal::{Outcome, Refusal};
 
 // An instrument.
 #[repr(C)]
@@ -30,20 +29,11 @@ pub struct InstrumentAnswer {
     pub loop_length: u32,
 }
 
-// A name of 30 bytes.
-fn name30(m: &[u8], at: usize) -> [u8; 30]
-    ensures { result ≡ bytes_from m.now at 30 }
-{
-    let mut name = [0u8; 30];
-    copy(m, at, &mut name);
-    name
-}
-
 fn no_instrument(r: Refusal) -> InstrumentAnswer
     ensures { result ≡ no_instrument r }
 {
     InstrumentAnswer {
-        outcome: outcome_of(Verdict::Refused(r)),
+        outcome: Outcome::from(Err(r)),
         name: [0; 30],
         sample: 0,
         volume: 0,
@@ -60,8 +50,8 @@ fn instrument_at(m: &[u8], at: usize) -> InstrumentAnswer
     ensures { result ≡ shown_instrument m.now at }
 {
     InstrumentAnswer {
-        outcome: outcome_of(Verdict::Accepted),
-        name: name30(m, at),
+        outcome: Outcome::from(Ok(())),
+        name: name(m, at),
         sample: instrument_sample(m, at),
         volume: instrument_volume(m, at),
         panning: signed(instrument_panning(m, at)),
@@ -77,7 +67,7 @@ pub fn instrument(m: &[u8], instrument: usize) -> InstrumentAnswer
     ensures { result ≡ instrument_answer m.now instrument }
 {
     match find(m, RecordKind::Instrument, instrument) {
-        Found::At(b) => instrument_at(m, b.at),
-        Found::Refused(r) => no_instrument(r),
+        Ok(b) => instrument_at(m, b.at),
+        Err(r) => no_instrument(r),
     }
 }

@@ -1,4 +1,3 @@
-pub mod Tests
 pub mod ChunksBefore
 pub mod Walking
 pub mod Outlining

@@ -1,5 +1,6 @@
 -- Chunks that are not covered: their rules hold, whatever the spans of the covered ones, and no span changes.
 use Prim.Native.Nat.{ℕ, zero, suc, ◌+◌, ◌≤◌}
+use Rattle.std.specs.Prelude.{Ok}
 use mathlib.Core.Path.{◌≡◌, refl, sym}
 use mathlib.Core.List.{List}
 use mathlib.Core.Bool.{Bool, true, false, not, ◌&&◌, ◌||◌, true≢false}
@@ -7,7 +8,6 @@ use lib.ListN.{length}
 use lib.Dec.{eqb, leb}
 use borrow.Author.Tests.{leb-true}
 use Rattle.refusal.specs.Rules.{first_broken}
-use Rattle.refusal.specs.declared.Verdict.TheVariants.{Accepted}
 use Rattle.numbers.specs.Numbers.{number32}
 use Rattle.layout.specs.Chunks.{name_identifier, info_identifier, song_identifier, inst_identifier, patt_identifier, smpl_identifier, venv_identifier}
 use Rattle.layout.specs.Chunks.{penv_identifier, needs_info, covered, four_letters}
@@ -102,7 +102,7 @@ module _ (m : List ℕ) (at : ℕ) (is : is_other m at ≡ true) where
   n6 : eqb (number32 m at) smpl_identifier ≡ false
   n6 = or_right (eqb (number32 m at) patt_identifier) _ past-inst
 
-  pub other-holds : (p : ChunkSpans) → first_broken (placed_rules m at p) ≡ Accepted
+  pub other-holds : (p : ChunkSpans) → first_broken (placed_rules m at p) ≡ Ok tt
   other-holds p = simp (header, letters, room, n1, n2, n3, n4, n5, n6, n7, n8)
 
   pub other-stays : (p : ChunkSpans) (span : ChunkSpan) → p ≡ put_in p (number32 m at) span

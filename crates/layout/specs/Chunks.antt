@@ -1,12 +1,10 @@
 -- The rules of a module, first of three statements: what the contracts cite, in the order of the refusals. Here: 4 to 7, 9 and 10, the
 -- chunks; 8 is in Outlines.antt.
 -- FORMAT.md, M5 to M9 and F12 (document 01, "Layout"): the chunks of a module, read from the front.
-use Rattle.std.specs.Prelude.{ℕ, zero, suc, ◌+◌, ◌%◌, List, [], ◌∷◌, ◌++◌, Bool, false, cond, not, ◌&&◌, ◌||◌, length, eqb, leb}
+use Rattle.std.specs.Prelude.{ℕ, zero, suc, ◌+◌, ◌%◌, List, [], ◌∷◌, ◌++◌, Bool, false, cond, not, ◌&&◌, ◌||◌, length, eqb, leb, ⊤, Result, Ok, Err}
 use Rattle.refusal.specs.Rules.{Rule, rule, first_broken}
 use Rattle.refusal.specs.declared.Reason.TheVariants.{ChunkCut, Identifier, Repeated, BeforeInfo, FixedLength, InfoRange}
 use Rattle.refusal.specs.declared.Refusal.{Refusal}
-use Rattle.refusal.specs.declared.Verdict.{Verdict}
-use Rattle.refusal.specs.declared.Verdict.TheVariants.{Accepted, Refused}
 use Rattle.numbers.specs.Numbers.{byte_at, number16, number32, part_of, bytes32}
 
 -- M6: the identifiers of the covered chunks. An "identifier" is its four letters, as one number.
@@ -105,9 +103,9 @@ pub data Walk : Type 0 where
   stopped : Refusal → Walk
 
 -- The refusal of a chunk, or the walk after it if it has none.
-abbrev pub walk_on : Verdict → Walk → Walk
-walk_on Accepted after = after
-walk_on (Refused r) after = stopped r
+abbrev pub walk_on : Result ⊤ Refusal → Walk → Walk
+walk_on (Ok _) after = after
+walk_on (Err r) after = stopped r
 
 -- M5: the chunks from a place on, after those before it. The first number bounds the steps: a chunk has at least 8 bytes.
 unfoldable pub chunks_from : ℕ → List ℕ → List ChunkHeader → ℕ → Walk

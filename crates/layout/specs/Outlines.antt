@@ -1,11 +1,10 @@
 -- FORMAT.md, F11 to F13: the outline of a module: its version, INFO's numbers and the spans of the covered chunks, or the first refusal of
 -- 1 to 10.
-use Rattle.std.specs.Prelude.{ℕ, ◌+◌, List, [], ◌∷◌, ◌++◌, Bool, true, false, cond, ◌&&◌, length, eqb}
+use Rattle.std.specs.Prelude.{ℕ, ◌+◌, List, [], ◌∷◌, ◌++◌, Bool, true, false, cond, ◌&&◌, length, eqb, ⊤, Result, Ok, Err}
+use Rattle.refusal.specs.declared.Refusal.{Refusal}
 use Rattle.refusal.specs.Numbers.{refusal, accepted_numbers, refused_numbers}
 use Rattle.refusal.specs.Rules.{first_broken}
 use Rattle.refusal.specs.declared.Reason.TheVariants.{Missing}
-use Rattle.refusal.specs.declared.Verdict.{Verdict}
-use Rattle.refusal.specs.declared.Verdict.TheVariants.{Accepted, Refused as VerdictRefused}
 use Rattle.numbers.specs.Numbers.{byte_at, number16}
 use Rattle.layout.specs.Header.{header_rules}
 use Rattle.layout.specs.Chunks.{name_identifier, info_identifier, song_identifier, inst_identifier, patt_identifier, smpl_identifier, venv_identifier}
@@ -13,8 +12,6 @@ use Rattle.layout.specs.Chunks.{penv_identifier, ChunkHeader, occurs, Walk, comp
 use Rattle.layout.specs.declared.ChunkSpan.{ChunkSpan}
 use Rattle.layout.specs.declared.ChunkSpans.{ChunkSpans}
 use Rattle.layout.specs.declared.Layout.{Layout}
-use Rattle.layout.specs.declared.Outline.{Outline}
-use Rattle.layout.specs.declared.Outline.TheVariants.{Found, Refused}
 
 -- The span of a chunk: an absent chunk, and a chunk with the given header.
 abbrev pub absent : ChunkSpan
@@ -60,17 +57,17 @@ mandatory_there cs =
     && (occurs song_identifier cs && (occurs inst_identifier cs && (occurs patt_identifier cs && occurs smpl_identifier cs)))
 
 -- F13: 8, after the chunks are read.
-abbrev pub outline_of : List ℕ → Walk → Outline
-outline_of m (stopped r) = Refused r
-outline_of m (complete cs) = cond (mandatory_there cs) (Found (layout_with m (spans_of cs))) (Refused (refusal Missing (length m)))
+abbrev pub outline_of : List ℕ → Walk → Result Layout Refusal
+outline_of m (stopped r) = Err r
+outline_of m (complete cs) = cond (mandatory_there cs) (Ok (layout_with m (spans_of cs))) (Err (refusal Missing (length m)))
 
 -- The refusal of a verdict, or the outline if it has none.
-abbrev pub outline_if : Verdict → Outline → Outline
-outline_if Accepted o = o
-outline_if (VerdictRefused r) o = Refused r
+abbrev pub outline_if : Result ⊤ Refusal → Result Layout Refusal → Result Layout Refusal
+outline_if (Ok _) o = o
+outline_if (Err r) o = Err r
 
 -- F11 to F13: 1, 2, 3; then chunk by chunk 4, 5, 4, 6, 7, 9, 10; then 8.
-abbrev pub outline : List ℕ → Outline
+abbrev pub outline : List ℕ → Result Layout Refusal
 outline m = outline_if (first_broken (header_rules m)) (outline_of m (chunks m))
 
 -- A span in numbers: 1 if the chunk is present, else 0; the place of its header; the length of its data.
@@ -91,6 +88,6 @@ layout_numbers l =
     ++ span_numbers l.spans.penv)))))))
 
 -- An outline in numbers: a layout has 31 values.
-abbrev pub outline_numbers : Outline → List ℕ
-outline_numbers (Found l) = accepted_numbers (layout_numbers l)
-outline_numbers (Refused r) = refused_numbers r 31
+abbrev pub outline_numbers : Result Layout Refusal → List ℕ
+outline_numbers (Ok l) = accepted_numbers (layout_numbers l)
+outline_numbers (Err r) = refused_numbers r 31

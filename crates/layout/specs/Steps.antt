@@ -1,5 +1,7 @@
 -- Definitions for the contracts of private functions. Of the chunks before a place, the walk knows only the spans of the covered ones.
-use Rattle.std.specs.Prelude.{ℕ, zero, suc, ◌+◌, ◌≡◌, List, [], ◌∷◌, Bool, true, cond, not, ◌&&◌, ◌||◌, length, eqb, leb}
+use Rattle.std.specs.Prelude.{ℕ, zero, suc, ◌+◌, ◌≡◌, List, [], ◌∷◌, Bool, true, cond, not, ◌&&◌, ◌||◌, length, eqb, leb, Result, Ok, Err}
+use Rattle.refusal.specs.declared.Refusal.{Refusal}
+use Rattle.layout.specs.declared.Layout.{Layout}
 use Rattle.refusal.specs.Numbers.{refusal}
 use Rattle.refusal.specs.Rules.{Rule, rule}
 use Rattle.refusal.specs.declared.Reason.TheVariants.{ChunkCut, Identifier, Repeated, BeforeInfo, Missing, FixedLength}
@@ -7,12 +9,8 @@ use Rattle.numbers.specs.Numbers.{number32}
 use Rattle.layout.specs.Chunks.{name_identifier, info_identifier, song_identifier, inst_identifier, patt_identifier, smpl_identifier, venv_identifier}
 use Rattle.layout.specs.Chunks.{penv_identifier, needs_info, covered, four_letters, info_rules, Walk, complete, stopped}
 use Rattle.layout.specs.Outlines.{spans_of, layout_with}
-use Rattle.layout.specs.declared.Outline.{Outline}
-use Rattle.layout.specs.declared.Outline.TheVariants.{Found, Refused as OutlineRefused}
 use Rattle.layout.specs.declared.ChunkSpan.{ChunkSpan}
 use Rattle.layout.specs.declared.ChunkSpans.{ChunkSpans}
-use Rattle.layout.specs.declared.walk.Walked.{Walked}
-use Rattle.layout.specs.declared.walk.Walked.TheVariants.{Whole, Refused}
 
 abbrev pub present_in : ChunkSpans → ℕ → Bool
 present_in p identifier =
@@ -65,13 +63,13 @@ OthersTo m zero at end = at ≡ end
 OthersTo m (suc n) at end = (is_other m at ≡ true) × OthersTo m n (at + 8 + number32 m (at + 4)) end
 
 -- The result of the walk over the chunks, with spans instead of headers.
-abbrev pub walked : Walk → Walked
-walked (complete cs) = Whole (spans_of cs)
-walked (stopped r) = Refused r
+abbrev pub walked : Walk → Result ChunkSpans Refusal
+walked (complete cs) = Ok (spans_of cs)
+walked (stopped r) = Err r
 
 -- Whether the mandatory chunks are present, and the outline after the chunks are read, by the spans of the covered chunks.
 abbrev pub all_present : ChunkSpans → Bool
 all_present p = p.info.present && (p.song.present && (p.inst.present && (p.patt.present && p.smpl.present)))
 
-abbrev pub outline_with : List ℕ → ChunkSpans → Outline
-outline_with m p = cond (all_present p) (Found (layout_with m p)) (OutlineRefused (refusal Missing (length m)))
+abbrev pub outline_with : List ℕ → ChunkSpans → Result Layout Refusal
+outline_with m p = cond (all_present p) (Ok (layout_with m p)) (Err (refusal Missing (length m)))

@@ -4,7 +4,7 @@ ghost use Rattle.refusal.specs.Rules.{first_broken};
 ghost use Rattle.layout.specs.Header.{header_fits, version_fits, header_rules};
 
 use numbers::{byte, number32};
-use refusal::{Reason, Verdict, refuse};
+use refusal::{Reason, Refusal, refuse};
 
 // Whether there are 8 bytes, beginning with DBM0.
 fn header_fits(m: &[u8]) -> bool
@@ -21,17 +21,17 @@ fn version_fits(version: u8, revision: u8) -> bool
 }
 
 // Checks size and header: 1, 2, 3.
-pub fn check_header(m: &[u8]) -> Verdict
+pub fn check_header(m: &[u8]) -> Result<(), Refusal>
     ensures { result ≡ first_broken (header_rules m.now) }
 {
     if 16777216 < m.len() {
-        return Verdict::Refused(refuse(Reason::TooLong, 0));
+        return Err(refuse(Reason::TooLong, 0));
     }
     if !header_fits(m) {
-        return Verdict::Refused(refuse(Reason::NotAModule, 0));
+        return Err(refuse(Reason::NotAModule, 0));
     }
     if !version_fits(byte(m, 4), byte(m, 5)) {
-        return Verdict::Refused(refuse(Reason::Version, 4));
+        return Err(refuse(Reason::Version, 4));
     }
-    Verdict::Accepted
+    Ok(())
 }

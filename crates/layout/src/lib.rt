@@ -11,11 +11,12 @@ ghost use Rattle.layout.specs.Outlines.{layout_with, outline, outline_numbers};
 ghost use Rattle.layout.specs.Steps.{all_present, outline_with};
 
 use crate::header::check_header;
-use crate::walk::{Walked, walk_chunks};
+use crate::walk::walk_chunks;
 use numbers::{byte, number16};
-use refusal::{Reason, Refusal, Verdict, refuse};
+use refusal::{Reason, Refusal, refuse};
 
-// The span of a chunk: the place of its header and the length of its data. All fields are 0 if the chunk is absent.
+// The span of a chunk: the place of its header and the length of its data. All fields are 0 if the chunk is absent. It is not an Option,
+// because `blocks` promises its answers for the 0 of an absent chunk too.
 #[derive(Clone, Copy)]
 pub struct ChunkSpan {
     pub present: bool,
@@ -49,13 +50,6 @@ pub struct Layout {
     pub spans: ChunkSpans,
 }
 
-// The layout of a module, or a refusal.
-#[derive(Clone, Copy)]
-pub enum Outline {
-    Found(Layout),
-    Refused(Refusal),
-}
-
 // Whether the mandatory chunks are present.
 fn all_present(p: ChunkSpans) -> bool
     ensures { result ≡ all_present p }
@@ -81,24 +75,20 @@ fn layout_with(m: &[u8], p: ChunkSpans) -> Layout
 }
 
 // The outline after the chunks are read: 8.
-fn with_mandatory(m: &[u8], p: ChunkSpans) -> Outline
+fn with_mandatory(m: &[u8], p: ChunkSpans) -> Result<Layout, Refusal>
     ensures { result ≡ outline_with m.now p }
 {
     if !all_present(p) {
-        return Outline::Refused(refuse(Reason::Missing, m.len()));
+        return Err(refuse(Reason::Missing, m.len()));
     }
-    Outline::Found(layout_with(m, p))
+    Ok(layout_with(m, p))
 }
 
 // The layout of a module: 1, 2, 3; then chunk by chunk 4, 5, 4, 6, 7, 9, 10; then 8.
-pub fn find(m: &[u8]) -> Outline
+pub fn find(m: &[u8]) -> Result<Layout, Refusal>
     ensures { IsAnswer outline_numbers result (outline m.now) }
 {
-    if let Verdict::Refused(r) = check_header(m) {
-        return Outline::Refused(r);
-    }
-    match walk_chunks(m) {
-        Walked::Whole(p) => with_mandatory(m, p),
-        Walked::Refused(r) => Outline::Refused(r),
-    }
+    check_header(m)?;
+    let p = walk_chunks(m)?;
+    with_mandatory(m, p)
 }

@@ -8,8 +8,9 @@ ghost use Rattle.layout.specs.Steps.{present_in, put_in, fixed_length_fits, is_o
 
 use crate::{ChunkSpan, ChunkSpans};
 use numbers::{byte, number16, number32};
-use refusal::{Reason, Refusal, Verdict, refuse};
+use refusal::{Reason, Refusal, refuse};
 
+// The identifiers of the covered chunks, as stored. They are numbers, because a chunk that is not covered has any other.
 const NAME: u32 = 0x4E414D45;
 
 const INFO: u32 = 0x494E464F;
@@ -25,13 +26,6 @@ const SMPL: u32 = 0x534D504C;
 const VENV: u32 = 0x56454E56;
 
 const PENV: u32 = 0x50454E56;
-
-// The result of the walk: the spans of the covered chunks, or a refusal.
-#[derive(Clone, Copy)]
-pub enum Walked {
-    Whole(ChunkSpans),
-    Refused(Refusal),
-}
 
 fn is_letter(byte: u8) -> bool
     ensures { result ≡ is_letter byte }
@@ -108,62 +102,68 @@ fn tracks_fit(tracks: u16) -> bool
 }
 
 // Checks the five numbers of INFO, whose data begin at a place: 10.
-fn check_info(m: &[u8], start: usize) -> Verdict
+fn check_info(m: &[u8], start: usize) -> Result<(), Refusal>
     requires { start < 0x100000000 }
     ensures { result ≡ first_broken (info_rules m.now start) }
 {
     if 255 < number16(m, start) {
-        return Verdict::Refused(refuse(Reason::InfoRange, start));
+        return Err(refuse(Reason::InfoRange, start));
     }
     if 255 < number16(m, start + 2) {
-        return Verdict::Refused(refuse(Reason::InfoRange, start + 2));
+        return Err(refuse(Reason::InfoRange, start + 2));
     }
     if 32767 < number16(m, start + 4) {
-        return Verdict::Refused(refuse(Reason::InfoRange, start + 4));
+        return Err(refuse(Reason::InfoRange, start + 4));
     }
     if 1024 < number16(m, start + 6) {
-        return Verdict::Refused(refuse(Reason::InfoRange, start + 6));
+        return Err(refuse(Reason::InfoRange, start + 6));
     }
     if !tracks_fit(number16(m, start + 8)) {
-        return Verdict::Refused(refuse(Reason::InfoRange, start + 8));
+        return Err(refuse(Reason::InfoRange, start + 8));
     }
-    Verdict::Accepted
+    Ok(())
 }
 
 // Checks a chunk whose header and data are complete: 6, 7, 9, 10.
-fn check_met(m: &[u8], at: usize, identifier: u32, length: u32, p: ChunkSpans) -> Verdict
+fn check_met(
+    m: &[u8],
+    at: usize,
+    identifier: u32,
+    length: u32,
+    p: ChunkSpans,
+) -> Result<(), Refusal>
     requires { at < 0x80000000 }
     ensures { result ≡ first_broken (met_rules m.now at identifier length p) }
 {
     if is_present(p, identifier) {
-        return Verdict::Refused(refuse(Reason::Repeated, at));
+        return Err(refuse(Reason::Repeated, at));
     }
     if needs_info(identifier) & !p.info.present {
-        return Verdict::Refused(refuse(Reason::BeforeInfo, at));
+        return Err(refuse(Reason::BeforeInfo, at));
     }
     if !length_fits(identifier, length) {
-        return Verdict::Refused(refuse(Reason::FixedLength, at));
+        return Err(refuse(Reason::FixedLength, at));
     }
     if identifier == INFO {
         return check_info(m, at + 8);
     }
-    Verdict::Accepted
+    Ok(())
 }
 
 // Checks the chunk at a place, by the spans of the covered chunks before it: 4, 5, 4, and then the rest.
-fn check_chunk(m: &[u8], at: usize, p: ChunkSpans) -> Verdict
+fn check_chunk(m: &[u8], at: usize, p: ChunkSpans) -> Result<(), Refusal>
     requires { (at < length m.now) × (length m.now ≤ 16777216) }
     ensures { result ≡ first_broken (placed_rules m.now at p) }
 {
     if m.len() < at + 8 {
-        return Verdict::Refused(refuse(Reason::ChunkCut, at));
+        return Err(refuse(Reason::ChunkCut, at));
     }
     if !four_letters(m, at) {
-        return Verdict::Refused(refuse(Reason::Identifier, at));
+        return Err(refuse(Reason::Identifier, at));
     }
     let length = number32(m, at + 4);
     if m.len() < at + 8 + length as usize {
-        return Verdict::Refused(refuse(Reason::ChunkCut, at));
+        return Err(refuse(Reason::ChunkCut, at));
     }
     check_met(m, at, number32(m, at), length, p)
 }
@@ -239,19 +239,17 @@ fn no_spans() -> ChunkSpans
 }
 
 // Walks over the chunks after the header.
-pub fn walk_chunks(m: &[u8]) -> Walked
+pub fn walk_chunks(m: &[u8]) -> Result<ChunkSpans, Refusal>
     requires { length m.now ≤ 16777216 }
     ensures { result ≡ walked (chunks m.now) }
 {
     let mut p = no_spans();
     let mut at = skip_others(m, 8);
     while at < m.len() {
-        if let Verdict::Refused(r) = check_chunk(m, at, p) {
-            return Walked::Refused(r);
-        }
+        check_chunk(m, at, p)?;
         let length = number32(m, at + 4);
         p = put(p, number32(m, at), header_span(at, length));
         at = skip_others(m, at + 8 + length as usize);
     }
-    Walked::Whole(p)
+    Ok(p)
 }

@@ -3,20 +3,11 @@
 
 #![tactic(auto)]
 
-ghost use Rattle.std.specs.Prelude.{◌≡◌, ◌≤◌, length, take};
+ghost use Rattle.std.specs.Prelude.{◌≡◌, ◌≤◌, length, take, IfOk};
 ghost use Rattle.io.specs.Counts.{IsPrefixLen};
 ghost use Rattle.listing.specs.Printed.{printed};
-ghost use Rattle.listing.specs.Inputs.{Inside};
 
-use listing_text::Listing;
-use std::io::Read;
-
-// The result of reading the input: the number of its bytes, or none if a read failed.
-#[derive(Clone, Copy)]
-enum Input {
-    Read(usize),
-    NotRead,
-}
+use std::io::{Read, Result};
 
 // Room for the input, and for one more byte, which shows that it is too big. The `ensures` gives the length, which lending the array as a
 // slice needs.
@@ -26,23 +17,19 @@ fn input_space() -> [u8; 65537]
     [0; 65537]
 }
 
-// Reads until the reader ends or there is no more room. A read that fails is distinguished from the end.
-fn read_input<R: Read>(reader: &mut R, input: &mut [u8]) -> Input
-    ensures { Inside result input.new }
+// Reads until the reader ends or there is no more room, and returns the number of bytes read. No contract can say which bytes are read.
+fn read_input<R: Read>(reader: &mut R, input: &mut [u8]) -> Result<usize>
+    ensures { IfOk result (λ n. IsPrefixLen n input.new) }
 {
-    let mut n: usize = 0;
+    let mut n = 0;
     while n < input.len() {
-        match reader.read(&mut input[n..]) {
-            Err(_) => return Input::NotRead,
-            Ok(more) => {
-                if more == 0 {
-                    return Input::Read(n);
-                }
-                n = n + more;
-            }
+        let more = reader.read(&mut input[n..])?;
+        if more == 0 {
+            break;
         }
+        n += more;
     }
-    Input::Read(n)
+    Ok(n)
 }
 
 // Writes bytes to the beginning of a text, and returns their number.
@@ -50,12 +37,9 @@ fn put(text: &mut [u8], bytes: &[u8]) -> usize
     requires { length bytes.now ≤ length text.old }
     ensures { (result ≡ length bytes.now) × (take result text.new ≡ bytes.now) }
 {
-    let mut i: usize = 0;
-    while i < bytes.len() {
-        text[i] = bytes[i];
-        i = i + 1;
-    }
-    i
+    let n = bytes.len();
+    text[..n].copy_from_slice(bytes);
+    n
 }
 
 // Writes the output for an input to the beginning of a text, and returns its length.
@@ -66,22 +50,20 @@ fn put_printed(text: &mut [u8], input: &[u8]) -> usize
     if 65536 < input.len() {
         return put(text, b"input too big\n");
     }
-    match listing_text::lines(input, text) {
-        Listing::Written(n) => n,
-        Listing::Refused(_) => 0,
-    }
+    // The text has room for every listing.
+    listing_text::lines(input, text).unwrap()
 }
 
 fn main(rt: HostRuntime) {
     let mut input = input_space();
     let mut reader = rt.reader();
     match read_input(&mut reader, &mut input) {
-        Input::Read(n) => {
+        Ok(n) => {
             let mut text = [0u8; 256];
             let k = put_printed(&mut text, &input[..n]);
             io::write_all(1, &text[..k]);
         }
-        Input::NotRead => {
+        Err(_) => {
             io::write_all(1, b"input not read\n");
         }
     }

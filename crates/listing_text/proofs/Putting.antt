@@ -1,12 +1,11 @@
 -- Writing to a text, one part after the other.
 use Prim.Native.Nat.{ℕ, suc, ◌+◌, ◌-◌, ◌/◌, ◌%◌, ◌<◌, ◌≤◌}
 use mathlib.Core.Path.{◌≡◌, refl, sym, ap, subst, ◌∙◌}
-use mathlib.Core.List.{List, [], ◌∷◌, ◌++◌, append_assoc, append-nil}
+use mathlib.Core.List.{List, ◌∷◌, ◌++◌, append_assoc, append-nil}
 use native.Mathlib.Omega.{arith}
-use native.Mathlib.Nat.{add-zero}
 use native.Mathlib.Numerals.{add-one}
-use lib.ListN.{length, get_or, take, drop, set, length-append, length-set, take-append-drop, drop_of_length-le}
-use lib.Seq.{append_snoc, drop-cons, drop-set-lt, get_or-set_same, length-take-le, take_all, take-set-le, take-set-lt, take-suc, take-suc-set, take-take}
+use lib.ListN.{length, take, drop, set, length-append, length-set, take-append-drop, drop_of_length-le}
+use lib.Seq.{append_snoc, drop-cons, drop-set-lt, get_or-set_same, length-take-le, take-set-le, take-set-lt, take-take}
 use Rattle.layout.specs.declared.Layout.{Layout}
 use Rattle.listing_text.specs.Lines.{ascii, digit, decimal, version_line, number_line, accepted_lines}
 use Rattle.listing_text.specs.Steps.{Put, count_lines}
@@ -21,10 +20,6 @@ put_both {text₀} {text₁} {text₂} {at} xs ys p q =
       place = omega (arith, length-append xs ys, p.place, q.place);
       front = q.front ∙ rw p.front (append_assoc (take at text₀) xs ys);
     }
-
--- Bytes that fill a text from its beginning to its end.
-pub put_whole : (text₀ xs text : List ℕ) (next : ℕ) → length text ≡ length xs → Put text₀ 0 xs text next → text ≡ xs
-put_whole text₀ xs text next l p = sym (take_all next text (omega (arith, p.place))) ∙ p.front
 
 -- The seven lines of an accepted module, from the version, the five numbers and the length.
 pub seven : {text₀ text₁ text₂ text₃ : List ℕ} {first second last : ℕ} (l : Layout) (bytes : ℕ)
@@ -41,26 +36,6 @@ seven {text₀} {text₃ = text₃} {last = last} l bytes p q r =
   where
     following : (a b c d e rest : List ℕ) → (a ++ (b ++ (c ++ (d ++ e)))) ++ rest ≡ a ++ (b ++ (c ++ (d ++ (e ++ rest))))
     following a b c d e rest = simp append_assoc
-
--- The bytes of a word, one after the other.
-pub word_first : (text : List ℕ) (at : ℕ) (word : List ℕ) → Put text at (take 0 word) text (at + 0)
-word_first text at word = record { place = refl; front = rw (add-zero at) (sym (append-nil (take at text))) }
-
-pub word-turn : {text₀ text : List ℕ} {at : ℕ} (word : List ℕ) (i : ℕ) → i < length word → at + i < length text
-    → Put text₀ at (take i word) text (at + i)
-    → Put text₀ at (take (i + 1) word) (set text (at + i) (get_or word i 0)) (at + (i + 1))
-word-turn {text₀} {text} {at} word i h k p =
-    let more : take (i + 1) word ≡ take i word ++ (get_or word i 0 ∷ []) = rw (add-one i) (take-suc word i 0 h) in
-    let place : at + (i + 1) ≡ suc (at + i) = omega arith in
-    record {
-      place = omega (arith, length-take-le (i + 1) word (omega arith));
-      front = rw (place, more, take-suc-set text (at + i) (get_or word i 0) k, p.front) (append_assoc (take at text₀) (take i word) (get_or word i 0 ∷ []));
-    }
-
-pub word-last : {text₀ text : List ℕ} {at : ℕ} (word : List ℕ) (i : ℕ) → length word ≤ i
-    → Put text₀ at (take i word) text (at + i)
-    → Put text₀ at word text (at + i)
-word-last word i h p = rw (take_all i word h) at p
 
 -- The digits of a number from the last to the first: the digits of `rest` are still to be written, the last of them at `to`. After it are
 -- the digits already written.

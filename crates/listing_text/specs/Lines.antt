@@ -1,17 +1,12 @@
 -- FORMAT.md, L1 to L3 (document 01, the listing program): the lines of a module as bytes, the answer of writing them to a lent output, and
 -- what the output then holds.
-use Rattle.std.specs.Prelude.{ℕ, zero, suc, ◌+◌, ◌/◌, ◌%◌, List, [], ◌∷◌, ◌++◌, cond, length, drop, ltb}
+use Rattle.std.specs.Prelude.{ℕ, zero, suc, ◌+◌, ◌/◌, ◌%◌, List, [], ◌∷◌, ◌++◌, cond, length, ltb, Result, Ok, Err}
 use Prim.Native.Char.{code}
 use Prim.Native.String.{String, [] as []ˢ, ◌∷◌ as ◌∷ˢ◌}
-use Rattle.refusal.specs.Numbers.{refusal, accepted_numbers, refused_numbers}
-use Rattle.refusal.specs.declared.Reason.TheVariants.{Room}
+use Rattle.refusal.specs.Lengths.{needed_if, output_written}
 use Rattle.refusal.specs.declared.Refusal.{Refusal}
 use Rattle.layout.specs.declared.Layout.{Layout}
-use Rattle.layout.specs.declared.Outline.{Outline}
-use Rattle.layout.specs.declared.Outline.TheVariants.{Found, Refused}
 use Rattle.module.specs.Verdicts.{opened}
-use Rattle.listing_text.specs.declared.Listing.{Listing}
-use Rattle.listing_text.specs.declared.Listing.TheVariants.{Written, Refused as ListingRefused}
 
 -- The byte of a decimal digit: 0 is 48.
 abbrev pub digit : ℕ → ℕ
@@ -59,32 +54,17 @@ accepted_lines l bytes =
 abbrev pub refused_line : Refusal → List ℕ
 refused_line r = ascii "refused " ++ (decimal r.number ++ (ascii " at " ++ (decimal r.place ++ ascii "\n")))
 
-abbrev pub lines_of : List ℕ → Outline → List ℕ
-lines_of m (Found l) = accepted_lines l (length m)
-lines_of m (Refused r) = refused_line r
+abbrev pub lines_of : List ℕ → Result Layout Refusal → List ℕ
+lines_of m (Ok l) = accepted_lines l (length m)
+lines_of m (Err r) = refused_line r
 
 -- L1, L2: the listing of a module.
 unfoldable pub listing : List ℕ → List ℕ
 listing m = lines_of m (opened m)
 
--- L3: writing a text to the given room: 17 with the text's length if the room is shorter, else the length.
-abbrev pub written_if : List ℕ → ℕ → Listing
-written_if text room =
-    cond (ltb room (length text)) (ListingRefused (refusal Room (length text))) (Written (length text))
-
--- The output after that: the text and then what was there before; on a refusal it is unchanged.
-abbrev pub output_written : Listing → List ℕ → List ℕ → List ℕ
-output_written (Written n) text out = text ++ drop n out
-output_written (ListingRefused r) text out = out
-
 -- L3: writing the listing of a module to the given room.
-abbrev pub lines_answer : List ℕ → ℕ → Listing
-lines_answer m room = written_if (listing m) room
+abbrev pub lines_answer : List ℕ → ℕ → Result ℕ Refusal
+lines_answer m room = needed_if (length (listing m)) room
 
 abbrev pub lines_output : List ℕ → List ℕ → List ℕ
 lines_output m out = output_written (lines_answer m (length out)) (listing m) out
-
--- F1: the answer of writing the listing in numbers: the value is the length written.
-abbrev pub listing_numbers : Listing → List ℕ
-listing_numbers (Written n) = accepted_numbers (n ∷ [])
-listing_numbers (ListingRefused r) = refused_numbers r 1

@@ -2,4 +2,3 @@ pub mod Loops
 pub mod Streams
 pub mod Verdicts
 pub mod Outputs
-pub mod Steps

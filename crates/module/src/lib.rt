@@ -4,7 +4,6 @@
 #![tactic(auto)]
 
 mod loops;
-mod passes;
 mod streams;
 
 ghost use Rattle.std.specs.Prelude.{◌≡◌};
@@ -14,9 +13,10 @@ ghost use Rattle.layout.specs.Outlines.{outline_numbers};
 ghost use Rattle.module.specs.Loops.{loop_kind, is_loop};
 ghost use Rattle.module.specs.Verdicts.{content_rules, opened, module_verdict};
 
-use crate::passes::{check_loops, check_streams};
-use layout::{Layout, Outline};
-use refusal::Verdict;
+use crate::loops::check_loops;
+use crate::streams::check_streams;
+use layout::Layout;
+use refusal::Refusal;
 
 // Whether an instrument with these flags and this loop length is looped.
 pub fn is_looped(flags: u16, length: u32) -> bool
@@ -26,40 +26,28 @@ pub fn is_looped(flags: u16, length: u32) -> bool
 }
 
 // Checks the content of the chunks: 11, then 12 and 13, then 14, then 15.
-fn check_content(m: &[u8], l: Layout) -> Verdict
+fn check_content(m: &[u8], l: Layout) -> Result<(), Refusal>
     ensures { result ≡ first_broken (content_rules m.now l) }
 {
-    if let Verdict::Refused(r) = blocks::check(m, l) {
-        return Verdict::Refused(r);
-    }
-    if let Verdict::Refused(r) = fields::check(m, l) {
-        return Verdict::Refused(r);
-    }
-    if let Verdict::Refused(r) = check_loops(m, l) {
-        return Verdict::Refused(r);
-    }
+    blocks::check(m, l)?;
+    fields::check(m, l)?;
+    check_loops(m, l)?;
     check_streams(m, l)
 }
 
 // The layout of an accepted module, or the module's own refusal.
-pub fn open(m: &[u8]) -> Outline
+pub fn open(m: &[u8]) -> Result<Layout, Refusal>
     ensures { IsAnswer outline_numbers result (opened m.now) }
 {
-    match layout::find(m) {
-        Outline::Found(l) => match check_content(m, l) {
-            Verdict::Accepted => Outline::Found(l),
-            Verdict::Refused(r) => Outline::Refused(r),
-        },
-        Outline::Refused(r) => Outline::Refused(r),
-    }
+    let l = layout::find(m)?;
+    check_content(m, l)?;
+    Ok(l)
 }
 
 // Checks a module.
-pub fn check(m: &[u8]) -> Verdict
+pub fn check(m: &[u8]) -> Result<(), Refusal>
     ensures { IsAnswer verdict_numbers result (module_verdict m.now) }
 {
-    match open(m) {
-        Outline::Found(_) => Verdict::Accepted,
-        Outline::Refused(r) => Verdict::Refused(r),
-    }
+    open(m)?;
+    Ok(())
 }

@@ -1,16 +1,16 @@
-// The loop of an instrument: refusal 14.
+// The loops of the instruments: refusal 14.
 ghost use Rattle.std.specs.Prelude.{◌≡◌, ◌<◌};
 ghost use Rattle.refusal.specs.Rules.{first_broken};
-ghost use Rattle.module.specs.Loops.{frames_of_sample, loop_fits, instrument_loop_rules};
+ghost use Rattle.module.specs.Loops.{frames_of_sample, loop_fits, loop_rules};
 
 use crate::is_looped;
 use blocks::stored::{
     instrument_flags, instrument_loop_length, instrument_loop_start, instrument_sample,
     sample_frames,
 };
-use blocks::{BlockKind, block_at};
-use layout::ChunkSpan;
-use refusal::{Reason, Verdict, refuse};
+use blocks::{BlockKind, block_at, places};
+use layout::{ChunkSpan, Layout};
+use refusal::{Reason, Refusal, refuse};
 
 // The number of frames of a sample; samples are counted from 1.
 fn frames(m: &[u8], chunk: ChunkSpan, sample: u16) -> u32
@@ -36,12 +36,14 @@ fn loop_fits(m: &[u8], chunk: ChunkSpan, at: usize) -> bool
         <= (frames(m, chunk, sample) as usize)
 }
 
-// Checks the loop of the instrument at a place.
-pub fn check_loop(m: &[u8], chunk: ChunkSpan, at: usize) -> Verdict
-    ensures { result ≡ first_broken (instrument_loop_rules m.now chunk at) }
+// Checks the loops of the instruments.
+pub fn check_loops(m: &[u8], l: Layout) -> Result<(), Refusal>
+    ensures { result ≡ first_broken (loop_rules m.now l) }
 {
-    if loop_fits(m, chunk, at) {
-        return Verdict::Accepted;
+    for at in places(m, BlockKind::Instrument, l.spans.inst, l.instruments) {
+        if !loop_fits(m, l.spans.smpl, at) {
+            return Err(refuse(Reason::Loop, at));
+        }
     }
-    Verdict::Refused(refuse(Reason::Loop, at))
+    Ok(())
 }

@@ -1,5 +1,6 @@
 -- Carrying out all rows of an accepted stream, one after the other, on an output that holds zeros.
 use Prim.Native.Nat.{ℕ, zero, suc, ◌+◌, ◌*◌}
+use Rattle.std.specs.Prelude.{Ok}
 use mathlib.Core.Path.{◌≡◌, refl, sym, ap, ◌∙◌}
 use mathlib.Core.List.{List, [], ◌∷◌, ◌++◌, append_assoc}
 use native.Mathlib.Omega.{arith}
@@ -7,7 +8,6 @@ use native.Mathlib.Nat.{zero-mul, suc-mul, add_comm}
 use lib.ListN.{length, take, drop, replicate, length-append, length-replicate, replicate-append-replicate}
 use lib.Seq.{take_at, drop_at}
 use Rattle.vocabulary.specs.Lists.{joined}
-use Rattle.refusal.specs.declared.Verdict.TheVariants.{Accepted}
 use Rattle.cells.specs.Cells.{Row, row_of, bytes_of, empty_cell, empty_row}
 use Rattle.packed_rows.specs.Entries.{Entry, carry_all, row_from, rows_from}
 use Rattle.packed_rows.specs.Stream.{Reading, whole, reading, read_stream, entries_read, cells_read}
@@ -37,7 +37,7 @@ pub record CarryingRows (s : List ℕ) (rows tracks : ℕ) (out : List ℕ) (at 
   pub gives : cells_read rows tracks s ≡ done ++ bytes_of (rows_from tracks later)
 
 module _ (s : List ℕ) (rows tracks : ℕ) where
-  pub rows-first : (out : List ℕ) → verdict_of_reading (read_stream rows tracks s) ≡ Accepted → out ≡ replicate (rows * (tracks * 6)) 0
+  pub rows-first : (out : List ℕ) → verdict_of_reading (read_stream rows tracks s) ≡ Ok tt → out ≡ replicate (rows * (tracks * 6)) 0
       → CarryingRows s rows tracks out 0 0 rows
   rows-first out ok zeros =
       let read = (accepted-reading (read_stream rows tracks s)).0 ok in
@@ -51,9 +51,6 @@ module _ (s : List ℕ) (rows tracks : ℕ) where
       }
 
   module _ (out : List ℕ) (at base left : ℕ) (state : CarryingRows s rows tracks out at base left) where
-    pub rows-length : length out ≡ base + left * (tracks * 6)
-    rows-length = ap length state.holds ∙ length-append state.done _ ∙ rw (length-replicate, state.base-is)
-
     pub rows_last : left ≡ 0 → out ≡ cells_read rows tracks s
     rows_last z =
         let read : reading tracks 0 at (drop at s) ≡ whole state.later = rw z at state.reads in

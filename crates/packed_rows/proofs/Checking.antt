@@ -1,5 +1,6 @@
 -- A row end or an entry at a place of a stream, and one iteration of the check's loop.
 use Prim.Native.Nat.{ℕ, suc, ◌+◌, ◌-◌, ◌<◌, ◌≤◌}
+use Rattle.std.specs.Prelude.{Ok, Err}
 use mathlib.Core.Path.{◌≡◌, refl, sym, ap, ◌∙◌}
 use mathlib.Core.List.{List, [], ◌∷◌, ◌++◌}
 use mathlib.Core.Bool.{true}
@@ -9,7 +10,6 @@ use lib.ListN.{length, get_or, drop, length-append, length-drop, drop_of_length-
 use lib.Seq.{drop-append_seam, drop-drop, get_or-drop, drop-cons}
 use Rattle.refusal.specs.Numbers.{refusal}
 use Rattle.refusal.specs.declared.Reason.TheVariants.{Stream}
-use Rattle.refusal.specs.declared.Verdict.TheVariants.{Accepted, Refused}
 use Rattle.packed_rows.specs.Entries.{Entry, entry_bytes, sound_entry}
 use Rattle.packed_rows.specs.Stream.{Front, nothing, row_end, entry, fault, front, Reading, broken_at, whole, new_row, add_entry, reading}
 use Rattle.packed_rows.specs.Answers.{verdict_of_reading}
@@ -79,10 +79,10 @@ module _ (s : List ℕ) (tracks rows left at n : ℕ) (some : left ≡ suc rows)
   length-of : {f : Front} → front tracks (drop at s) ≡ f → n ≡ front_length f
   length-of e = is ∙ ap front_length e
 
-  pub check-broken : n ≡ 0 → verdict_of_reading (reading tracks left at (drop at s)) ≡ Refused (refusal Stream at)
+  pub check-broken : n ≡ 0 → verdict_of_reading (reading tracks left at (drop at s)) ≡ Err (refusal Stream at)
   check-broken z = go (front tracks (drop at s)) refl
     where
-      go : (f : Front) → front tracks (drop at s) ≡ f → verdict_of_reading (reading tracks left at (drop at s)) ≡ Refused (refusal Stream at)
+      go : (f : Front) → front tracks (drop at s) ≡ f → verdict_of_reading (reading tracks left at (drop at s)) ≡ Err (refusal Stream at)
       go nothing e = rw some (ap verdict_of_reading (reading-nothing tracks rows at (drop at s) e))
       go fault e = rw some (ap verdict_of_reading (reading-fault tracks rows at (drop at s) e))
       go (row_end rest) e = absurd (omega (arith, length-of e))
@@ -122,10 +122,10 @@ module _ (s : List ℕ) (tracks rows left at n : ℕ) (some : left ≡ suc rows)
 
 -- With no row left: bytes left over, or the end.
 module _ (s : List ℕ) (tracks at : ℕ) where
-  pub check-over : at < length s → verdict_of_reading (reading tracks 0 at (drop at s)) ≡ Refused (refusal Stream at)
+  pub check-over : at < length s → verdict_of_reading (reading tracks 0 at (drop at s)) ≡ Err (refusal Stream at)
   check-over h = rw (drop-cons s at 0 h) (ap verdict_of_reading (reading-over tracks at (get_or s at 0) (drop (suc at) s)))
 
-  pub check-end : length s ≤ at → verdict_of_reading (reading tracks 0 at (drop at s)) ≡ Accepted
+  pub check-end : length s ≤ at → verdict_of_reading (reading tracks 0 at (drop at s)) ≡ Ok tt
   check-end h = rw (drop_of_length-le s h) (ap verdict_of_reading (reading-end tracks at))
 
 -- The front is inside the stream.

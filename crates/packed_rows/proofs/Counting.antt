@@ -1,19 +1,21 @@
 -- Counting fields that are not 0 and non-empty cells, part by part; and the six fields of a cell.
-use Prim.Native.Nat.{ℕ, zero, suc, ◌+◌, ◌-◌, ◌*◌, ◌<◌, ◌≤◌}
+use Prim.Native.Nat.{ℕ, zero, suc, ◌+◌, ◌*◌, ◌<◌, ◌≤◌}
 use mathlib.Core.Path.{◌≡◌, refl, sym, ap, ◌∙◌}
-use mathlib.Core.List.{List, [], ◌∷◌, ◌++◌}
+use mathlib.Core.List.{List, [], ◌∷◌, ◌++◌, append_assoc}
 use mathlib.Core.Bool.{Bool, true, false, cond, not, ◌||◌}
 use native.Mathlib.Omega.{arith}
-use native.Mathlib.Nat.{add-suc, zero-add, suc-mul, add_assoc}
+use native.Mathlib.Nat.{zero-mul, add-suc, zero-add, suc-mul, add_assoc}
 use native.Mathlib.Numerals.{add-one}
 use borrow.Author.Tests.{lt-ltb, eqb-true, eqb-false, not-false}
 use mir.Val.{bool_byte}
 use lib.Dec.{eqb, ltb}
-use lib.ListN.{length, get_or, take, drop, length-append, take-append-drop, drop_of_length-le}
+use lib.ListN.{take, take-append-drop, drop_of_length-le, length, get_or, drop, length-append}
 use lib.Seq.{drop-cons, drop-drop}
+use Rattle.std.specs.Simd.{first_chunks}
+use Rattle.vocabulary.specs.Lists.{joined}
 use Rattle.cells.specs.Cells.{groups_of, non_zeros, non_empty, non_empty_cells}
 use Rattle.packed_rows.specs.Packer.{non_zero}
-use Rattle.packed_rows.specs.Steps.{one_if, cell_at}
+use Rattle.packed_rows.specs.Steps.{cell_at}
 use Rattle.packed_rows.proofs.Storing.{non-zeros-append}
 
 -- The list of a value if it is kept, else the empty list.
@@ -35,10 +37,6 @@ non_zeros-first x xs = go (eqb x 0)
     go true = refl
     go false = refl
 
-pub non_zeros-count : (x : ℕ) (xs : List ℕ) → length (non_zeros (x ∷ xs)) ≡ one_if x + length (non_zeros xs)
-non_zeros-count x xs =
-    ap length (non_zeros-first x xs) ∙ rw (length-append (kept (non_zero x) x) (non_zeros xs), length-kept (non_zero x) x)
-
 pub one-le : (b : Bool) → cond b 1 0 ≤ 1
 one-le true = omega arith
 one-le false = omega arith
@@ -52,25 +50,33 @@ byte_one false = refl
 pub drop-next : (xs : List ℕ) (at k : ℕ) → at + k < length xs → drop (at + k) xs ≡ get_or xs (at + k) 0 ∷ drop (at + suc k) xs
 drop-next xs at k h = rw (add-suc at k) (drop-cons xs (at + k) 0 h)
 
-pub non_zeros-turn : (bytes : List ℕ) (i : ℕ) → i < length bytes
-    → length (non_zeros (drop i bytes)) ≡ one_if (get_or bytes i 0) + length (non_zeros (drop (i + 1) bytes))
-non_zeros-turn bytes i h = rw (add-one i, drop-cons bytes i 0 h) (non_zeros-count (get_or bytes i 0) (drop (suc i) bytes))
+-- The values that are not 0 in a list of two parts.
+pub non_zeros-parts : (xs ys : List ℕ) {all : List ℕ} → all ≡ xs ++ ys → length (non_zeros all) ≡ length (non_zeros xs) + length (non_zeros ys)
+non_zeros-parts xs ys e = rw (e, non-zeros-append xs ys) (length-append (non_zeros xs) (non_zeros ys))
 
-pub non_zeros-past : (bytes : List ℕ) (i : ℕ) → length bytes ≤ i → length (non_zeros (drop i bytes)) ≡ 0
-non_zeros-past bytes i h = rw (drop_of_length-le bytes h)
+-- Whole blocks of bytes, and the bytes after them; the blocks from one on, and what is not 0 in them.
+pub blocks-parts : (n k : ℕ) (xs : List ℕ) → joined (first_chunks n k xs) ++ drop (k * n) xs ≡ xs
+blocks-parts n zero xs = rw (zero-mul n) refl
+blocks-parts n (suc k) xs =
+    let place : suc k * n ≡ n + k * n = omega (arith, suc-mul k n) in
+    rw (place, ← (drop-drop (k * n) n xs))
+    (append_assoc (take n xs) (joined (first_chunks n k (drop n xs))) (drop (k * n) (drop n xs))
+    ∙ ap (take n xs ++◌) (blocks-parts n k (drop n xs))
+    ∙ take-append-drop n xs)
 
-pub non_zeros-part : (bytes : List ℕ) (at end : ℕ) → at ≤ end
-    → length (non_zeros (drop at bytes)) ≡ length (non_zeros (take (end - at) (drop at bytes))) + length (non_zeros (drop end bytes))
-non_zeros-part bytes at end h =
-    let n : ℕ = end - at in
-    let whole : at + n ≡ end = omega arith in
-    ap (λ (l : List ℕ). length (non_zeros l)) (sym (take-append-drop n (drop at bytes)))
-    ∙ rw (
-      non-zeros-append (take n (drop at bytes)) (drop n (drop at bytes)),
-      length-append (non_zeros (take n (drop at bytes))) (non_zeros (drop n (drop at bytes))),
-      drop-drop n at bytes,
-      whole,
-    )
+abbrev pub blocks_left : List (List ℕ) → List ℕ → ℕ → List ℕ
+blocks_left blocks rest i = joined (drop i blocks) ++ rest
+
+pub blocks-next : (blocks : List (List ℕ)) (rest : List ℕ) (i : ℕ) → i < length blocks
+    → length (non_zeros (blocks_left blocks rest i))
+    ≡ length (non_zeros (get_or blocks i [])) + length (non_zeros (blocks_left blocks rest (i + 1)))
+blocks-next blocks rest i h =
+    rw (add-one i, drop-cons blocks i [] h)
+    (non_zeros-parts (get_or blocks i []) (joined (drop (suc i) blocks) ++ rest)
+    (append_assoc (get_or blocks i []) (joined (drop (suc i) blocks)) rest))
+
+pub blocks-past : (blocks : List (List ℕ)) (rest : List ℕ) (i : ℕ) → length blocks ≤ i → blocks_left blocks rest i ≡ rest
+blocks-past blocks rest i h = rw (drop_of_length-le blocks {i = i} h) refl
 
 -- The six fields of a cell.
 pub cell-fields : (bytes : List ℕ) (at : ℕ) → at + 6 ≤ length bytes

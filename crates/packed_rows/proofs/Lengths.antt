@@ -1,14 +1,17 @@
 -- The table of entry lengths has at bits 0 to 5 of each mask the length of an entry with that mask. The number of fields that a mask names:
 -- at most 6, and the sum of the mask's bits 0 to 5.
-use Prim.Native.Nat.{ℕ, zero, suc, ◌+◌, ◌/◌, ◌%◌, ◌<◌, ◌≤◌}
+use Prim.Native.Nat.{ℕ, zero, suc, ◌+◌, ◌/◌, ◌%◌, ◌^◌, ◌<◌, ◌≤◌}
 use mathlib.Core.Path.{◌≡◌, refl, sym, ap, ◌∙◌}
 use mathlib.Core.List.{List, ◌∷◌}
 use mathlib.Core.Bool.{Bool, true, false}
 use native.Mathlib.Omega.{arith}
-use native.Mathlib.Nat.{add-zero, add-suc, suc-add}
+use native.Mathlib.Nat.{pow-suc, add-zero, add-suc, suc-add}
 use borrow.Author.Tests.{eqb-true, eqb-false}
 use lib.ListN.{get_or}
 use lib.Dec.{eqb}
+use lib.Count.{ones, ones_step}
+use Rattle.std.specs.Prelude.{bit_and}
+use Rattle.std.proofs.lemmas.Nat.{and_mask}
 use Rattle.packed_rows.specs.Entries.{bits, count, fields_named}
 use Rattle.packed_rows.specs.Steps.{entry_length, lengths_from, entry_lengths}
 use Rattle.packed_rows.proofs.Bits.{low_bits}
@@ -64,10 +67,13 @@ fields-named-bits mask =
     (count-bit (mask / 2 / 2 / 2 / 2) (bits 1 (mask / 2 / 2 / 2 / 2 / 2)))
     (count-bit (mask / 2 / 2 / 2 / 2 / 2) (bits 0 (mask / 2 / 2 / 2 / 2 / 2 / 2))))
 
--- The same sum, as the code has it.
-in_pairs : (a b c d e f : ℕ) → (a + b) + (c + d) + (e + f) ≡ a + b + c + d + e + f
-in_pairs a b c d e f = omega arith
+-- The set bits of a number below 2 ^ n, and of a number's lowest six.
+ones-bits : (n m : ℕ) → m < 2 ^ n → ones m ≡ count (bits n m)
+unfolding ones
+ones-bits zero m h = let none : m ≡ 0 = omega arith in rw none refl
+ones-bits (suc n) m h =
+    let half : m / 2 < 2 ^ n = omega (arith, pow-suc 2 n) in
+    ones_step m ∙ ap (m % 2 +◌) (ones-bits n (m / 2) half) ∙ sym (count-bit m (bits n (m / 2)))
 
-pub fields-in-pairs : (mask m : ℕ) → m ≡ mask
-    → (m % 2 + m / 2 % 2) + (m / 4 % 2 + m / 8 % 2) + (m / 16 % 2 + m / 32 % 2) ≡ fields_named mask
-fields-in-pairs mask m e = rw e (in_pairs _ _ _ _ _ _ ∙ sym (fields-named-bits mask))
+pub ones-named : (mask : ℕ) → ones (bit_and mask 63) ≡ fields_named mask
+ones-named mask = rw (and_mask mask 6) (ones-bits 6 (mask % 64) (omega arith) ∙ ap count (low_bits 6 mask))

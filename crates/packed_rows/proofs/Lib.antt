@@ -5,6 +5,7 @@ pub mod Grammar
 pub mod Fields
 pub mod Lengths
 pub mod Front
+pub mod Checked
 pub mod Checking
 pub mod Carrying
 pub mod CarryingRows

@@ -1,6 +1,6 @@
 -- Listing the differences of two cells, and of consecutive tracks of two rows.
 use Prim.Native.Nat.{ℕ, ◌+◌, ◌-◌, ◌*◌, ◌≤◌, ◌<◌}
-use mathlib.Core.Path.{◌≡◌, refl, sym, ap, ◌∙◌}
+use mathlib.Core.Path.{◌≡◌, sym, ap, ◌∙◌}
 use mathlib.Core.List.{List, [], ◌++◌}
 use mathlib.Core.Bool.{Bool, true, false, not}
 use native.Mathlib.Omega.{arith}
@@ -13,7 +13,7 @@ use Rattle.numbers.specs.Numbers.{each_from}
 use Rattle.cells.specs.Cells.{Cell}
 use Rattle.differences.specs.Differences.{difference_if, entries_listed}
 use Rattle.differences.specs.declared.Difference.{Difference}
-use Rattle.differences.proofs.Listing.{Listing, listing-first, listing-turn, listing-last, listing-length, listing-kept}
+use Rattle.differences.proofs.Listing.{Listing, listing-turn, listing-last, listing-length}
 use Rattle.packed_rows.specs.Comparing.{field_difference, cell_differences}
 use Rattle.packed_rows.specs.Steps.{cell_at}
 use Rattle.packed_rows.specs.ComparingSteps.{track_differences, tracks_differences}
@@ -23,9 +23,10 @@ use Rattle.packed_rows.proofs.EachFrom.{joined-first, joined-none, joined-empty,
 cell-byte : (bytes : List ℕ) (at j : ℕ) → j < 6 → get_or (cell_at bytes at) j 0 ≡ get_or bytes (at + j) 0
 cell-byte bytes at j small = get_or-take 6 (drop at bytes) j 0 small ∙ get_or-drop at bytes j 0
 
-cell_field : (a : List ℕ) (at field i : ℕ) → 1 ≤ field → field < 7 → i + 1 ≡ at + field → get_or (cell_at a at) (field - 1) 0 ≡ get_or a i 0
-cell_field a at field i low high place =
-    cell-byte a at (field - 1) (omega arith) ∙ ap (λ (k : ℕ). get_or a k 0) (let e : at + (field - 1) ≡ i = omega arith in e)
+cell_field : (bytes : List ℕ) (at j : ℕ) → j < 6 → get_or (cell_at bytes at) (j + 1 - 1) 0 ≡ get_or bytes (at + j) 0
+cell_field bytes at j small =
+    let same : j + 1 - 1 ≡ j = omega arith in
+    rw same (cell-byte bytes at j small)
 
 -- At most one entry for a field.
 if-most : (differs : Bool) (d : Difference) → length (difference_if differs d) ≤ 1
@@ -48,63 +49,44 @@ module _ (pattern row track : ℕ) where
       ap (λ (t : Bool). difference_if (not t) (record { kind = 8; number = pattern; row = row; track = track; field = field }))
       (eq-eqb _ _ (same (field - 1) (omega arith))))
 
--- The differences of the fields of the cells at a place, from one field on.
+-- The differences of the fields of the cells at a place, from one field on, counted from 0.
 abbrev pub fields_left : ℕ → ℕ → ℕ → List ℕ → List ℕ → ℕ → ℕ → List Difference
-fields_left pattern row track a b at field =
-    joined (each_from (field_difference pattern row track (cell_at a at) (cell_at b at)) field (7 - field))
+fields_left pattern row track a b at j =
+    joined (each_from (field_difference pattern row track (cell_at a at) (cell_at b at)) (j + 1) (6 - j))
 
 -- The loop over the fields of two cells: the differences of the fields from one on are left.
-pub record ListingCell (pattern row track : ℕ) (a b : List ℕ) (at n : ℕ) (out₀ out : List ℕ) (count i field : ℕ) : Type 0 where
-  pub low : 1 ≤ field
-  pub high : field ≤ 7
-  pub place : i + 1 ≡ at + field
+pub record ListingCell (pattern row track : ℕ) (a b : List ℕ) (at n : ℕ) (out₀ out : List ℕ) (count j : ℕ) : Type 0 where
   pub listing : Listing (cell_differences pattern row track (cell_at a at) (cell_at b at)) n out₀ out count
-      (fields_left pattern row track a b at field)
+      (fields_left pattern row track a b at j)
 
-module _ {pattern row track : ℕ} {a b : List ℕ} {at n : ℕ} {out₀ : List ℕ} where
-  pub cell-first : ListingCell pattern row track a b at n out₀ out₀ 0 at 1
-  cell-first = record {
-    low = omega arith;
-    high = omega arith;
-    place = refl;
-    listing = listing-first (cell_differences pattern row track (cell_at a at) (cell_at b at)) n out₀;
-  }
+module _ {pattern row track : ℕ} {a b : List ℕ} {at n : ℕ} {out₀ out : List ℕ} {count j : ℕ}
+    (state : ListingCell pattern row track a b at n out₀ out count j) where
+  pub cell-count : count ≤ 6
+  cell-count = omega (arith, listing-length state.listing, cell-most pattern row track (cell_at a at) (cell_at b at))
 
-  module _ {out : List ℕ} {count i field : ℕ} (state : ListingCell pattern row track a b at n out₀ out count i field) where
-    pub cell-count : count ≤ 6
-    cell-count = omega (arith, listing-length state.listing, cell-most pattern row track (cell_at a at) (cell_at b at))
+  pub cell-turn : j < 6 → (out' : List ℕ) (r : ℕ) (new : List Difference)
+      → new ≡ difference_if (not (eqb (get_or a (at + j) 0) (get_or b (at + j) 0)))
+      (record { kind = 8; number = pattern; row = row; track = track; field = j + 1 })
+      → r ≡ length new
+      → out' ≡ entries_listed new (n + count) out
+      → ListingCell pattern row track a b at n out₀ out' (count + r) (j + 1)
+  cell-turn more out' r new is size wrote =
+      let first : new ≡ field_difference pattern row track (cell_at a at) (cell_at b at) (j + 1) =
+      is ∙ rw (cell_field a at j more, cell_field b at j more) in
+      let splits : fields_left pattern row track a b at j ≡ new ++ fields_left pattern row track a b at (j + 1) =
+      joined-first (field_difference pattern row track (cell_at a at) (cell_at b at)) (6 - j) (6 - (j + 1)) (j + 1) (omega arith)
+      ∙ ap (λ (l : List Difference). l ++ fields_left pattern row track a b at (j + 1)) (sym first) in
+      record { listing = listing-turn state.listing new (fields_left pattern row track a b at (j + 1)) out' r splits size wrote }
 
-    pub cell-length : length out ≡ length out₀
-    cell-length = listing-kept state.listing
-
-    pub cell-turn : field < 7 → (out' : List ℕ) (r : ℕ) (new : List Difference)
-        → new ≡ difference_if (not (eqb (get_or a i 0) (get_or b i 0)))
-        (record { kind = 8; number = pattern; row = row; track = track; field = field })
-        → r ≡ length new
-        → out' ≡ entries_listed new (n + count) out
-        → ListingCell pattern row track a b at n out₀ out' (count + r) (i + 1) (field + 1)
-    cell-turn more out' r new is size wrote =
-        let first : new ≡ field_difference pattern row track (cell_at a at) (cell_at b at) field =
-        is ∙ rw (cell_field a at field i state.low more state.place, cell_field b at field i state.low more state.place) in
-        let splits : fields_left pattern row track a b at field ≡ new ++ fields_left pattern row track a b at (field + 1) =
-        joined-first (field_difference pattern row track (cell_at a at) (cell_at b at)) (7 - field) (7 - (field + 1)) field (omega arith)
-        ∙ ap (λ (l : List Difference). l ++ fields_left pattern row track a b at (field + 1)) (sym first) in
-        record {
-          low = omega arith;
-          high = omega arith;
-          place = omega (arith, state.place);
-          listing = listing-turn state.listing new (fields_left pattern row track a b at (field + 1)) out' r splits size wrote;
-        }
-
-    pub cell-last : 7 ≤ field
-        → (count ≡ length (cell_differences pattern row track (cell_at a at) (cell_at b at)))
-        × (count ≤ 6)
-        × (out ≡ entries_listed (cell_differences pattern row track (cell_at a at) (cell_at b at)) n out₀)
-    cell-last over =
-        let end : 7 - field ≡ 0 = omega arith in
-        let ends = listing-last state.listing
-        (joined-none (field_difference pattern row track (cell_at a at) (cell_at b at)) (7 - field) field end) in
-        (ends.0, cell-count, ends.1)
+  pub cell-last : 6 ≤ j
+      → (count ≡ length (cell_differences pattern row track (cell_at a at) (cell_at b at)))
+      × (count ≤ 6)
+      × (out ≡ entries_listed (cell_differences pattern row track (cell_at a at) (cell_at b at)) n out₀)
+  cell-last over =
+      let end : 6 - j ≡ 0 = omega arith in
+      let ends = listing-last state.listing
+      (joined-none (field_difference pattern row track (cell_at a at) (cell_at b at)) (6 - j) (j + 1) end) in
+      (ends.0, cell-count, ends.1)
 
 -- Consecutive tracks.
 module _ (pattern row : ℕ) where
@@ -137,50 +119,33 @@ tracks_left pattern row a b end track = tracks_differences pattern row a b (trac
 
 -- The loop over the tracks: the differences of the tracks from one on are left.
 pub record ListingTracks (pattern row : ℕ) (a b : List ℕ) (start end n : ℕ) (out₀ out : List ℕ) (count track : ℕ) : Type 0 where
-  pub low : start ≤ track
-  pub high : track ≤ end
   pub listing : Listing (tracks_differences pattern row a b (start + 1) (end - start)) n out₀ out count
       (tracks_left pattern row a b end track)
 
-module _ {pattern row : ℕ} {a b : List ℕ} {start end n : ℕ} {out₀ : List ℕ} where
-  pub tracks-first : start ≤ end → ListingTracks pattern row a b start end n out₀ out₀ 0 start
-  tracks-first order =
-      record {
-        low = omega arith;
-        high = order;
-        listing = listing-first (tracks_differences pattern row a b (start + 1) (end - start)) n out₀;
-      }
+module _ {pattern row : ℕ} {a b : List ℕ} {start end n : ℕ} {out₀ out : List ℕ} {count track : ℕ}
+    (state : ListingTracks pattern row a b start end n out₀ out count track) where
+  pub tracks-count : count ≤ (end - start) * 6
+  tracks-count = omega (arith, listing-length state.listing, tracks-most pattern row a b (end - start) (start + 1))
 
-  module _ {out : List ℕ} {count track : ℕ} (state : ListingTracks pattern row a b start end n out₀ out count track) where
-    pub tracks-count : count ≤ (end - start) * 6
-    tracks-count = omega (arith, listing-length state.listing, tracks-most pattern row a b (end - start) (start + 1))
+  pub tracks-turn : track < end → (out' : List ℕ) (r : ℕ)
+      → r ≡ length (cell_differences pattern row (track + 1) (cell_at a (track * 6)) (cell_at b (track * 6)))
+      → out' ≡ entries_listed (cell_differences pattern row (track + 1) (cell_at a (track * 6)) (cell_at b (track * 6))) (n + count) out
+      → ListingTracks pattern row a b start end n out₀ out' (count + r) (track + 1)
+  tracks-turn more out' r size wrote =
+      let new = cell_differences pattern row (track + 1) (cell_at a (track * 6)) (cell_at b (track * 6)) in
+      let here : track + 1 - 1 ≡ track = omega arith in
+      let first : track_differences pattern row a b (track + 1) ≡ new =
+      ap (λ (t : ℕ). cell_differences pattern row (track + 1) (cell_at a (t * 6)) (cell_at b (t * 6))) here in
+      let splits : tracks_left pattern row a b end track ≡ new ++ tracks_left pattern row a b end (track + 1) =
+      joined-first (track_differences pattern row a b) (end - track) (end - (track + 1)) (track + 1) (omega arith)
+      ∙ ap (λ (l : List Difference). l ++ tracks_left pattern row a b end (track + 1)) first in
+      record { listing = listing-turn state.listing new (tracks_left pattern row a b end (track + 1)) out' r splits size wrote }
 
-    pub tracks-length : length out ≡ length out₀
-    tracks-length = listing-kept state.listing
-
-    pub tracks-turn : track < end → (out' : List ℕ) (r : ℕ)
-        → r ≡ length (cell_differences pattern row (track + 1) (cell_at a (track * 6)) (cell_at b (track * 6)))
-        → out' ≡ entries_listed (cell_differences pattern row (track + 1) (cell_at a (track * 6)) (cell_at b (track * 6))) (n + count) out
-        → ListingTracks pattern row a b start end n out₀ out' (count + r) (track + 1)
-    tracks-turn more out' r size wrote =
-        let new = cell_differences pattern row (track + 1) (cell_at a (track * 6)) (cell_at b (track * 6)) in
-        let here : track + 1 - 1 ≡ track = omega arith in
-        let first : track_differences pattern row a b (track + 1) ≡ new =
-        ap (λ (t : ℕ). cell_differences pattern row (track + 1) (cell_at a (t * 6)) (cell_at b (t * 6))) here in
-        let splits : tracks_left pattern row a b end track ≡ new ++ tracks_left pattern row a b end (track + 1) =
-        joined-first (track_differences pattern row a b) (end - track) (end - (track + 1)) (track + 1) (omega arith)
-        ∙ ap (λ (l : List Difference). l ++ tracks_left pattern row a b end (track + 1)) first in
-        record {
-          low = omega (arith, state.low);
-          high = omega arith;
-          listing = listing-turn state.listing new (tracks_left pattern row a b end (track + 1)) out' r splits size wrote;
-        }
-
-    pub tracks-last : end ≤ track
-        → (count ≡ length (tracks_differences pattern row a b (start + 1) (end - start)))
-        × (count ≤ (end - start) * 6)
-        × (out ≡ entries_listed (tracks_differences pattern row a b (start + 1) (end - start)) n out₀)
-    tracks-last over =
-        let none_left : end - track ≡ 0 = omega arith in
-        let ends = listing-last state.listing (joined-none (track_differences pattern row a b) (end - track) (track + 1) none_left) in
-        (ends.0, tracks-count, ends.1)
+  pub tracks-last : end ≤ track
+      → (count ≡ length (tracks_differences pattern row a b (start + 1) (end - start)))
+      × (count ≤ (end - start) * 6)
+      × (out ≡ entries_listed (tracks_differences pattern row a b (start + 1) (end - start)) n out₀)
+  tracks-last over =
+      let none_left : end - track ≡ 0 = omega arith in
+      let ends = listing-last state.listing (joined-none (track_differences pattern row a b) (end - track) (track + 1) none_left) in
+      (ends.0, tracks-count, ends.1)

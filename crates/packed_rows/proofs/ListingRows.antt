@@ -1,5 +1,6 @@
 -- Listing the differences of the patterns that two accepted streams hold, row by row; and the answer of comparing, by the verdicts.
 use Prim.Native.Nat.{ℕ, zero, suc, ◌+◌, ◌-◌, ◌*◌, ◌≤◌, ◌<◌}
+use Rattle.std.specs.Prelude.{Ok, Err}
 use mathlib.Core.Path.{◌≡◌, refl, sym, ap, ◌∙◌}
 use mathlib.Core.List.{List, [], ◌∷◌, ◌++◌}
 use mathlib.Core.Bool.{true, ◌&&◌}
@@ -14,18 +15,16 @@ use Rattle.vocabulary.specs.Lists.{joined}
 use Rattle.vocabulary.proofs.EveryOne.{every_of}
 use Rattle.numbers.specs.Numbers.{each_from}
 use Rattle.refusal.specs.declared.Refusal.{Refusal}
-use Rattle.refusal.specs.declared.Verdict.TheVariants.{Accepted, Refused}
 use Rattle.cells.specs.Cells.{Cell, Row, empty_cell}
 use Rattle.differences.specs.Differences.{entries_listed}
 use Rattle.differences.specs.declared.Difference.{Difference}
-use Rattle.differences.proofs.Listing.{Listing, listing-first, listing-turn, listing-last, listing-length, listing-kept}
+use Rattle.differences.proofs.Listing.{Listing, listing-first, listing-turn, listing-last, listing-length}
 use Rattle.packed_rows.specs.Entries.{Entry, row_from}
 use Rattle.packed_rows.specs.Stream.{Reading, whole, reading, read_stream, entries_read}
 use Rattle.packed_rows.specs.Answers.{verdict_of_reading}
 use Rattle.packed_rows.specs.Comparing.{cell_differences, row_differences, pattern_differences, stream_differences, comparison_of}
 use Rattle.packed_rows.specs.Steps.{RowAhead, Carried, Loaded, rows_read, cell_at}
 use Rattle.packed_rows.specs.ComparingSteps.{track_differences, tracks_differences, AllMarked, Marked}
-use Rattle.packed_rows.specs.declared.Comparison.TheVariants.{Compared, Refused as ComparisonRefused}
 use Rattle.packed_rows.proofs.Reading.{and-true}
 use Rattle.packed_rows.proofs.ByVerdict.{accepted-reading, refused-reading}
 use Rattle.packed_rows.proofs.Grammar.{reads-exactly}
@@ -70,7 +69,7 @@ rows_of_entries s rows tracks = entries_read (read_stream rows tracks s)
 pub record RowsLeft (s : List ℕ) (rows tracks row at : ℕ) : Type 0 where
   pub follow : reading tracks (rows - row) at (drop at s) ≡ whole (drop row (rows_of_entries s rows tracks))
 
-module _ (s : List ℕ) (rows tracks : ℕ) (ok : verdict_of_reading (read_stream rows tracks s) ≡ Accepted) where
+module _ (s : List ℕ) (rows tracks : ℕ) (ok : verdict_of_reading (read_stream rows tracks s) ≡ Ok tt) where
   reads_all : read_stream rows tracks s ≡ whole (rows_of_entries s rows tracks)
   reads_all =
       let read = (accepted-reading (read_stream rows tracks s)).0 ok in
@@ -79,7 +78,7 @@ module _ (s : List ℕ) (rows tracks : ℕ) (ok : verdict_of_reading (read_strea
   all_there : length (rows_of_entries s rows tracks) ≡ rows
   all_there = ((reads-exactly rows tracks s (rows_of_entries s rows tracks)).0 reads_all).count
 
-module _ {s : List ℕ} {rows tracks : ℕ} (ok : verdict_of_reading (read_stream rows tracks s) ≡ Accepted) where
+module _ {s : List ℕ} {rows tracks : ℕ} (ok : verdict_of_reading (read_stream rows tracks s) ≡ Ok tt) where
   pub left-first : RowsLeft s rows tracks 0 0
   left-first = record { follow = rw (sub-zero rows) (reads_all s rows tracks ok) }
 
@@ -156,7 +155,7 @@ pub record ListingRows (a b : List ℕ) (rows tracks pattern : ℕ) (out₀ firs
       (differences_from a b rows tracks pattern row)
 
 module _ {a b : List ℕ} {rows tracks pattern : ℕ} {out₀ : List ℕ} where
-  module _ (ok : verdict_of_reading (read_stream rows tracks a) ≡ Accepted) (ok' : verdict_of_reading (read_stream rows tracks b) ≡ Accepted) where
+  module _ (ok : verdict_of_reading (read_stream rows tracks a) ≡ Ok tt) (ok' : verdict_of_reading (read_stream rows tracks b) ≡ Ok tt) where
     pub rows-first : {first second marks : List ℕ} → first ≡ replicate (tracks * 6) 0 → second ≡ replicate (tracks * 6) 0
         → length marks ≡ 32
         → ListingRows a b rows tracks pattern out₀ first second out₀ marks 0 0 0 0
@@ -186,9 +185,6 @@ module _ {a b : List ℕ} {rows tracks pattern : ℕ} {out₀ : List ℕ} where
       ap length state.second-zeros ∙ length-replicate (tracks * 6) 0,
     )
 
-    pub rows-length : length out ≡ length out₀
-    rows-length = listing-kept state.listing
-
     pub rows_last : rows ≤ row
         → (count ≡ length (stream_differences a b rows tracks pattern))
         × (out ≡ entries_listed (stream_differences a b rows tracks pattern) 0 out₀)
@@ -197,7 +193,7 @@ module _ {a b : List ℕ} {rows tracks pattern : ℕ} {out₀ : List ℕ} where
         listing-last state.listing (joined-none (differences_at a b rows tracks pattern) (rows - row) row end)
 
     -- Both rows are marked, and carried out on zeros.
-    module _ (ok : verdict_of_reading (read_stream rows tracks a) ≡ Accepted) (ok' : verdict_of_reading (read_stream rows tracks b) ≡ Accepted)
+    module _ (ok : verdict_of_reading (read_stream rows tracks a) ≡ Ok tt) (ok' : verdict_of_reading (read_stream rows tracks b) ≡ Ok tt)
         (some : row < rows) (first₁ second₁ : List ℕ) (after after' : ℕ) (carried : Carried a at first after first₁)
         (carried' : Carried b to second after' second₁) where
       line : first₁ ≡ joined (row_from tracks (get_or (rows_of_entries a rows tracks) row []))
@@ -263,23 +259,23 @@ take-zeros (suc n) zero h = absurd (omega arith)
 take-zeros (suc n) (suc m) h = ap (0 ∷◌) (take-zeros n m (omega arith))
 
 -- The answer of comparing, by the verdicts of the two streams.
-pub first-refused : (r other : Reading) (n : ℕ) (why : Refusal) → verdict_of_reading r ≡ Refused why → ComparisonRefused why ≡ comparison_of r other n
+pub first-refused : (r other : Reading) (n : ℕ) (why : Refusal) → verdict_of_reading r ≡ Err why → Err why ≡ comparison_of r other n
 first-refused r other n why e =
     let broken = refused-reading r why e in
-    ap ComparisonRefused broken.2 ∙ sym (ap (λ (q : Reading). comparison_of q other n) broken.1)
+    ap Err broken.2 ∙ sym (ap (λ (q : Reading). comparison_of q other n) broken.1)
 
-pub second-refused : (r other : Reading) (n : ℕ) (why : Refusal) → verdict_of_reading r ≡ Accepted → verdict_of_reading other ≡ Refused why
-    → ComparisonRefused why ≡ comparison_of r other n
+pub second-refused : (r other : Reading) (n : ℕ) (why : Refusal) → verdict_of_reading r ≡ Ok tt → verdict_of_reading other ≡ Err why
+    → Err why ≡ comparison_of r other n
 second-refused r other n why ok e =
     let read = (accepted-reading r).0 ok in
     let broken = refused-reading other why e in
-    ap ComparisonRefused broken.2
+    ap Err broken.2
     ∙ sym (ap (λ (q : Reading). comparison_of q other n) read.1 ∙ ap (λ (q : Reading). comparison_of (whole read.0) q n) broken.1)
 
-pub both_read : (r other : Reading) (n : ℕ) → verdict_of_reading r ≡ Accepted → verdict_of_reading other ≡ Accepted
-    → (count : ℕ) → count ≡ n → Compared count ≡ comparison_of r other n
+pub both_read : (r other : Reading) (n : ℕ) → verdict_of_reading r ≡ Ok tt → verdict_of_reading other ≡ Ok tt
+    → (count : ℕ) → count ≡ n → Ok count ≡ comparison_of r other n
 both_read r other n ok ok' count is =
     let read = (accepted-reading r).0 ok in
     let read' = (accepted-reading other).0 ok' in
-    ap Compared is
+    ap Ok is
     ∙ sym (ap (λ (q : Reading). comparison_of q other n) read.1 ∙ ap (λ (q : Reading). comparison_of (whole read.0) q n) read'.1)

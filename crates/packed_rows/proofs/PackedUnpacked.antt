@@ -1,6 +1,7 @@
 -- Cells packed into enough room, and what was written unpacked into enough room: the result is the cells, and the rest of both outputs is
 -- unchanged.
 use Prim.Native.Nat.{ℕ, ◌≤◌}
+use Rattle.std.specs.Prelude.{Ok}
 use mathlib.Core.Path.{◌≡◌}
 use mathlib.Core.List.{List, ◌++◌}
 use mathlib.Core.Bool.{true}
@@ -12,7 +13,6 @@ use Rattle.packed_rows.specs.Stream.{AcceptedAs}
 use Rattle.packed_rows.specs.Packer.{packed_stream, packed_length}
 use Rattle.packed_rows.specs.Answers.{pack_answer, pack_output}
 use Rattle.packed_rows.specs.Theorems.{written_to, PackedAndUnpacked}
-use Rattle.packed_rows.specs.declared.Packing.TheVariants.{Packed}
 use Rattle.packed_rows.proofs.Shortest.{round_trip}
 use Rattle.packed_rows.proofs.StreamLength.{packed-length}
 use Rattle.packed_rows.proofs.Unpacks.{unpacks-whole, unpacked-output}
@@ -29,7 +29,7 @@ module _ (rows tracks : ℕ) (cells out back : List ℕ) where
   front = written_to cells rows tracks out
 
   module _ (fit : sizes_fit rows tracks ≡ true) (sized : length cells ≡ cell_bytes rows tracks) (room : n ≤ length out) where
-    packs : pack_answer cells rows tracks (length out) ≡ Packed n
+    packs : pack_answer cells rows tracks (length out) ≡ Ok n
     packs = simp (fit, eq-eqb (length cells) (cell_bytes rows tracks) sized, le-ltb (length out) n room)
 
     packed : pack_output cells rows tracks out ≡ stream ++ drop n out

@@ -1,5 +1,6 @@
 -- Repacking an accepted stream one row at a time: the packed length and the packer's stream of the pattern that it holds.
 use Prim.Native.Nat.{ℕ, suc, ◌+◌, ◌*◌, ◌<◌, ◌≤◌}
+use Rattle.std.specs.Prelude.{Ok, Err}
 use mathlib.Core.Path.{◌≡◌, refl, sym, ap, ◌∙◌}
 use mathlib.Core.List.{List, [], ◌∷◌, ◌++◌}
 use native.Mathlib.Omega.{arith}
@@ -7,14 +8,13 @@ use native.Mathlib.Nat.{mul-le-mul}
 use lib.ListN.{length, take, drop}
 use lib.Seq.{take_all}
 use Rattle.vocabulary.specs.Lists.{joined}
+use Rattle.refusal.specs.Lengths.{needed_if}
 use Rattle.refusal.specs.declared.Refusal.{Refusal}
-use Rattle.refusal.specs.declared.Verdict.TheVariants.{Accepted, Refused}
 use Rattle.cells.specs.Cells.{Row, row_of, rows_of}
-use Rattle.packed_rows.specs.declared.Packing.TheVariants.{Refused as PackingRefused}
 use Rattle.packed_rows.specs.Entries.{Entry, row_from, rows_from, row_stream}
 use Rattle.packed_rows.specs.Stream.{Reading, reading, read_stream, entries_read, broken_at, whole}
 use Rattle.packed_rows.specs.Packer.{packed_entries, packed_stream, packed_length}
-use Rattle.packed_rows.specs.Answers.{verdict_of_reading, packed_if, repack_of_reading}
+use Rattle.packed_rows.specs.Answers.{verdict_of_reading, repack_of_reading}
 use Rattle.packed_rows.specs.Steps.{RowAhead, Loaded, rows_read}
 use Rattle.packed_rows.proofs.Grammar.{reads-exactly, reads-from}
 use Rattle.packed_rows.proofs.Shapes.{row-joined, row-from-shaped, rows-from-shaped}
@@ -65,7 +65,7 @@ pub none_left : (s : List ℕ) (tracks at left : ℕ) (later : List (List Entry)
 none_left s tracks at left [] reads z = refl
 none_left s tracks at left (es ∷ rest) reads z = absurd (omega (arith, ((reads-from left tracks at (drop at s) (es ∷ rest)).0 reads).count, z))
 
-pub all_read : (s : List ℕ) (rows tracks : ℕ) → verdict_of_reading (read_stream rows tracks s) ≡ Accepted
+pub all_read : (s : List ℕ) (rows tracks : ℕ) → verdict_of_reading (read_stream rows tracks s) ≡ Ok tt
     → (entries : List (List Entry)) × (read_stream rows tracks s ≡ whole entries) × (rows_read s rows tracks ≡ rows_from tracks entries)
 all_read s rows tracks ok =
     let read = (accepted-reading (read_stream rows tracks s)).0 ok in
@@ -88,12 +88,12 @@ pub record CountingRows (s : List ℕ) (rows tracks at length left : ℕ) : Type
   pub same : length + packed_length (rows_from tracks later) ≡ packed_length (rows_read s rows tracks)
 
 module _ (s : List ℕ) (rows tracks : ℕ) where
-  pub counting-first : verdict_of_reading (read_stream rows tracks s) ≡ Accepted → CountingRows s rows tracks 0 0 rows
+  pub counting-first : verdict_of_reading (read_stream rows tracks s) ≡ Ok tt → CountingRows s rows tracks 0 0 rows
   counting-first ok =
       let read = all_read s rows tracks ok in
       record { later = read.0; reads = read.1; same = omega (arith, ap packed_length read.2) }
 
-  pub repacked-small : verdict_of_reading (read_stream rows tracks s) ≡ Accepted → rows < 65536 → tracks < 255
+  pub repacked-small : verdict_of_reading (read_stream rows tracks s) ≡ Ok tt → rows < 65536 → tracks < 255
       → packed_length (rows_read s rows tracks) ≤ 65535 * 2033
   repacked-small ok few thin =
       let read = all_read s rows tracks ok in
@@ -135,7 +135,7 @@ pub record RepackingRows (s : List ℕ) (rows tracks : ℕ) (out₀ out : List �
   pub writing : Writing out₀ 0 (packed_stream (rows_read s rows tracks)) out to (packed_stream (rows_from tracks later))
 
 module _ (s : List ℕ) (rows tracks : ℕ) (out₀ : List ℕ) where
-  pub repacking-first : verdict_of_reading (read_stream rows tracks s) ≡ Accepted → RepackingRows s rows tracks out₀ out₀ 0 0 rows
+  pub repacking-first : verdict_of_reading (read_stream rows tracks s) ≡ Ok tt → RepackingRows s rows tracks out₀ out₀ 0 0 rows
   repacking-first ok =
       let read = all_read s rows tracks ok in
       record { later = read.0; reads = read.1; writing = rw read.2 (writing-first out₀ 0 (packed_stream (rows_from tracks read.0))) }
@@ -176,12 +176,12 @@ module _ (s : List ℕ) (rows tracks : ℕ) (out₀ : List ℕ) where
           }
 
 -- The answer of repacking, by the verdict of the stream.
-pub repack-refused : (r : Reading) (tracks room : ℕ) (why : Refusal) → verdict_of_reading r ≡ Refused why → PackingRefused why ≡ repack_of_reading r tracks room
+pub repack-refused : (r : Reading) (tracks room : ℕ) (why : Refusal) → verdict_of_reading r ≡ Err why → Err why ≡ repack_of_reading r tracks room
 repack-refused r tracks room why e =
     let broken = refused-reading r why e in
-    ap PackingRefused broken.2 ∙ sym (ap (λ (q : Reading). repack_of_reading q tracks room) broken.1)
+    ap Err broken.2 ∙ sym (ap (λ (q : Reading). repack_of_reading q tracks room) broken.1)
 
-pub repack-found : (r : Reading) (tracks room : ℕ) → verdict_of_reading r ≡ Accepted
-    → packed_if (packed_length (rows_from tracks (entries_read r))) room ≡ repack_of_reading r tracks room
+pub repack-found : (r : Reading) (tracks room : ℕ) → verdict_of_reading r ≡ Ok tt
+    → needed_if (packed_length (rows_from tracks (entries_read r))) room ≡ repack_of_reading r tracks room
 repack-found (broken_at p) tracks room e = absurd (let z : ◌≡◌ {A = ℕ} 0 1 = cc in omega arith)
 repack-found (whole rows) tracks room e = refl

@@ -1,5 +1,6 @@
 -- Skipping the first rows of an accepted stream.
 use Prim.Native.Nat.{ℕ, suc, ◌+◌, ◌-◌, ◌*◌, ◌<◌, ◌≤◌}
+use Rattle.std.specs.Prelude.{Ok, Err}
 use mathlib.Core.Path.{◌≡◌, refl, sym, ap, ◌∙◌}
 use mathlib.Core.List.{List, [], ◌∷◌}
 use native.Mathlib.Omega.{arith}
@@ -11,10 +12,8 @@ use lib.Dec.{leb, ltb}
 use borrow.Author.Tests.{leb-true, ltb-true}
 use Rattle.vocabulary.specs.Lists.{joined}
 use Rattle.refusal.specs.declared.Refusal.{Refusal}
-use Rattle.refusal.specs.declared.Verdict.TheVariants.{Accepted, Refused}
 use Rattle.cells.specs.Shown.{shown_cell}
 use Rattle.cells.specs.Cells.{Row, empty_cell, row_of}
-use Rattle.packed_rows.specs.declared.CellAnswer.TheVariants.{Found, Refused as CellRefused}
 use Rattle.packed_rows.specs.Entries.{Entry, row_from, rows_from}
 use Rattle.packed_rows.specs.Answers.{verdict_of_reading, cell_there, cell_of_reading}
 use Rattle.packed_rows.specs.Stream.{Reading, reading, broken_at, whole, read_stream, entries_read}
@@ -69,7 +68,7 @@ module _ (s : List ℕ) (n : ℕ) (all : MoreRows s n) where
           record { done = suc state.done; counts = omega (arith, state.counts, some); reads = skipped (all.tracks * 6) skips-ahead }
 
 -- One cell: the row after the skipped rows, and six of its bytes.
-module _ (s : List ℕ) (rows tracks row track : ℕ) (ok : verdict_of_reading (read_stream rows tracks s) ≡ Accepted)
+module _ (s : List ℕ) (rows tracks row track : ℕ) (ok : verdict_of_reading (read_stream rows tracks s) ≡ Ok tt)
     (there : cell_there rows tracks row track ≡ true) where
   abbrev read : (entries : List (List Entry)) × (read_stream rows tracks s ≡ whole entries)
   read = (accepted-reading (read_stream rows tracks s)).0 ok
@@ -112,17 +111,17 @@ module _ (s : List ℕ) (rows tracks row track : ℕ) (ok : verdict_of_reading (
         ∙ ap (λ (rs : List Row). get_or (get_or rs row []) (track - 1) empty_cell) (sym rows_are)
 
 -- The answer to a query for a cell, by the verdict of the stream.
-pub cell-refused : (r : Reading) (tracks row track : ℕ) (why : Refusal) → verdict_of_reading r ≡ Refused why
-    → CellRefused why ≡ cell_of_reading r tracks row track
+pub cell-refused : (r : Reading) (tracks row track : ℕ) (why : Refusal) → verdict_of_reading r ≡ Err why
+    → Err why ≡ cell_of_reading r tracks row track
 cell-refused r tracks row track why e =
     let broken = refused-reading r why e in
-    ap CellRefused broken.2 ∙ sym (ap (λ (q : Reading). cell_of_reading q tracks row track) broken.1)
+    ap Err broken.2 ∙ sym (ap (λ (q : Reading). cell_of_reading q tracks row track) broken.1)
 
-pub cell-found : (s : List ℕ) (rows tracks row track : ℕ) → verdict_of_reading (read_stream rows tracks s) ≡ Accepted
-    → Found (shown_cell (cell_read s rows tracks row track)) ≡ cell_of_reading (read_stream rows tracks s) tracks row track
+pub cell-found : (s : List ℕ) (rows tracks row track : ℕ) → verdict_of_reading (read_stream rows tracks s) ≡ Ok tt
+    → Ok (shown_cell (cell_read s rows tracks row track)) ≡ cell_of_reading (read_stream rows tracks s) tracks row track
 cell-found s rows tracks row track ok = go (read_stream rows tracks s) ok
   where
-    go : (r : Reading) → verdict_of_reading r ≡ Accepted
-        → Found (shown_cell (get_or (get_or (rows_from tracks (entries_read r)) row []) (track - 1) empty_cell)) ≡ cell_of_reading r tracks row track
+    go : (r : Reading) → verdict_of_reading r ≡ Ok tt
+        → Ok (shown_cell (get_or (get_or (rows_from tracks (entries_read r)) row []) (track - 1) empty_cell)) ≡ cell_of_reading r tracks row track
     go (broken_at p) e = absurd (let z : ◌≡◌ {A = ℕ} 0 1 = cc in omega arith)
     go (whole es) e = refl

@@ -28,6 +28,7 @@
 --
 -- The reader is `read_stream`, the packer `packed_stream`, the length `packed_length`: the definitions that the contracts cite.
 use Prim.Native.Nat.{ℕ, ◌+◌, ◌-◌, ◌*◌, ◌/◌, ◌%◌, ◌<◌, ◌≤◌}
+use Rattle.std.specs.Prelude.{Ok, Err}
 use mathlib.Core.Logic.{◌↔◌}
 use mathlib.Core.Path.{◌≡◌, refl}
 use mathlib.Core.List.{List, [], ◌++◌, map, foldr}
@@ -35,7 +36,6 @@ use mathlib.Core.Bool.{true}
 use lib.ListN.{length, get_or, take}
 use Rattle.refusal.specs.Numbers.{refusal}
 use Rattle.refusal.specs.declared.Reason.TheVariants.{Stream, Room}
-use Rattle.refusal.specs.declared.Verdict.TheVariants.{Accepted, Refused}
 use Rattle.cells.specs.Cells.{sizes_fit, cell_bytes, rows_of, groups_of, non_zeros, non_empty_cells}
 use Rattle.numbers.specs.Numbers.{each_from}
 use Rattle.packed_rows.specs.Entries.{Entry, fields_named, stream_of}
@@ -44,8 +44,6 @@ use Rattle.packed_rows.specs.Packer.{packed_entries, packed_stream, packed_lengt
 use Rattle.packed_rows.specs.Answers.{check_answer, unpack_answer, unpack_output, pack_answer}
 use Rattle.packed_rows.specs.Theorems.{all_sound, SoundStream, without_upper_bits, Reordered, SameButUpperBits, LastStored, StreamBroken}
 use Rattle.packed_rows.specs.Theorems.{PackedAndUnpacked, SameAnswers}
-use Rattle.packed_rows.specs.declared.Unpacking.TheVariants.{Unpacked}
-use Rattle.packed_rows.specs.declared.Packing.TheVariants.{Packed, Refused as PackingRefused}
 use Rattle.packed_rows.proofs.Grammar as Grammar
 use Rattle.packed_rows.proofs.Shortest as Shortest
 use Rattle.packed_rows.proofs.StreamLength as StreamLength
@@ -82,11 +80,11 @@ module _ (rows tracks : ℕ) where
   pub packed-length-at-most : (cells : List ℕ) → length cells ≡ cell_bytes rows tracks → packed_length (rows_of rows tracks cells) ≤ rows * (1 + 8 * tracks)
   packed-length-at-most = StreamLength.packed-length-at-most rows tracks
 
-  pub packed-length-answered : (cells : List ℕ) (room n : ℕ) → pack_answer cells rows tracks room ≡ Packed n → n ≡ packed_length (rows_of rows tracks cells)
+  pub packed-length-answered : (cells : List ℕ) (room n : ℕ) → pack_answer cells rows tracks room ≡ Ok n → n ≡ packed_length (rows_of rows tracks cells)
   packed-length-answered = Verdicts.pack-answers rows tracks
 
   pub packed-length-needed : (cells : List ℕ) (room n : ℕ)
-      → pack_answer cells rows tracks room ≡ PackingRefused (refusal Room n)
+      → pack_answer cells rows tracks room ≡ Err (refusal Room n)
       → n ≡ packed_length (rows_of rows tracks cells)
   packed-length-needed = Verdicts.pack-needs rows tracks
 
@@ -102,7 +100,7 @@ module _ (rows tracks : ℕ) where
 
   pub unpacks-exactly : (stream cells out : List ℕ) → sizes_fit rows tracks ≡ true → cell_bytes rows tracks ≤ length out
       → AcceptedAs rows tracks stream cells
-      ↔ ((unpack_answer stream rows tracks (length out) ≡ Unpacked (cell_bytes rows tracks))
+      ↔ ((unpack_answer stream rows tracks (length out) ≡ Ok (cell_bytes rows tracks))
       × (take (cell_bytes rows tracks) (unpack_output stream rows tracks out) ≡ cells))
   unpacks-exactly = Unpacks.unpacks-exactly rows tracks
 
@@ -123,7 +121,7 @@ module _ (rows tracks : ℕ) where
   reads-one = Grammar.reads-one rows tracks
 
   pub accepts-exactly : (stream : List ℕ) → sizes_fit rows tracks ≡ true
-      → (check_answer stream rows tracks ≡ Accepted) ↔ ((entries : List (List Entry)) × SoundStream rows tracks stream entries)
+      → (check_answer stream rows tracks ≡ Ok tt) ↔ ((entries : List (List Entry)) × SoundStream rows tracks stream entries)
   accepts-exactly = Verdicts.accepts-exactly rows tracks
 
   -- 7.
@@ -131,7 +129,7 @@ module _ (rows tracks : ℕ) where
   breaks-exactly = Grammar.refused-exactly rows tracks
 
   pub refuses-exactly : (stream : List ℕ) (place : ℕ) → sizes_fit rows tracks ≡ true
-      → (check_answer stream rows tracks ≡ Refused (refusal Stream place)) ↔ StreamBroken rows tracks stream place
+      → (check_answer stream rows tracks ≡ Err (refusal Stream place)) ↔ StreamBroken rows tracks stream place
   refuses-exactly = Verdicts.refuses-exactly rows tracks
 
   pub one_place : (stream : List ℕ) (place place' : ℕ) → StreamBroken rows tracks stream place → StreamBroken rows tracks stream place' → place ≡ place'

@@ -1,5 +1,6 @@
 -- The answer and the output of unpacking into enough room determine which streams hold which cells.
 use Prim.Native.Nat.{ℕ, ◌≤◌}
+use Rattle.std.specs.Prelude.{Ok, Err}
 use native.Mathlib.Omega.{arith}
 use mathlib.Core.Path.{◌≡◌, refl, sym, ◌∙◌}
 use mathlib.Core.Logic.{◌↔◌}
@@ -14,7 +15,6 @@ use Rattle.cells.specs.Cells.{sizes_fit, cell_bytes, bytes_of}
 use Rattle.packed_rows.specs.Entries.{rows_from}
 use Rattle.packed_rows.specs.Stream.{Reading, broken_at, whole, read_stream, AcceptedAs}
 use Rattle.packed_rows.specs.Answers.{verdict_of_reading, unpacked_if, unpack_answer, unpack_output}
-use Rattle.packed_rows.specs.declared.Unpacking.TheVariants.{Unpacked, Refused}
 use Rattle.packed_rows.proofs.Accepted.{accepted-length}
 
 module _ (rows tracks : ℕ) (stream out : List ℕ) (fit : sizes_fit rows tracks ≡ true) (room : cell_bytes rows tracks ≤ length out) where
@@ -24,7 +24,7 @@ module _ (rows tracks : ℕ) (stream out : List ℕ) (fit : sizes_fit rows track
   unpack-answer r q = simp (fit, le-ltb (length out) (cell_bytes rows tracks) room, q)
 
   module _ (cells : List ℕ) (accepted : AcceptedAs rows tracks stream cells) where
-    pub unpacks-whole : unpack_answer stream rows tracks (length out) ≡ Unpacked (cell_bytes rows tracks)
+    pub unpacks-whole : unpack_answer stream rows tracks (length out) ≡ Ok (cell_bytes rows tracks)
     unpacks-whole = unpack-answer (whole accepted.entries) accepted.read
 
     -- The output begins with the cells, and the rest of it is unchanged.
@@ -36,23 +36,23 @@ module _ (rows tracks : ℕ) (stream out : List ℕ) (fit : sizes_fit rows track
 
 pub unpacks-exactly : (rows tracks : ℕ) (stream cells out : List ℕ) → sizes_fit rows tracks ≡ true → cell_bytes rows tracks ≤ length out
     → AcceptedAs rows tracks stream cells
-    ↔ ((unpack_answer stream rows tracks (length out) ≡ Unpacked (cell_bytes rows tracks))
+    ↔ ((unpack_answer stream rows tracks (length out) ≡ Ok (cell_bytes rows tracks))
     × (take (cell_bytes rows tracks) (unpack_output stream rows tracks out) ≡ cells))
 unpacks-exactly rows tracks stream cells out fit room =
     (there, λ h. back (read_stream rows tracks stream) refl h.0 h.1)
   where
     there : AcceptedAs rows tracks stream cells
-        → (unpack_answer stream rows tracks (length out) ≡ Unpacked (cell_bytes rows tracks))
+        → (unpack_answer stream rows tracks (length out) ≡ Ok (cell_bytes rows tracks))
         × (take (cell_bytes rows tracks) (unpack_output stream rows tracks out) ≡ cells)
     there accepted =
         (unpacks-whole rows tracks stream out fit room cells accepted, unpacked-front rows tracks stream out fit room cells accepted)
 
     back : (r : Reading) → read_stream rows tracks stream ≡ r
-        → unpack_answer stream rows tracks (length out) ≡ Unpacked (cell_bytes rows tracks)
+        → unpack_answer stream rows tracks (length out) ≡ Ok (cell_bytes rows tracks)
         → take (cell_bytes rows tracks) (unpack_output stream rows tracks out) ≡ cells
         → AcceptedAs rows tracks stream cells
     back (broken_at p) q a t =
-        let refused : unpack_answer stream rows tracks (length out) ≡ Refused (refusal Stream p) =
+        let refused : unpack_answer stream rows tracks (length out) ≡ Err (refusal Stream p) =
         unpack-answer rows tracks stream out fit room (broken_at p) q in
         let z : ◌≡◌ {A = ℕ} 0 1 = cc in
         absurd (omega arith)

@@ -8,7 +8,7 @@ use native.Mathlib.Omega.{arith}
 use native.Mathlib.Nat.{add-zero, suc-mul}
 use native.Mathlib.Numerals.{add-one}
 use lib.ListN.{length, get_or, take, drop, set, length-append, length-set, drop_of_length-le}
-use lib.Seq.{drop-cons, drop-drop, take-suc-set, take-set-le, take_all, get_or-take, get_or-drop, length-take-le}
+use lib.Seq.{drop-cons, drop-drop, take-suc-set, take-set-le, take_all, get_or-take, get_or-drop}
 use Rattle.vocabulary.specs.Lists.{joined}
 use Rattle.cells.specs.Cells.{Cell, Row, groups_of, row_of, rows_of, non_zeros, non_empty}
 use Rattle.packed_rows.specs.Entries.{Entry, entry_bytes, row_stream}
@@ -156,41 +156,38 @@ module _ (row : List ℕ) where
 abbrev pub EntryFits : List ℕ → ℕ → List ℕ → ℕ → Type 0
 EntryFits row from out at = (from + 6 ≤ length row) × (at + 2 + length (non_zeros (cell_at row from)) < length out)
 
-module _ (row list : List ℕ) (n i from : ℕ) where
-  entries-first : i < n → n ≤ length list → from ≡ get_or list i 0 * 6
-      → entries_at row (drop i (take n list))
-      ≡ entry_bytes (packed_entry (get_or list i 0 + 1) (cell_at row from)) ++ entries_at row (drop (i + 1) (take n list))
-  entries-first h k e =
-      rw (e, add-one i, drop-cons (take n list) i 0 (omega (arith, length-take-le n list k)), get_or-take n list i 0 h)
+module _ (row list : List ℕ) (i from : ℕ) (h : i < length list) (e : from ≡ get_or list i 0 * 6) where
+  entries-first : entries_at row (drop i list)
+      ≡ entry_bytes (packed_entry (get_or list i 0 + 1) (cell_at row from)) ++ entries_at row (drop (i + 1) list)
+  entries-first = rw (e, add-one i, drop-cons list i 0 h)
 
   module _ {out₀ : List ℕ} {to : ℕ} {all out : List ℕ} {at : ℕ} where
-    pub entries_fit : i < n → n ≤ length list → from ≡ get_or list i 0 * 6 → TracksInside row (take n list)
-        → to + length all < length out₀ → Writing out₀ to all out at (entries_at row (drop i (take n list)))
+    pub entries_fit : TracksInside row list → to + length all < length out₀
+        → Writing out₀ to all out at (entries_at row (drop i list))
         → EntryFits row from out at
-    entries_fit h k e l r w =
-        let there : get_or list i 0 * 6 + 6 ≤ length row =
-        rw (get_or-take n list i 0 h) at (listed_at row (take n list) i l (omega (arith, length-take-le n list k))) in
-        let room = writing-room out₀ to all (entry_bytes (packed_entry (get_or list i 0 + 1) (cell_at row from))) _ _ w (entries-first h k e) in
+    entries_fit l r w =
+        let there = listed_at row list i l h in
+        let room = writing-room out₀ to all (entry_bytes (packed_entry (get_or list i 0 + 1) (cell_at row from))) _ _ w entries-first in
         (omega arith, omega (arith, w.room))
 
-    pub entries-turn : (track mask : ℕ) {out' : List ℕ} {at' : ℕ} → i < n → n ≤ length list → from ≡ get_or list i 0 * 6
-        → track ≡ get_or list i 0 + 1 → mask ≡ (packed_entry 0 (cell_at row from)).mask → EntryFits row from out at
-        → Writing out₀ to all out at (entries_at row (drop i (take n list))) → length out' ≡ length out
+    pub entries-turn : (track mask : ℕ) {out' : List ℕ} {at' : ℕ} → track ≡ get_or list i 0 + 1
+        → mask ≡ (packed_entry 0 (cell_at row from)).mask → EntryFits row from out at
+        → Writing out₀ to all out at (entries_at row (drop i list)) → length out' ≡ length out
         → at' ≡ at + 2 + length (non_zeros (cell_at row from))
         → take at' out' ≡ take (at + 2) (set (set out at track) (at + 1) mask) ++ non_zeros (cell_at row from)
-        → Writing out₀ to all out' at' (entries_at row (drop (i + 1) (take n list)))
-    entries-turn track mask h k e t m r w l p q =
+        → Writing out₀ to all out' at' (entries_at row (drop (i + 1) list))
+    entries-turn track mask t m r w l p q =
         let fields : List ℕ = non_zeros (cell_at row from) in
-        let rest : List ℕ = entries_at row (drop (i + 1) (take n list)) in
-        let w₀ : Writing out₀ to all out at (track ∷ mask ∷ (fields ++ rest)) = rw (t, m, ← (entries-first h k e)) w in
+        let rest : List ℕ = entries_at row (drop (i + 1) list) in
+        let w₀ : Writing out₀ to all out at (track ∷ mask ∷ (fields ++ rest)) = rw (t, m, ← entries-first) w in
         let w₁ : Writing out₀ to all (set out at track) (at + 1) (mask ∷ (fields ++ rest)) =
         writing-kept out₀ to all true track (mask ∷ (fields ++ rest)) w₀ (omega arith) refl in
         let w₂ : Writing out₀ to all (set (set out at track) (at + 1) mask) (at + 2) (fields ++ rest) =
         writing-kept out₀ to all true mask (fields ++ rest) w₁ (simp length-set (omega arith)) (omega arith) in
         writing_more out₀ to all fields rest w₂ (simp length-set l) p q
 
-pub entries-past : (row list : List ℕ) (n i : ℕ) → n ≤ i → n ≤ length list → entries_at row (drop i (take n list)) ≡ []
-entries-past row list n i h k = rw (drop_of_length-le (take n list) {i = i} (omega (arith, length-take-le n list k)))
+pub entries-past : (row list : List ℕ) (i : ℕ) → length list ≤ i → entries_at row (drop i list) ≡ []
+entries-past row list i h = rw (drop_of_length-le list {i = i} h)
 
 -- The row end is written after the entries of a row.
 module _ (row : List ℕ) (tracks : ℕ) (out₀ : List ℕ) (to : ℕ) {listed : List ℕ} (e : listed ≡ filled_tracks 0 (row_of tracks row)) where
@@ -210,43 +207,36 @@ module _ (row : List ℕ) (tracks : ℕ) (out₀ : List ℕ) (to : ℕ) {listed 
       let w : Writing out₀ to all out end (0 ∷ []) = writing_more out₀ to all entries (0 ∷ []) (writing-first out₀ to all) l (rw same at p) (rw same at q) in
       writing-last out₀ to all [] (writing-kept out₀ to all true 0 [] w h refl) refl
 
--- n parts of one size are n - 1 parts and one more.
-pub mul-less : (left size : ℕ) → 0 < left → left * size ≡ (left - 1) * size + size
-mul-less zero size h = absurd (omega arith)
-mul-less (suc left) size h =
-    let less : suc left - 1 ≡ left = omega arith in
-    rw less (suc-mul left size)
-
 -- The next row of a pattern is written.
-module _ (cells : List ℕ) (from left tracks : ℕ) where
+module _ (cells : List ℕ) (row rows tracks : ℕ) (h : row < rows) where
+  abbrev from : ℕ
+  from = row * (tracks * 6)
+
   abbrev pub next_row : List ℕ
   next_row = row_stream (packed_entries (row_of tracks (take (from + tracks * 6 - from) (drop from cells))))
 
-  rows-first : 0 < left
-      → packed_stream (rows_of left tracks (drop from cells)) ≡ next_row ++ packed_stream (rows_of (left - 1) tracks (drop (from + tracks * 6) cells))
-  rows-first h =
-      let more : left ≡ suc (left - 1) = omega arith in
-      go (left - 1) more
-    where
-      go : (less : ℕ) → left ≡ suc less
-          → packed_stream (rows_of left tracks (drop from cells)) ≡ next_row ++ packed_stream (rows_of less tracks (drop (from + tracks * 6) cells))
-      go less e =
-          let cut : from + tracks * 6 - from ≡ tracks * 6 = omega arith in
-          rw (e, cut, drop-drop (tracks * 6) from cells)
+  rows-first : packed_stream (rows_of (rows - row) tracks (drop from cells))
+      ≡ next_row ++ packed_stream (rows_of (rows - (row + 1)) tracks (drop ((row + 1) * (tracks * 6)) cells))
+  rows-first =
+      let some : rows - row ≡ suc (rows - (row + 1)) = omega arith in
+      let cut : from + tracks * 6 - from ≡ tracks * 6 = omega arith in
+      let next : (row + 1) * (tracks * 6) ≡ from + tracks * 6 = omega arith in
+      rw (some, cut, next, drop-drop (tracks * 6) from cells)
 
-  module _ {out₀ : List ℕ} {to : ℕ} {all out : List ℕ} {at : ℕ} where
-    pub rows-room : 0 < left → Writing out₀ to all out at (packed_stream (rows_of left tracks (drop from cells))) → at + length next_row ≤ to + length all
-    rows-room h w = writing-room out₀ to all next_row _ _ w (rows-first h)
+  module _ {out₀ : List ℕ} {to : ℕ} {all out : List ℕ} {at : ℕ}
+      (w : Writing out₀ to all out at (packed_stream (rows_of (rows - row) tracks (drop from cells)))) where
+    pub rows-room : at + length next_row ≤ to + length all
+    rows-room = writing-room out₀ to all next_row _ _ w rows-first
 
-    pub rows-turn : {out' : List ℕ} {at' : ℕ} → 0 < left
-        → Writing out₀ to all out at (packed_stream (rows_of left tracks (drop from cells))) → length out' ≡ length out
-        → at' ≡ at + length next_row → take at' out' ≡ take at out ++ next_row
-        → Writing out₀ to all out' at' (packed_stream (rows_of (left - 1) tracks (drop (from + tracks * 6) cells)))
-    rows-turn h w l p q = writing_more out₀ to all next_row _ (rw (rows-first h) at w) l p q
+    pub rows-turn : {out' : List ℕ} {at' : ℕ} → length out' ≡ length out → at' ≡ at + length next_row
+        → take at' out' ≡ take at out ++ next_row
+        → Writing out₀ to all out' at' (packed_stream (rows_of (rows - (row + 1)) tracks (drop ((row + 1) * (tracks * 6)) cells)))
+    rows-turn l p q = writing_more out₀ to all next_row _ (rw rows-first at w) l p q
 
-pub rows_last : (cells : List ℕ) (from left tracks : ℕ) (out₀ all out : List ℕ) (at : ℕ) → left ≡ 0 → length out₀ ≡ length all
-    → Writing out₀ 0 all out at (packed_stream (rows_of left tracks (drop from cells)))
+pub rows_last : (cells : List ℕ) (row rows tracks : ℕ) (out₀ all out : List ℕ) (at : ℕ) → rows ≤ row → length out₀ ≡ length all
+    → Writing out₀ 0 all out at (packed_stream (rows_of (rows - row) tracks (drop (row * (tracks * 6)) cells)))
     → out ≡ all
-rows_last cells from left tracks out₀ all out at z l w =
-    let end = writing-last out₀ 0 all _ w (rw z) in
+rows_last cells row rows tracks out₀ all out at h l w =
+    let none : rows - row ≡ 0 = omega arith in
+    let end = writing-last out₀ 0 all _ w (rw none) in
     sym (take_all at out (omega (arith, w.room, end.0))) ∙ end.1

@@ -1,8 +1,9 @@
 -- FORMAT.md, G5 and G6 (document 02, K2, "Compare two modules"): the differences of two patterns that have the same rows and tracks, field
 -- by field, and the answer of comparing two streams. A pattern is a list of rows; rows are counted from 0, tracks and fields from 1.
-use Rattle.std.specs.Prelude.{ℕ, ◌-◌, List, [], ◌∷◌, cond, not, length, get_or, eqb}
+use Rattle.std.specs.Prelude.{ℕ, ◌-◌, List, [], cond, not, length, get_or, eqb, Result, Ok, Err}
+use Rattle.refusal.specs.declared.Refusal.{Refusal}
 use Rattle.vocabulary.specs.Lists.{joined}
-use Rattle.refusal.specs.Numbers.{refusal, accepted_numbers, refused_numbers}
+use Rattle.refusal.specs.Numbers.{refusal}
 use Rattle.refusal.specs.declared.Reason.TheVariants.{Stream, Sizes}
 use Rattle.cells.specs.Cells.{Cell, Row, sizes_fit, empty_cell}
 use Rattle.numbers.specs.Numbers.{each_from}
@@ -10,8 +11,6 @@ use Rattle.differences.specs.Differences.{difference_if, entries_listed}
 use Rattle.differences.specs.declared.Difference.{Difference}
 use Rattle.packed_rows.specs.Entries.{rows_from}
 use Rattle.packed_rows.specs.Stream.{Reading, broken_at, whole, read_stream, entries_read}
-use Rattle.packed_rows.specs.declared.Comparison.{Comparison}
-use Rattle.packed_rows.specs.declared.Comparison.TheVariants.{Compared, Refused}
 
 -- G5: "a differing cell field (1 to 6)", in a pattern, a row and a track. The kind of a pattern is 8.
 abbrev pub field_difference : ℕ → ℕ → ℕ → Cell → Cell → ℕ → List Difference
@@ -38,27 +37,22 @@ stream_differences a b rows tracks pattern =
     (rows_from tracks (entries_read (read_stream rows tracks b)))
 
 -- The first stream's refusal, then the second's, else the number of entries.
-abbrev pub comparison_of : Reading → Reading → ℕ → Comparison
-comparison_of (broken_at p) other entries = Refused (refusal Stream p)
-comparison_of (whole rows) (broken_at p) entries = Refused (refusal Stream p)
-comparison_of (whole rows) (whole others) entries = Compared entries
+abbrev pub comparison_of : Reading → Reading → ℕ → Result ℕ Refusal
+comparison_of (broken_at p) other entries = Err (refusal Stream p)
+comparison_of (whole rows) (broken_at p) entries = Err (refusal Stream p)
+comparison_of (whole rows) (whole others) entries = Ok entries
 
 -- G6: comparing two streams: 16, the first stream's 15, the second stream's 15.
-abbrev pub compare_streams_answer : List ℕ → List ℕ → ℕ → ℕ → ℕ → Comparison
+abbrev pub compare_streams_answer : List ℕ → List ℕ → ℕ → ℕ → ℕ → Result ℕ Refusal
 compare_streams_answer a b rows tracks pattern =
-    cond (not (sizes_fit rows tracks)) (Refused (refusal Sizes 0))
+    cond (not (sizes_fit rows tracks)) (Err (refusal Sizes 0))
     (comparison_of (read_stream rows tracks a) (read_stream rows tracks b) (length (stream_differences a b rows tracks pattern)))
 
 -- The output afterwards: on success the entries for which there is room, on a refusal what was there before.
-abbrev pub output_compared : Comparison → List Difference → List ℕ → List ℕ
-output_compared (Compared n) entries out = entries_listed entries 0 out
-output_compared (Refused r) entries out = out
+abbrev pub output_compared : Result ℕ Refusal → List Difference → List ℕ → List ℕ
+output_compared (Ok n) entries out = entries_listed entries 0 out
+output_compared (Err r) entries out = out
 
 abbrev pub compare_streams_output : List ℕ → List ℕ → ℕ → ℕ → ℕ → List ℕ → List ℕ
 compare_streams_output a b rows tracks pattern out =
     output_compared (compare_streams_answer a b rows tracks pattern) (stream_differences a b rows tracks pattern) out
-
--- F1: the answer in numbers: the value is the number of entries.
-abbrev pub comparison_numbers : Comparison → List ℕ
-comparison_numbers (Compared n) = accepted_numbers (n ∷ [])
-comparison_numbers (Refused r) = refused_numbers r 1

@@ -1,6 +1,6 @@
 -- The terms that the theorems of proofs/Theorems.antt use besides those of the reader and the packer. None of them reads a stream, except
 -- the last two records, which are about the answers of calls.
-use Rattle.std.specs.Prelude.{ℕ, ◌%◌, ◌≤◌, ◌<◌, ◌≡◌, Bool, true, false, ◌&&◌, length, get_or, take, drop, eqb}
+use Rattle.std.specs.Prelude.{ℕ, ◌%◌, ◌≤◌, ◌<◌, ◌≡◌, Bool, true, false, ◌&&◌, length, get_or, take, drop, eqb, Ok}
 use mathlib.Core.List.{List, [], ◌∷◌, ◌++◌, map, Permᴰ}
 use Rattle.vocabulary.specs.Lists.{joined}
 use Rattle.cells.specs.Cells.{Row, cell_bytes, rows_of}
@@ -9,8 +9,6 @@ use Rattle.packed_rows.specs.Packer.{packed_entries, packed_stream, packed_lengt
 use Rattle.packed_rows.specs.Answers.{check_answer, pack_answer, pack_output, unpack_answer, unpack_output}
 use Rattle.packed_rows.specs.Answers.{repack_stream_answer, repack_stream_output, cell_of}
 use Rattle.packed_rows.specs.Comparing.{stream_differences}
-use Rattle.packed_rows.specs.declared.Packing.TheVariants.{Packed}
-use Rattle.packed_rows.specs.declared.Unpacking.TheVariants.{Unpacked}
 
 -- The test holds for every element.
 abbrev pub every : {A : Type 0} → (A → Bool) → List A → Bool
@@ -99,10 +97,10 @@ written_to cells rows tracks out = take (packed_length (rows_of rows tracks cell
 -- packer's stream; the rest of the output is unchanged. Unpacking answers the length of the cells, and writes the cells; the rest of the
 -- other output is unchanged.
 pub record PackedAndUnpacked (rows tracks : ℕ) (cells out back : List ℕ) : Type 0 where
-  pub packs : pack_answer cells rows tracks (length out) ≡ Packed (packed_length (rows_of rows tracks cells))
+  pub packs : pack_answer cells rows tracks (length out) ≡ Ok (packed_length (rows_of rows tracks cells))
   pub packed : pack_output cells rows tracks out ≡ packed_stream (rows_of rows tracks cells) ++ drop (packed_length (rows_of rows tracks cells)) out
   pub written : written_to cells rows tracks out ≡ packed_stream (rows_of rows tracks cells)
-  pub unpacks : unpack_answer (written_to cells rows tracks out) rows tracks (length back) ≡ Unpacked (cell_bytes rows tracks)
+  pub unpacks : unpack_answer (written_to cells rows tracks out) rows tracks (length back) ≡ Ok (cell_bytes rows tracks)
   pub unpacked : unpack_output (written_to cells rows tracks out) rows tracks back ≡ cells ++ drop (cell_bytes rows tracks) back
 
 -- The calls on one stream answer the same for two streams and leave the same in an output, and the patterns that these hold have no

@@ -1,7 +1,6 @@
 // Comparing the patterns that two accepted streams hold, a row at a time. Only the groups of eight tracks that an entry of either row
 // belongs to are compared, and cleared afterwards, so that a row takes time for its entries and not for its tracks.
-ghost use Rattle.std.specs.Prelude.{◌≡◌, true, ◌+◌, ◌-◌, ◌*◌, ◌/◌, ◌<◌, ◌≤◌, min, length, get_or, set, replicate};
-ghost use Rattle.refusal.specs.declared.Verdict.TheVariants.{Accepted};
+ghost use Rattle.std.specs.Prelude.{◌≡◌, true, ◌+◌, ◌-◌, ◌*◌, ◌/◌, ◌<◌, ◌≤◌, length, get_or, set, replicate};
 ghost use Rattle.differences.specs.Differences.{entries_listed};
 ghost use Rattle.packed_rows.specs.Stream.{read_stream};
 ghost use Rattle.packed_rows.specs.Answers.{verdict_of_reading};
@@ -9,7 +8,7 @@ ghost use Rattle.packed_rows.specs.Comparing.{cell_differences, stream_differenc
 ghost use Rattle.packed_rows.specs.Steps.{cell_at};
 ghost use Rattle.packed_rows.specs.ComparingSteps.{tracks_differences, SmallCount, ZerosBetween, cleared_between, AllMarked};
 
-use crate::reader::{carry_row, clear, mark_row};
+use crate::reader::{carry_row, mark_row};
 use differences::{Difference, list};
 
 // Lists the fields in which the cells at a place of two rows differ, after n entries, and returns their number.
@@ -29,19 +28,15 @@ fn list_cell(
         ≡ entries_listed (cell_differences pattern row track (cell_at a.now at) (cell_at b.now at)) n out.old) }
 {
     let mut count: usize = 0;
-    let mut i = at;
-    let mut field: u16 = 1;
-    while field < 7 {
+    for field in 0..6 {
         let d = Difference {
             kind: 8,
             number: pattern,
             row,
             track,
-            field,
+            field: field as u16 + 1,
         };
-        count = count + list(a[i] != b[i], d, n + count, out);
-        i = i + 1;
-        field = field + 1;
+        count = count + list(a[at + field] != b[at + field], d, n + count, out);
     }
     count
 }
@@ -62,11 +57,9 @@ fn list_tracks(
         × (out.new ≡ entries_listed (tracks_differences pattern row a.now b.now (start + 1) (end - start)) n out.old) }
 {
     let mut count: usize = 0;
-    let mut track = start;
-    while track < end {
-        let next = track + 1;
-        count = count + list_cell(a, b, track * 6, pattern, row, next as u16, n + count, out);
-        track = next;
+    for track in start..end {
+        let number = track as u16 + 1;
+        count = count + list_cell(a, b, track * 6, pattern, row, number, n + count, out);
     }
     count
 }
@@ -98,21 +91,9 @@ fn list_group(
     }
     marks[start / 8] = 0;
     let count = list_tracks(a, b, start, end, pattern, row, n, out);
-    clear(&mut a[start * 6..end * 6]);
-    clear(&mut b[start * 6..end * 6]);
+    a[start * 6..end * 6].fill(0);
+    b[start * 6..end * 6].fill(0);
     count
-}
-
-// The end of the group of eight tracks that begins with a track of the pattern.
-fn group_end(start: usize, tracks: usize) -> usize
-    requires { start ≤ tracks }
-    ensures { result ≡ min (start + 8) tracks }
-{
-    if tracks - start < 8 {
-        tracks
-    } else {
-        start + 8
-    }
 }
 
 // Lists the differences of two rows, after n entries, and returns their number. Both rows are zeros afterwards.
@@ -138,11 +119,10 @@ fn list_row(
         return 0;
     }
     let mut count: usize = 0;
-    let mut start: usize = 0;
-    while start < tracks {
-        let end = group_end(start, tracks);
+    for group in 0..tracks.div_ceil(8) {
+        let start = group * 8;
+        let end = (start + 8).min(tracks);
         count = count + list_group(a, b, marks, start, end, pattern, row, n + count, out);
-        start = end;
     }
     count
 }
@@ -159,7 +139,7 @@ pub fn list_rows(
     second: &mut [u8],
     out: &mut [u8],
 ) -> usize
-    requires { (verdict_of_reading (read_stream rows tracks a.now) ≡ Accepted) × (verdict_of_reading (read_stream rows tracks b.now) ≡ Accepted)
+    requires { (verdict_of_reading (read_stream rows tracks a.now) ≡ Ok tt) × (verdict_of_reading (read_stream rows tracks b.now) ≡ Ok tt)
         × (first.old ≡ replicate (tracks * 6) 0) × (second.old ≡ replicate (tracks * 6) 0) × (rows < 65536) × (tracks < 255) }
     ensures { (result ≡ length (stream_differences a.now b.now rows tracks pattern))
         × (out.new ≡ entries_listed (stream_differences a.now b.now rows tracks pattern) 0 out.old) }
@@ -167,9 +147,8 @@ pub fn list_rows(
     let mut marks = [0u8; 32];
     let mut at: usize = 0;
     let mut to: usize = 0;
-    let mut row: usize = 0;
     let mut count: usize = 0;
-    while row < rows {
+    for row in 0..rows {
         let empty = (a[at] == 0) & (b[to] == 0);
         mark_row(a, at, &mut marks);
         mark_row(b, to, &mut marks);
@@ -179,7 +158,6 @@ pub fn list_rows(
             + list_row(
                 empty, first, second, &mut marks, tracks, pattern, row as u16, count, out,
             );
-        row = row + 1;
     }
     count
 }

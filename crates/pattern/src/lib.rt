@@ -5,11 +5,10 @@
 
 ghost use Rattle.std.specs.Prelude.{◌≡◌, [], ◌∷◌, ◌++◌, length};
 ghost use Rattle.refusal.specs.Numbers.{verdict_numbers};
-ghost use Rattle.refusal.specs.Lengths.{length_numbers};
-ghost use Rattle.packed_rows.specs.Answers.{check_answer, unpack_answer, unpack_output, pack_answer, pack_output, unpacking_numbers, packing_numbers};
+ghost use Rattle.refusal.specs.Lengths.{length_numbers, value_numbers};
+ghost use Rattle.packed_rows.specs.Answers.{check_answer, unpack_answer, unpack_output, pack_answer, pack_output};
 
-use packed_rows::{Packing, Unpacking};
-use refusal::{LengthAnswer, outcome_of, refused, written};
+use refusal::{LengthAnswer, Outcome};
 
 // Checks a stream, for C.
 #[unsafe(no_mangle)]
@@ -17,7 +16,7 @@ pub extern "C" fn dbm0_check_pattern(stream: &[u8], rows: usize, tracks: usize) 
     ensures { length_numbers result ≡ verdict_numbers (check_answer stream.now rows tracks) ++ (0 ∷ []) }
 {
     LengthAnswer {
-        outcome: outcome_of(packed_rows::check(stream, rows, tracks)),
+        outcome: Outcome::from(packed_rows::check(stream, rows, tracks)),
         length: 0,
     }
 }
@@ -30,13 +29,10 @@ pub extern "C" fn dbm0_unpack_pattern(
     tracks: usize,
     out: &mut [u8],
 ) -> LengthAnswer
-    ensures { (length_numbers result ≡ unpacking_numbers (unpack_answer stream.now rows tracks (length out.old)))
+    ensures { (length_numbers result ≡ value_numbers (unpack_answer stream.now rows tracks (length out.old)))
         × (out.new ≡ unpack_output stream.now rows tracks out.old) }
 {
-    match packed_rows::unpack(stream, rows, tracks, out) {
-        Unpacking::Unpacked(n) => written(n),
-        Unpacking::Refused(r) => refused(r),
-    }
+    LengthAnswer::from(packed_rows::unpack(stream, rows, tracks, out))
 }
 
 // Packs a pattern's cells, for C.
@@ -47,11 +43,8 @@ pub extern "C" fn dbm0_pack_pattern(
     tracks: usize,
     out: &mut [u8],
 ) -> LengthAnswer
-    ensures { (length_numbers result ≡ packing_numbers (pack_answer cells.now rows tracks (length out.old)))
+    ensures { (length_numbers result ≡ value_numbers (pack_answer cells.now rows tracks (length out.old)))
         × (out.new ≡ pack_output cells.now rows tracks out.old) }
 {
-    match packed_rows::pack(cells, rows, tracks, out) {
-        Packing::Packed(n) => written(n),
-        Packing::Refused(r) => refused(r),
-    }
+    LengthAnswer::from(packed_rows::pack(cells, rows, tracks, out))
 }

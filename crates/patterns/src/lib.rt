@@ -10,9 +10,9 @@ ghost use Rattle.patterns.specs.Shown.{no_rows, rows_answer, cell_in, cell_answe
 
 use blocks::RecordKind;
 use blocks::stored::{packed_bytes, pattern_rows};
-use packed_rows::{CellAnswer, Unpacking};
-use queries::{Block, Found, find};
-use refusal::{LengthAnswer, Outcome, Refusal, Verdict, outcome_of, refused, written};
+use cells::Cell;
+use queries::{Block, find};
+use refusal::{LengthAnswer, Outcome, Refusal};
 
 // The number of rows of a pattern.
 #[repr(C)]
@@ -26,7 +26,7 @@ fn no_rows(r: Refusal) -> RowsAnswer
     ensures { result ≡ no_rows r }
 {
     RowsAnswer {
-        outcome: outcome_of(Verdict::Refused(r)),
+        outcome: Outcome::from(Err(r)),
         rows: 0,
     }
 }
@@ -36,16 +36,16 @@ pub fn rows(m: &[u8], pattern: usize) -> RowsAnswer
     ensures { result ≡ rows_answer m.now pattern }
 {
     match find(m, RecordKind::Pattern, pattern) {
-        Found::At(b) => RowsAnswer {
-            outcome: outcome_of(Verdict::Accepted),
+        Ok(b) => RowsAnswer {
+            outcome: Outcome::from(Ok(())),
             rows: pattern_rows(m, b.at),
         },
-        Found::Refused(r) => no_rows(r),
+        Err(r) => no_rows(r),
     }
 }
 
 // A cell of the pattern whose block is given.
-fn cell_in(m: &[u8], b: Block, row: usize, track: usize) -> CellAnswer
+fn cell_in(m: &[u8], b: Block, row: usize, track: usize) -> Result<Cell, Refusal>
     ensures { result ≡ cell_in m.now b row track }
 {
     let rows = pattern_rows(m, b.at) as usize;
@@ -53,13 +53,11 @@ fn cell_in(m: &[u8], b: Block, row: usize, track: usize) -> CellAnswer
 }
 
 // A cell of a pattern: pattern and row counted from 0, track from 1.
-pub fn cell(m: &[u8], pattern: usize, row: usize, track: usize) -> CellAnswer
+pub fn cell(m: &[u8], pattern: usize, row: usize, track: usize) -> Result<Cell, Refusal>
     ensures { IsAnswer cell_numbers result (cell_answer m.now pattern row track) }
 {
-    match find(m, RecordKind::Pattern, pattern) {
-        Found::At(b) => cell_in(m, b, row, track),
-        Found::Refused(r) => CellAnswer::Refused(r),
-    }
+    let b = find(m, RecordKind::Pattern, pattern)?;
+    cell_in(m, b, row, track)
 }
 
 // Unpacks the pattern whose block is given.
@@ -68,10 +66,7 @@ fn unpack_in(m: &[u8], b: Block, out: &mut [u8]) -> LengthAnswer
         × (out.new ≡ cells_output_in m.now b out.old) }
 {
     let rows = pattern_rows(m, b.at) as usize;
-    match packed_rows::unpack(packed_bytes(m, b.at), rows, b.tracks as usize, out) {
-        Unpacking::Unpacked(n) => written(n),
-        Unpacking::Refused(r) => refused(r),
-    }
+    LengthAnswer::from(packed_rows::unpack(packed_bytes(m, b.at), rows, b.tracks as usize, out))
 }
 
 // Unpacks a pattern, row by row, tracks ascending, six bytes for each cell.
@@ -80,7 +75,7 @@ pub fn unpack(m: &[u8], pattern: usize, out: &mut [u8]) -> LengthAnswer
         × (out.new ≡ cells_output m.now pattern out.old) }
 {
     match find(m, RecordKind::Pattern, pattern) {
-        Found::At(b) => unpack_in(m, b, out),
-        Found::Refused(r) => refused(r),
+        Ok(b) => unpack_in(m, b, out),
+        Err(r) => LengthAnswer::from(Err(r)),
     }
 }

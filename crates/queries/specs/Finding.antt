@@ -1,20 +1,17 @@
 -- FORMAT.md, Q1 and Q2 (document 01, "Refusal numbers and their order"): the block of the record that a query is about.
-use Rattle.std.specs.Prelude.{ℕ, ◌-◌, List, [], ◌∷◌, Bool, cond, ◌&&◌, leb, ltb}
+use Rattle.std.specs.Prelude.{ℕ, ◌-◌, List, [], ◌∷◌, Bool, cond, ◌&&◌, leb, ltb, Result, Ok, Err}
+use Rattle.refusal.specs.declared.Refusal.{Refusal}
 use Rattle.refusal.specs.Numbers.{refusal, accepted_numbers, refused_numbers}
 use Rattle.refusal.specs.Lengths.{refused_length, length_if, output_of}
 use Rattle.refusal.specs.declared.LengthAnswer.{LengthAnswer}
 use Rattle.refusal.specs.declared.Reason.TheVariants.{NotThere}
 use Rattle.layout.specs.declared.Layout.{Layout}
-use Rattle.layout.specs.declared.Outline.{Outline}
-use Rattle.layout.specs.declared.Outline.TheVariants.{Found as Opened, Refused as OpeningRefused}
 use Rattle.blocks.specs.Sizes.{block_at}
 use Rattle.blocks.specs.RecordKinds.{block_kind_of, chunk_of, count_of}
 use Rattle.blocks.specs.declared.RecordKind.{RecordKind}
 use Rattle.blocks.specs.declared.RecordKind.TheVariants.{Song, Instrument, Pattern, Sample, VolumeEnvelope, PanningEnvelope}
 use Rattle.module.specs.Verdicts.{opened}
 use Rattle.queries.specs.declared.Block.{Block}
-use Rattle.queries.specs.declared.Found.{Found}
-use Rattle.queries.specs.declared.Found.TheVariants.{At, Refused}
 
 -- Q2: instruments and samples are counted from 1, all else from 0.
 abbrev pub first_of : RecordKind → ℕ
@@ -38,32 +35,32 @@ block_of m l kind number = record {
 }
 
 -- Q1: the block, or 18 if there is no such record.
-abbrev pub found_in : List ℕ → Layout → RecordKind → ℕ → Found
-found_in m l kind number = cond (there m l kind number) (At (block_of m l kind number)) (Refused (refusal NotThere 0))
+abbrev pub found_in : List ℕ → Layout → RecordKind → ℕ → Result Block Refusal
+found_in m l kind number = cond (there m l kind number) (Ok (block_of m l kind number)) (Err (refusal NotThere 0))
 
-abbrev pub found_if : List ℕ → RecordKind → ℕ → Outline → Found
-found_if m kind number (Opened l) = found_in m l kind number
-found_if m kind number (OpeningRefused r) = Refused r
+abbrev pub found_if : List ℕ → RecordKind → ℕ → Result Layout Refusal → Result Block Refusal
+found_if m kind number (Ok l) = found_in m l kind number
+found_if m kind number (Err r) = Err r
 
 -- Q1: the module's own refusal, then 18.
-abbrev pub found : List ℕ → RecordKind → ℕ → Found
+abbrev pub found : List ℕ → RecordKind → ℕ → Result Block Refusal
 found m kind number = found_if m kind number (opened m)
 
 -- The place of the block that was found, 0 on a refusal.
-abbrev pub place_in : Found → ℕ
-place_in (At b) = b.at
-place_in (Refused r) = 0
+abbrev pub place_in : Result Block Refusal → ℕ
+place_in (Ok b) = b.at
+place_in (Err r) = 0
 
 -- The result of finding a block, in numbers: the values are the block's place, the version and the tracks.
-abbrev pub found_numbers : Found → List ℕ
-found_numbers (At b) = accepted_numbers (b.at ∷ b.version ∷ b.tracks ∷ [])
-found_numbers (Refused r) = refused_numbers r 3
+abbrev pub found_numbers : Result Block Refusal → List ℕ
+found_numbers (Ok b) = accepted_numbers (b.at ∷ b.version ∷ b.tracks ∷ [])
+found_numbers (Err r) = refused_numbers r 3
 
 -- Q1 and F8: the answer of a query that fills a lent output, and what the output then holds: the refusal of finding the block, then 17.
-abbrev pub answer_found : (ℕ → ℕ) → ℕ → Found → LengthAnswer
-answer_found needed room (At b) = length_if (needed b.at) room
-answer_found needed room (Refused r) = refused_length r
+abbrev pub answer_found : (ℕ → ℕ) → ℕ → Result Block Refusal → LengthAnswer
+answer_found needed room (Ok b) = length_if (needed b.at) room
+answer_found needed room (Err r) = refused_length r
 
-abbrev pub output_found : (ℕ → ℕ) → (ℕ → List ℕ) → List ℕ → Found → List ℕ
-output_found needed bytes out (At b) = output_of (needed b.at) (bytes b.at) out
-output_found needed bytes out (Refused r) = out
+abbrev pub output_found : (ℕ → ℕ) → (ℕ → List ℕ) → List ℕ → Result Block Refusal → List ℕ
+output_found needed bytes out (Ok b) = output_of (needed b.at) (bytes b.at) out
+output_found needed bytes out (Err r) = out

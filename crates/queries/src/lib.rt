@@ -7,8 +7,8 @@ ghost use Rattle.refusal.specs.Numbers.{IsAnswer};
 ghost use Rattle.numbers.specs.Numbers.{SmallPlace, bytes_from};
 ghost use Rattle.queries.specs.Finding.{first_of, found_in, found, place_in, found_numbers};
 
-use blocks::{RecordKind, block_at, block_kind, chunk_of, count_of};
-use layout::{Layout, Outline};
+use blocks::{BlockKind, RecordKind, block_at, chunk_of, count_of};
+use layout::Layout;
 use numbers::copy;
 use refusal::{Reason, Refusal, refuse};
 
@@ -18,13 +18,6 @@ pub struct Block {
     pub at: usize,
     pub version: u8,
     pub tracks: u16,
-}
-
-// The requested block, or a refusal.
-#[derive(Clone, Copy)]
-pub enum Found {
-    At(Block),
-    Refused(Refusal),
 }
 
 // The number of the first record: 1 for instruments and samples, 0 for all else.
@@ -42,39 +35,37 @@ pub fn first_of(kind: RecordKind) -> usize
 }
 
 // The block with a number, in a module with this layout: 18.
-pub fn find_in(m: &[u8], l: Layout, kind: RecordKind, number: usize) -> Found
+pub fn find_in(m: &[u8], l: Layout, kind: RecordKind, number: usize) -> Result<Block, Refusal>
     ensures { IsAnswer found_numbers result (found_in m.now l kind number) × SmallPlace (place_in result) }
 {
     let first = first_of(kind);
     if number < first {
-        return Found::Refused(refuse(Reason::NotThere, 0));
+        return Err(refuse(Reason::NotThere, 0));
     }
     let index = number - first;
     if (count_of(m, l, kind) as usize) <= index {
-        return Found::Refused(refuse(Reason::NotThere, 0));
+        return Err(refuse(Reason::NotThere, 0));
     }
-    Found::At(Block {
-        at: block_at(m, block_kind(kind), chunk_of(l, kind), index as u16),
+    Ok(Block {
+        at: block_at(m, BlockKind::from(kind), chunk_of(l, kind), index as u16),
         version: l.version,
         tracks: l.tracks,
     })
 }
 
 // The block with a number in a module: the module's own refusal, then 18.
-pub fn find(m: &[u8], kind: RecordKind, number: usize) -> Found
+pub fn find(m: &[u8], kind: RecordKind, number: usize) -> Result<Block, Refusal>
     ensures { IsAnswer found_numbers result (found m.now kind number) × SmallPlace (place_in result) }
 {
-    match module::open(m) {
-        Outline::Found(l) => find_in(m, l, kind, number),
-        Outline::Refused(r) => Found::Refused(r),
-    }
+    let l = module::open(m)?;
+    find_in(m, l, kind, number)
 }
 
-// A name of 44 bytes.
-pub fn name44(m: &[u8], at: usize) -> [u8; 44]
-    ensures { result ≡ bytes_from m.now at 44 }
+// A name of N bytes.
+pub fn name<const N: usize>(m: &[u8], at: usize) -> [u8; N]
+    ensures { result ≡ bytes_from m.now at N }
 {
-    let mut name = [0u8; 44];
+    let mut name = [0u8; N];
     copy(m, at, &mut name);
     name
 }

@@ -1,6 +1,8 @@
 -- The values of envelopes that queries show (theorem 18): the module is accepted, so the values of the points in use fit; the others are
 -- shown as 0.
 use Prim.Native.Nat.{ℕ, zero, suc, ◌+◌, ◌-◌, ◌*◌, ◌≤◌, ◌<◌}
+use Rattle.std.specs.Prelude.{Result, Ok, Err}
+use Rattle.refusal.specs.declared.Refusal.{Refusal}
 use mathlib.Core.Path.{◌≡◌, refl, sym, ap, subst, ◌∙◌}
 use mathlib.Core.List.{List}
 use mathlib.Core.Bool.{Bool, true, false, cond}
@@ -18,8 +20,6 @@ use Rattle.blocks.specs.declared.RecordKind.TheVariants.{VolumeEnvelope, Panning
 use Rattle.fields.specs.Fields.{value_fits, envelope_rules}
 use Rattle.queries.specs.Finding.{found}
 use Rattle.queries.specs.declared.Block.{Block}
-use Rattle.queries.specs.declared.Found.{Found}
-use Rattle.queries.specs.declared.Found.TheVariants.{At, Refused}
 use Rattle.acceptance.proofs.OpenModules.{module-opens}
 use Rattle.acceptance.proofs.Holding.{every-place, AllHold}
 use Rattle.acceptance.proofs.BlockFields.{le_z-says, panning-says}
@@ -42,7 +42,7 @@ same_at x (suc n) zero = refl
 same_at x (suc n) (suc i) = same_at x n i
 
 -- The rules of an envelope that is found.
-volume-holds : (m : List ℕ) (envelope : ℕ) (b : Block) → found m VolumeEnvelope envelope ≡ At b
+volume-holds : (m : List ℕ) (envelope : ℕ) (b : Block) → found m VolumeEnvelope envelope ≡ Ok b
     → (instruments : ℕ) × AllHold (envelope_rules m instruments false b.at)
 volume-holds m envelope b e =
     let (l, o) = found-opened m VolumeEnvelope envelope b e in
@@ -54,7 +54,7 @@ volume-holds m envelope b e =
           (envelope_count m l.spans.venv) (first_block Envelope l.spans.venv)).0 rules (envelope - 0) s.counted),
     )
 
-panning-holds : (m : List ℕ) (envelope : ℕ) (b : Block) → found m PanningEnvelope envelope ≡ At b
+panning-holds : (m : List ℕ) (envelope : ℕ) (b : Block) → found m PanningEnvelope envelope ≡ Ok b
     → (instruments : ℕ) × AllHold (envelope_rules m instruments (eqb b.version 3) b.at)
 panning-holds m envelope b e =
     let (l, o) = found-opened m PanningEnvelope envelope b e in
@@ -67,38 +67,38 @@ panning-holds m envelope b e =
     )
 
 -- The value that is shown for a point of an envelope that is found.
-point-shown : (m : List ℕ) (kind : EnvelopeKind) (envelope : ℕ) (b : Block) → found m (record_kind kind) envelope ≡ At b
+point-shown : (m : List ℕ) (kind : EnvelopeKind) (envelope : ℕ) (b : Block) → found m (record_kind kind) envelope ≡ Ok b
     → (point : ℕ) → point < 32
     → value_at m kind envelope point ≡ value_shown m kind b.version b.at (envelope_sections m b.at) point
 point-shown m kind envelope b e point h =
-    ap (λ (f : Found). get_or (envelope_if m kind f).values point (pos 0)) e
+    ap (λ (f : Result Block Refusal). get_or (envelope_if m kind f).values point (pos 0)) e
     ∙ each_at (value_shown m kind b.version b.at (envelope_sections m b.at)) (pos 0) 32 0 point h
     ∙ ap (value_shown m kind b.version b.at (envelope_sections m b.at)) (omega arith)
 
 -- What holds for 0 and for each value in use holds for each value that is shown.
 each-value : (P : ℤ → Type 0) (m : List ℕ) (kind : EnvelopeKind) (envelope : ℕ) → P (pos 0)
-    → ((b : Block) → found m (record_kind kind) envelope ≡ At b → (point : ℕ) → point ≤ envelope_sections m b.at
+    → ((b : Block) → found m (record_kind kind) envelope ≡ Ok b → (point : ℕ) → point ≤ envelope_sections m b.at
     → P (value_of kind b.version (envelope_value m b.at point))) → (point : ℕ)
     → P (value_at m kind envelope point)
 each-value P m kind envelope none each point = go (found m (record_kind kind) envelope) refl
   where
-    used : (b : Block) → found m (record_kind kind) envelope ≡ At b → (t : Bool) → leb point (envelope_sections m b.at) ≡ t
+    used : (b : Block) → found m (record_kind kind) envelope ≡ Ok b → (t : Bool) → leb point (envelope_sections m b.at) ≡ t
         → P (cond t (value_of kind b.version (envelope_value m b.at point)) (pos 0))
     used b e true h = each b e point (leb-true point (envelope_sections m b.at) h)
     used b e false h = none
 
-    within : (b : Block) → found m (record_kind kind) envelope ≡ At b → (t : Bool) → ltb point 32 ≡ t → P (value_at m kind envelope point)
+    within : (b : Block) → found m (record_kind kind) envelope ≡ Ok b → (t : Bool) → ltb point 32 ≡ t → P (value_at m kind envelope point)
     within b e true h = subst P (sym (point-shown m kind envelope b e point (ltb-true point 32 h))) (used b e (leb point (envelope_sections m b.at)) refl)
     within b e false h =
         let values : List ℤ = each_from (value_shown m kind b.version b.at (envelope_sections m b.at)) 0 32 in
         let past : get_or values point (pos 0) ≡ pos 0 =
         get_or-eq_default values (pos 0) {n = point}
         (omega (arith, each-length (value_shown m kind b.version b.at (envelope_sections m b.at)) 32 0, ltb-false point 32 h)) in
-        subst P (sym (ap (λ (f : Found). get_or (envelope_if m kind f).values point (pos 0)) e ∙ past)) none
+        subst P (sym (ap (λ (f : Result Block Refusal). get_or (envelope_if m kind f).values point (pos 0)) e ∙ past)) none
 
-    go : (f : Found) → found m (record_kind kind) envelope ≡ f → P (value_at m kind envelope point)
-    go (At b) e = within b e (ltb point 32) refl
-    go (Refused r) e = subst P (sym (ap (λ (f : Found). get_or (envelope_if m kind f).values point (pos 0)) e ∙ same_at (pos 0) 32 point)) none
+    go : (f : Result Block Refusal) → found m (record_kind kind) envelope ≡ f → P (value_at m kind envelope point)
+    go (Ok b) e = within b e (ltb point 32) refl
+    go (Err r) e = subst P (sym (ap (λ (f : Result Block Refusal). get_or (envelope_if m kind f).values point (pos 0)) e ∙ same_at (pos 0) 32 point)) none
 
 -- The ranges of the shown values.
 zero-panning : Between (negsuc 127) (pos 128) (pos 0)
@@ -127,7 +127,7 @@ panning-between version v = go (eqb version 2) (eqb version 3) refl refl
 pub volume-values : (m : List ℕ) (envelope point : ℕ) → Between (pos 0) (pos 64) (value_at m Volume envelope point)
 volume-values m envelope = each-value (Between (pos 0) (pos 64)) m Volume envelope (record { le = tt }, record { le = tt }) each
   where
-    each : (b : Block) → found m VolumeEnvelope envelope ≡ At b → (point : ℕ) → point ≤ envelope_sections m b.at
+    each : (b : Block) → found m VolumeEnvelope envelope ≡ Ok b → (point : ℕ) → point ≤ envelope_sections m b.at
         → Between (pos 0) (pos 64) (pos (envelope_value m b.at point))
     each b e point h =
         let (instruments, hold) = volume-holds m envelope b e in
@@ -137,14 +137,14 @@ volume-values m envelope = each-value (Between (pos 0) (pos 64)) m Volume envelo
 pub panning-values : (m : List ℕ) (envelope point : ℕ) → Between (negsuc 127) (pos 128) (value_at m Panning envelope point)
 panning-values m envelope = each-value (Between (negsuc 127) (pos 128)) m Panning envelope zero-panning each
   where
-    each : (b : Block) → found m PanningEnvelope envelope ≡ At b → (point : ℕ) → point ≤ envelope_sections m b.at
+    each : (b : Block) → found m PanningEnvelope envelope ≡ Ok b → (point : ℕ) → point ≤ envelope_sections m b.at
         → Between (negsuc 127) (pos 128) (value_of Panning b.version (envelope_value m b.at point))
     each b e point h =
         let (instruments, hold) = panning-holds m envelope b e in
         panning-between b.version (envelope_value m b.at point) (value-fits m instruments (eqb b.version 3) b.at hold point h)
 
 -- Version 2: the scaled panning values.
-pub panning-scaled : (m : List ℕ) (envelope : ℕ) (b : Block) → found m PanningEnvelope envelope ≡ At b → b.version ≡ 2
+pub panning-scaled : (m : List ℕ) (envelope : ℕ) (b : Block) → found m PanningEnvelope envelope ≡ Ok b → b.version ≡ 2
     → (point : ℕ) → point ≤ envelope_sections m b.at
     → (envelope_value m b.at point ≤ 64) × (value_at m Panning envelope point ≡ pos (4 * envelope_value m b.at point) -ℤ pos 128)
 panning-scaled m envelope b e two point h =

@@ -2,6 +2,7 @@
 -- it, so each lies in the chunk's data, and the chunk in the module; each begins where the one before it ends, and the last ends where the
 -- data end.
 use Prim.Native.Nat.{ℕ, zero, suc, ◌+◌, ◌-◌, ◌≤◌, ◌<◌}
+use Rattle.std.specs.Prelude.{Result, Ok, Err}
 use mathlib.Core.Path.{◌≡◌, refl, sym, ap, ◌∙◌}
 use mathlib.Core.List.{List}
 use mathlib.Core.Bool.{Bool, true, false}
@@ -11,8 +12,6 @@ use borrow.Author.Tests.{ltb-true, ltb-false}
 use Rattle.refusal.specs.declared.Refusal.{Refusal}
 use Rattle.layout.specs.declared.ChunkSpan.{ChunkSpan}
 use Rattle.layout.specs.declared.Layout.{Layout}
-use Rattle.layout.specs.declared.Outline.{Outline}
-use Rattle.layout.specs.declared.Outline.TheVariants.{Found as Opened, Refused as OpeningRefused}
 use Rattle.blocks.specs.Sizes.{size_of, place_after, first_block, block_at, envelope_count}
 use Rattle.blocks.specs.Filling.{data_end}
 use Rattle.blocks.specs.declared.BlockKind.{BlockKind}
@@ -24,7 +23,6 @@ use Rattle.blocks.specs.declared.RecordKind.TheVariants.{Song, Instrument, Patte
 use Rattle.module.specs.Verdicts.{opened}
 use Rattle.queries.specs.Finding.{first_of, there, block_of, found_in, found_if, found}
 use Rattle.queries.specs.declared.Block.{Block}
-use Rattle.queries.specs.declared.Found.TheVariants.{At, Refused}
 use Rattle.queries.proofs.Numbering.{counted-found, found-there}
 use Rattle.acceptance.proofs.Holding.{and-says, leb-says, ltb-says}
 use Rattle.acceptance.proofs.Cutting.{after-least, after_next}
@@ -39,7 +37,7 @@ pub record Numbered (m : List ℕ) (l : Layout) (kind : RecordKind) (number : �
   pub counted : number - first_of kind < count_of m l kind
   pub block : b ≡ block_of m l kind number
 
-found-in : (m : List ℕ) (l : Layout) (kind : RecordKind) (number : ℕ) (b : Block) → found_in m l kind number ≡ At b → Numbered m l kind number b
+found-in : (m : List ℕ) (l : Layout) (kind : RecordKind) (number : ℕ) (b : Block) → found_in m l kind number ≡ Ok b → Numbered m l kind number b
 found-in m l kind number b e =
     let (is-there, block) = found-there m l kind number b e in
     let says = (and-says (leb (first_of kind) number) (ltb (number - first_of kind) (count_of m l kind))).0 is-there in
@@ -50,14 +48,14 @@ found-in m l kind number b e =
     }
 
 module _ (m : List ℕ) (kind : RecordKind) (number : ℕ) (b : Block) where
-  pub found-opened : found m kind number ≡ At b → (l : Layout) × (opened m ≡ Opened l)
+  pub found-opened : found m kind number ≡ Ok b → (l : Layout) × (opened m ≡ Ok l)
   found-opened = go (opened m) refl
     where
-      go : (o : Outline) → opened m ≡ o → found_if m kind number o ≡ At b → (l : Layout) × (opened m ≡ Opened l)
-      go (Opened l) h e = (l, h)
-      go (OpeningRefused r) h e = let z : ◌≡◌ {A = ℕ} 0 1 = cc in absurd (omega arith)
+      go : (o : Result Layout Refusal) → opened m ≡ o → found_if m kind number o ≡ Ok b → (l : Layout) × (opened m ≡ Ok l)
+      go (Ok l) h e = (l, h)
+      go (Err r) h e = let z : ◌≡◌ {A = ℕ} 0 1 = cc in absurd (omega arith)
 
-  pub found-numbered : (l : Layout) → opened m ≡ Opened l → found m kind number ≡ At b → Numbered m l kind number b
+  pub found-numbered : (l : Layout) → opened m ≡ Ok l → found m kind number ≡ Ok b → Numbered m l kind number b
   found-numbered l o e = found-in m l kind number b (sym (ap (found_if m kind number) o) ∙ e)
 
 -- The chunk of a record kind is present; for envelopes, if there is at least one.
@@ -97,10 +95,10 @@ block_in m kind span n i e h = record {
 }
 
 -- Theorem 13.
-pub block-in-chunk : (m : List ℕ) (kind : RecordKind) (number : ℕ) (b : Block) → found m kind number ≡ At b → InChunk m kind b.at
+pub block-in-chunk : (m : List ℕ) (kind : RecordKind) (number : ℕ) (b : Block) → found m kind number ≡ Ok b → InChunk m kind b.at
 block-in-chunk m kind number b e = in-layout (found-opened m kind number b e).0 (found-opened m kind number b e).1
   where
-    in-layout : (l : Layout) → opened m ≡ Opened l → InChunk m kind b.at
+    in-layout : (l : Layout) → opened m ≡ Ok l → InChunk m kind b.at
     in-layout l o =
         let s = found-numbered m kind number b l o e in
         let opens = module-opens m l o in
@@ -121,8 +119,8 @@ block-in-chunk m kind number b e = in-layout (found-opened m kind number b e).0 
         })
 
 -- Theorem 14.
-pub first-block : (m : List ℕ) (l : Layout) (kind : RecordKind) (b : Block) → opened m ≡ Opened l
-    → found m kind (first_of kind) ≡ At b
+pub first-block : (m : List ℕ) (l : Layout) (kind : RecordKind) (b : Block) → opened m ≡ Ok l
+    → found m kind (first_of kind) ≡ Ok b
     → b.at ≡ first_block (block_kind_of kind) (chunk_of l kind)
 first-block m l kind b o e =
     let none : first_of kind - first_of kind ≡ 0 = omega arith in
@@ -133,8 +131,8 @@ after_more : (size : ℕ → ℕ) (n at : ℕ) → place_after size (suc n) at �
 after_more size zero at = refl
 after_more size (suc n) at = after_more size n (at + size at)
 
-module _ (m : List ℕ) (kind : RecordKind) (number : ℕ) (b : Block) (e : found m kind number ≡ At b) where
-  next-in : (l : Layout) → opened m ≡ Opened l
+module _ (m : List ℕ) (kind : RecordKind) (number : ℕ) (b : Block) (e : found m kind number ≡ Ok b) where
+  next-in : (l : Layout) → opened m ≡ Ok l
       → block_at m (block_kind_of kind) (chunk_of l kind) (number + 1 - first_of kind) ≡ b.at + size_of (block_kind_of kind) m b.at
   next-in l o =
       let s = found-numbered m kind number b l o e in
@@ -142,13 +140,13 @@ module _ (m : List ℕ) (kind : RecordKind) (number : ℕ) (b : Block) (e : foun
       let more : number + 1 - first_of kind ≡ suc i = omega (arith, s.first) in
       rw (s.block, more) (after_more (size_of (block_kind_of kind) m) i (first_block (block_kind_of kind) (chunk_of l kind)))
 
-  pub next-block : (c : Block) → found m kind (number + 1) ≡ At c → c.at ≡ b.at + size_of (block_kind_of kind) m b.at
+  pub next-block : (c : Block) → found m kind (number + 1) ≡ Ok c → c.at ≡ b.at + size_of (block_kind_of kind) m b.at
   next-block c f = in-layout (found-opened m kind number b e).0 (found-opened m kind number b e).1
     where
-      in-layout : (l : Layout) → opened m ≡ Opened l → c.at ≡ b.at + size_of (block_kind_of kind) m b.at
+      in-layout : (l : Layout) → opened m ≡ Ok l → c.at ≡ b.at + size_of (block_kind_of kind) m b.at
       in-layout l o = ap (λ (d : Block). d.at) (found-numbered m kind (number + 1) c l o f).block ∙ next-in l o
 
-  pub last_block : (l : Layout) (r : Refusal) → opened m ≡ Opened l → found m kind (number + 1) ≡ Refused r
+  pub last_block : (l : Layout) (r : Refusal) → opened m ≡ Ok l → found m kind (number + 1) ≡ Err r
       → b.at + size_of (block_kind_of kind) m b.at ≡ data_end (chunk_of l kind)
   last_block l r o f = go (ltb (number + 1 - first_of kind) (count_of m l kind)) refl
     where
@@ -160,7 +158,7 @@ module _ (m : List ℕ) (kind : RecordKind) (number : ℕ) (b : Block) (e : foun
 
       go : (t : Bool) → ltb (number + 1 - first_of kind) (count_of m l kind) ≡ t → b.at + size_of (block_kind_of kind) m b.at ≡ data_end (chunk_of l kind)
       go true h =
-          let more : found m kind (number + 1) ≡ At (block_of m l kind (number + 1)) =
+          let more : found m kind (number + 1) ≡ Ok (block_of m l kind (number + 1)) =
           counted-found m l kind (number + 1) o (omega (arith, s.first))
           (ltb-true (number + 1 - first_of kind) (count_of m l kind) h) in
           let z : ◌≡◌ {A = ℕ} 0 1 = cc in

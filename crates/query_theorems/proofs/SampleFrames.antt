@@ -1,6 +1,7 @@
 -- The frames of a sample that a query finds (theorem 15): the block lies in the data of SMPL, and the frames are the rest of the block
 -- after its 8 bytes of flags and number. So the part of the module that is returned is never cut.
 use Prim.Native.Nat.{ℕ, ◌+◌, ◌-◌, ◌*◌, ◌≤◌}
+use Rattle.std.specs.Prelude.{Result, Ok, Err}
 use mathlib.Core.Path.{◌≡◌, ap, ◌∙◌}
 use mathlib.Core.Logic.{◌⊎◌, inl, inr}
 use mathlib.Core.List.{List, []}
@@ -18,8 +19,6 @@ use Rattle.blocks.specs.declared.BlockKind.TheVariants.{Sample as SampleBlock}
 use Rattle.blocks.specs.declared.RecordKind.TheVariants.{Sample}
 use Rattle.queries.specs.Finding.{found}
 use Rattle.queries.specs.declared.Block.{Block}
-use Rattle.queries.specs.declared.Found.{Found}
-use Rattle.queries.specs.declared.Found.TheVariants.{At, Refused}
 use Rattle.acceptance.proofs.OpenModules.{module-opens}
 use Rattle.acceptance.proofs.Locating.{part_length}
 use Rattle.acceptance.proofs.Holding.{every-place}
@@ -38,10 +37,10 @@ width-of flags h = go ((width-says flags).0 h)
     go (inr (inr e)) = inr (inr (ap (λ (f : ℕ). width_of f) e))
 
 module _ (m : List ℕ) (sample : ℕ) where
-  handed_out : Found → List ℕ
+  handed_out : Result Block Refusal → List ℕ
   handed_out f = part_of m (frames_if m f).offset (frames_if m f).length
 
-  module _ (b : Block) (e : found m Sample sample ≡ At b) where
+  module _ (b : Block) (e : found m Sample sample ≡ Ok b) where
     chunk : InChunk m Sample b.at
     chunk = block-in-chunk m Sample sample b e
 
@@ -67,6 +66,6 @@ module _ (m : List ℕ) (sample : ℕ) where
     pub frames-in : FramesIn m sample b.at
     frames-in = record { chunk = chunk; width = width; bytes = bytes; size = size; inside = rw size fits }
 
-  pub frames-refused : (r : Refusal) → found m Sample sample ≡ Refused r → frames_part m sample ≡ []
+  pub frames-refused : (r : Refusal) → found m Sample sample ≡ Err r → frames_part m sample ≡ []
   unfolding handed_out
   frames-refused r e = ap (handed_out) e

@@ -22,6 +22,7 @@
 -- The check is `module_verdict`, which the contract cites. A query finds a block by `found`, and what a query shows are the answers that the
 -- contracts of the queries cite.
 use Prim.Native.Nat.{ℕ, ◌+◌, ◌*◌, ◌≤◌, ◌<◌}
+use Rattle.std.specs.Prelude.{Ok, Err}
 use mathlib.Core.Path.{◌≡◌}
 use mathlib.Core.Logic.{◌↔◌}
 use mathlib.Core.List.{List, [], map}
@@ -31,15 +32,12 @@ use lib.IntN.{pos, negsuc, ◌-ℤ◌}
 use Rattle.refusal.specs.Numbers.{refusal}
 use Rattle.refusal.specs.declared.Reason.TheVariants.{NotThere}
 use Rattle.refusal.specs.declared.Refusal.{Refusal}
-use Rattle.refusal.specs.declared.Verdict.TheVariants.{Accepted, Refused}
 use Rattle.refusal.specs.Lengths.{length_if}
 use Rattle.cells.specs.Cells.{cell_bytes}
 use Rattle.cells.specs.Shown.{shown_cell}
 use Rattle.numbers.specs.Numbers.{number16, part_of}
 use Rattle.packed_rows.specs.Answers.{check_answer}
-use Rattle.packed_rows.specs.declared.CellAnswer.TheVariants.{Found as CellFound, Refused as CellRefused}
 use Rattle.layout.specs.declared.Layout.{Layout}
-use Rattle.layout.specs.declared.Outline.TheVariants.{Found as Opened}
 use Rattle.blocks.specs.StoredFields.{song_length, pattern_packed_length, packed_bytes, envelope_sections, envelope_value}
 use Rattle.blocks.specs.Sizes.{size_of, first_block}
 use Rattle.blocks.specs.Filling.{data_end}
@@ -49,7 +47,6 @@ use Rattle.blocks.specs.declared.RecordKind.TheVariants.{Song, Instrument, Patte
 use Rattle.module.specs.Verdicts.{opened, module_verdict}
 use Rattle.queries.specs.Finding.{first_of, found}
 use Rattle.queries.specs.declared.Block.{Block}
-use Rattle.queries.specs.declared.Found.TheVariants.{At, Refused as FindingRefused}
 use Rattle.samples.specs.Shown.{frames_part}
 use Rattle.envelopes.specs.declared.EnvelopeKind.TheVariants.{Volume, Panning}
 use Rattle.patterns.specs.Shown.{cell_answer, cells_answer}
@@ -70,60 +67,60 @@ pub samples-agree : map (λ (s : Samples.Sample). s.found) Samples.samples ≡ m
 samples-agree = Samples.samples-agree
 
 -- Theorem 13.
-pub block-in-chunk : (m : List ℕ) (kind : RecordKind) (number : ℕ) (b : Block) → found m kind number ≡ At b → InChunk m kind b.at
+pub block-in-chunk : (m : List ℕ) (kind : RecordKind) (number : ℕ) (b : Block) → found m kind number ≡ Ok b → InChunk m kind b.at
 block-in-chunk = FoundBlocks.block-in-chunk
 
 -- Theorem 14.
-pub first-block : (m : List ℕ) (l : Layout) (kind : RecordKind) (b : Block) → opened m ≡ Opened l
-    → found m kind (first_of kind) ≡ At b
+pub first-block : (m : List ℕ) (l : Layout) (kind : RecordKind) (b : Block) → opened m ≡ Ok l
+    → found m kind (first_of kind) ≡ Ok b
     → b.at ≡ first_block (block_kind_of kind) (chunk_of l kind)
 first-block = FoundBlocks.first-block
 
-pub next-block : (m : List ℕ) (kind : RecordKind) (number : ℕ) (b : Block) → found m kind number ≡ At b → (c : Block)
-    → found m kind (number + 1) ≡ At c
+pub next-block : (m : List ℕ) (kind : RecordKind) (number : ℕ) (b : Block) → found m kind number ≡ Ok b → (c : Block)
+    → found m kind (number + 1) ≡ Ok c
     → c.at ≡ b.at + size_of (block_kind_of kind) m b.at
 next-block = FoundBlocks.next-block
 
-pub last_block : (m : List ℕ) (kind : RecordKind) (number : ℕ) (b : Block) → found m kind number ≡ At b
-    → (l : Layout) (r : Refusal) → opened m ≡ Opened l → found m kind (number + 1) ≡ FindingRefused r
+pub last_block : (m : List ℕ) (kind : RecordKind) (number : ℕ) (b : Block) → found m kind number ≡ Ok b
+    → (l : Layout) (r : Refusal) → opened m ≡ Ok l → found m kind (number + 1) ≡ Err r
     → b.at + size_of (block_kind_of kind) m b.at ≡ data_end (chunk_of l kind)
 last_block = FoundBlocks.last_block
 
 -- Theorem 15.
-pub frames-whole : (m : List ℕ) (sample : ℕ) (b : Block) → found m Sample sample ≡ At b → FramesIn m sample b.at
+pub frames-whole : (m : List ℕ) (sample : ℕ) (b : Block) → found m Sample sample ≡ Ok b → FramesIn m sample b.at
 frames-whole = SampleFrames.frames-in
 
-pub frames-refused : (m : List ℕ) (sample : ℕ) (r : Refusal) → found m Sample sample ≡ FindingRefused r → frames_part m sample ≡ []
+pub frames-refused : (m : List ℕ) (sample : ℕ) (r : Refusal) → found m Sample sample ≡ Err r → frames_part m sample ≡ []
 frames-refused = SampleFrames.frames-refused
 
 -- Theorem 16.
-module _ (m : List ℕ) (pattern : ℕ) (b : Block) (there : found m Pattern pattern ≡ At b) where
+module _ (m : List ℕ) (pattern : ℕ) (b : Block) (there : found m Pattern pattern ≡ Ok b) where
   pub packed-whole : length (packed_bytes m b.at) ≡ pattern_packed_length m b.at
   packed-whole = FoundPatterns.packed-whole m pattern b there
 
-  pub stream-accepted : check_answer (packed_bytes m b.at) (number16 m b.at) b.tracks ≡ Accepted
+  pub stream-accepted : check_answer (packed_bytes m b.at) (number16 m b.at) b.tracks ≡ Ok tt
   stream-accepted = FoundPatterns.stream-accepted m pattern b there
 
   pub unpack-length : (room : ℕ) → cells_answer m pattern room ≡ length_if (cell_bytes (number16 m b.at) b.tracks) room
   unpack-length = FoundPatterns.unpack-length m pattern b there
 
-  pub cell-not-there : (row track : ℕ) → (cell_answer m pattern row track ≡ CellRefused (refusal NotThere 0)) ↔ (HasCell m b row track → ⊥)
+  pub cell-not-there : (row track : ℕ) → (cell_answer m pattern row track ≡ Err (refusal NotThere 0)) ↔ (HasCell m b row track → ⊥)
   cell-not-there = FoundPatterns.cell-not-there m pattern b there
 
-  pub cell-shown : (row track : ℕ) → HasCell m b row track → cell_answer m pattern row track ≡ CellFound (shown_cell (stored_cell m b row track))
+  pub cell-shown : (row track : ℕ) → HasCell m b row track → cell_answer m pattern row track ≡ Ok (shown_cell (stored_cell m b row track))
   cell-shown = FoundPatterns.cell-shown m pattern b there
 
 -- Theorem 17.
-pub module-name : (m : List ℕ) (l : Layout) → opened m ≡ Opened l → l.spans.name.present ≡ true → (name_answer m).name ≡ part_of m (l.spans.name.at + 8) 44
+pub module-name : (m : List ℕ) (l : Layout) → opened m ≡ Ok l → l.spans.name.present ≡ true → (name_answer m).name ≡ part_of m (l.spans.name.at + 8) 44
 module-name = ShownBytes.module-name
 
-pub song-name : (m : List ℕ) (song : ℕ) (b : Block) → found m Song song ≡ At b → (song_answer m song).name ≡ part_of m b.at 44
+pub song-name : (m : List ℕ) (song : ℕ) (b : Block) → found m Song song ≡ Ok b → (song_answer m song).name ≡ part_of m b.at 44
 song-name = ShownBytes.song-name
 
-pub playlist-bytes : (m : List ℕ) (song : ℕ) (b : Block) → found m Song song ≡ At b → playlist_bytes m b.at ≡ part_of m (b.at + 46) (2 * song_length m b.at)
+pub playlist-bytes : (m : List ℕ) (song : ℕ) (b : Block) → found m Song song ≡ Ok b → playlist_bytes m b.at ≡ part_of m (b.at + 46) (2 * song_length m b.at)
 playlist-bytes = ShownBytes.playlist-bytes
 
-pub instrument-name : (m : List ℕ) (instrument : ℕ) (b : Block) → found m Instrument instrument ≡ At b
+pub instrument-name : (m : List ℕ) (instrument : ℕ) (b : Block) → found m Instrument instrument ≡ Ok b
     → (instrument_answer m instrument).name ≡ part_of m b.at 30
 instrument-name = ShownBytes.instrument-name
 
@@ -134,7 +131,7 @@ volume-values = EnvelopeValues.volume-values
 pub panning-values : (m : List ℕ) (envelope point : ℕ) → Between (negsuc 127) (pos 128) (value_at m Panning envelope point)
 panning-values = EnvelopeValues.panning-values
 
-pub panning-scaled : (m : List ℕ) (envelope : ℕ) (b : Block) → found m PanningEnvelope envelope ≡ At b → b.version ≡ 2
+pub panning-scaled : (m : List ℕ) (envelope : ℕ) (b : Block) → found m PanningEnvelope envelope ≡ Ok b → b.version ≡ 2
     → (point : ℕ) → point ≤ envelope_sections m b.at
     → (envelope_value m b.at point ≤ 64) × (value_at m Panning envelope point ≡ pos (4 * envelope_value m b.at point) -ℤ pos 128)
 panning-scaled = EnvelopeValues.panning-scaled
@@ -143,5 +140,5 @@ panning-scaled = EnvelopeValues.panning-scaled
 pub refusals-agree : map (λ (w : WorkedRefusals.Worked). w.found) WorkedRefusals.worked ≡ map (λ (w : WorkedRefusals.Worked). w.said) WorkedRefusals.worked
 refusals-agree = WorkedRefusals.refusals-agree
 
-pub too-long : (m : List ℕ) → 16777216 < length m → module_verdict m ≡ Refused (record { number = 1; place = 0 })
+pub too-long : (m : List ℕ) → 16777216 < length m → module_verdict m ≡ Err (record { number = 1; place = 0 })
 too-long = WorkedRefusals.too-long

@@ -6,6 +6,10 @@
 -- The numbers and places are counted from document 01 and from the lengths in `SmallModules`; each part of the table says where its chunks
 -- begin. 0 0 is accepted.
 use Prim.Native.Nat.{ℕ, ◌<◌}
+use Rattle.std.specs.Prelude.{Result, Err}
+use Rattle.refusal.specs.declared.Refusal.{Refusal}
+use Rattle.refusal.specs.Lengths.{value_numbers}
+use Rattle.cells.specs.declared.Cell.{Cell}
 use mathlib.Core.Path.{◌≡◌, refl}
 use mathlib.Core.List.{List, [], ◌∷◌, ◌++◌, map}
 use lib.ListN.{length, take, replicate}
@@ -14,11 +18,9 @@ use Rattle.vocabulary.specs.Lists.{joined}
 use Rattle.vocabulary.specs.Letters.{name_letters, info_letters, song_letters, inst_letters, patt_letters, smpl_letters, venv_letters, penv_letters}
 use Rattle.refusal.specs.Numbers.{outcome_numbers}
 use Rattle.refusal.specs.declared.Outcome.{Outcome}
-use Rattle.refusal.specs.declared.Verdict.TheVariants.{Refused}
 use Rattle.numbers.specs.Numbers.{byte_at, number16, number32}
 use Rattle.packed_rows.specs.Stream.{read_from, reading, cells_read}
-use Rattle.packed_rows.specs.Answers.{unpack_answer, pack_answer, repack_stream_answer, cell_of, unpacking_numbers, packing_numbers, cell_numbers}
-use Rattle.packed_rows.specs.declared.CellAnswer.{CellAnswer}
+use Rattle.packed_rows.specs.Answers.{unpack_answer, pack_answer, repack_stream_answer, cell_of, cell_numbers}
 use Rattle.layout.specs.Chunks.{chunks_from, chunks}
 use Rattle.layout.specs.Outlines.{outline_numbers}
 use Rattle.blocks.specs.Sizes.{size_of}
@@ -398,7 +400,7 @@ answer_gives : Outcome → ℕ → ℕ → Worked
 unfolding gives
 answer_gives outcome = gives (outcome_numbers outcome)
 
-cell_gives : CellAnswer → ℕ → ℕ → Worked
+cell_gives : Result Cell Refusal → ℕ → ℕ → Worked
 cell_gives answer number place = record { found = cell_numbers answer; said = number ∷ place ∷ replicate 9 0 }
 
 -- The 42 bytes with the module's own refusal, 8 at 42.
@@ -507,13 +509,13 @@ values =
 
 -- The number and place of the answers of unpacking, packing and repacking.
 unpacked : List ℕ → ℕ → ℕ → ℕ → List ℕ
-unpacked stream rows tracks room = take 2 (unpacking_numbers (unpack_answer stream rows tracks room))
+unpacked stream rows tracks room = take 2 (value_numbers (unpack_answer stream rows tracks room))
 
 packed : List ℕ → ℕ → ℕ → ℕ → List ℕ
-packed cells rows tracks room = take 2 (packing_numbers (pack_answer cells rows tracks room))
+packed cells rows tracks room = take 2 (value_numbers (pack_answer cells rows tracks room))
 
 repacked : List ℕ → ℕ → ℕ → ℕ → List ℕ
-repacked stream rows tracks room = take 2 (packing_numbers (repack_stream_answer stream rows tracks room))
+repacked stream rows tracks room = take 2 (value_numbers (repack_stream_answer stream rows tracks room))
 
 -- A stream that is broken at its front: no mask follows the track.
 broken : List ℕ
@@ -598,5 +600,5 @@ unfolding worked same_each read_from reading byte_at number16 number32 chunks_fr
 refusals-agree = same-rows (map (λ (w : Worked). w.found) worked) (map (λ (w : Worked). w.said) worked) refl
 
 -- Number 1: a list that is too long.
-pub too-long : (m : List ℕ) → 16777216 < length m → module_verdict m ≡ Refused (record { number = 1; place = 0 })
+pub too-long : (m : List ℕ) → 16777216 < length m → module_verdict m ≡ Err (record { number = 1; place = 0 })
 too-long m long = simp (lt-leb _ _ long)

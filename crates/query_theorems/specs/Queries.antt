@@ -1,13 +1,12 @@
 -- FORMAT.md, B1 to B6 and Q9 to Q12: the terms that the theorems about queries use: the place of a block that a query finds, the frames of
 -- a sample, the cells of a pattern and the values of an envelope. A record kind is what a query requests: a song, an instrument, a pattern,
 -- a sample, a volume envelope or a panning envelope.
-use Rattle.std.specs.Prelude.{ℕ, ◌+◌, ◌-◌, ◌*◌, ◌≤◌, ◌<◌, ◌≡◌, ◌⊎◌, List, [], true, length, get_or, ℤ, pos, ◌≤ℤ◌}
+use Rattle.std.specs.Prelude.{ℕ, ◌+◌, ◌-◌, ◌*◌, ◌≤◌, ◌<◌, ◌≡◌, ◌⊎◌, List, [], true, length, get_or, ℤ, pos, ◌≤ℤ◌, Ok}
 use Rattle.cells.specs.Cells.{rows_of, empty_cell}
 use Rattle.numbers.specs.Numbers.{number16, number32, part_of}
 use Rattle.packed_rows.specs.Stream.{cells_read}
 use Rattle.layout.specs.Chunks.{song_identifier, inst_identifier, patt_identifier, smpl_identifier, venv_identifier, penv_identifier}
 use Rattle.layout.specs.declared.Layout.{Layout}
-use Rattle.layout.specs.declared.Outline.TheVariants.{Found as Opened}
 use Rattle.blocks.specs.StoredFields.{packed_bytes, sample_frames}
 use Rattle.blocks.specs.Sizes.{size_of}
 use Rattle.blocks.specs.Filling.{data_end}
@@ -34,7 +33,7 @@ kind_identifier PanningEnvelope = penv_identifier
 -- present, with its own identifier and the length in its header, and it is whole.
 pub record InChunk (m : List ℕ) (kind : RecordKind) (at : ℕ) : Type 0 where
   pub layout : Layout
-  pub opens : opened m ≡ Opened layout
+  pub opens : opened m ≡ Ok layout
   pub present : (chunk_of layout kind).present ≡ true
   pub header : HeaderAt m (chunk_of layout kind).at
   pub named : number32 m (chunk_of layout kind).at ≡ kind_identifier kind

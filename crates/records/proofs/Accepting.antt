@@ -1,17 +1,19 @@
 -- What acceptance of a module provides for the code that writes its records: the values of envelopes fit 2 bytes, and the lengths are known
 -- in advance.
-use Prim.Native.Nat.{ℕ, ◌+◌, ◌*◌, ◌≤◌}
+use Prim.Native.Nat.{ℕ, zero, suc, ◌+◌, ◌-◌, ◌*◌, ◌<◌, ◌≤◌}
+use Rattle.std.specs.Prelude.{Ok}
 use mathlib.Core.Path.{◌≡◌, refl, sym, ap, subst, ◌∙◌}
-use mathlib.Core.List.{List, ◌++◌, map, append_assoc}
+use mathlib.Core.List.{List, [], ◌∷◌, ◌++◌, map, append-nil}
 use native.Mathlib.Omega.{arith}
-use lib.ListN.{length, drop, length-append}
+use native.Mathlib.Numerals.{add-one}
+use lib.ListN.{length, drop, get_or, length-append, drop_of_length-le}
 use lib.Dec.{eqb}
 use borrow.Author.Tests.{leb-true}
+use borrow.Rule.Slice.PartMut.{mid_of, put_mid}
 use Rattle.vocabulary.specs.Lists.{joined, Every}
 use Rattle.vocabulary.proofs.EveryOne.{every_of}
 use Rattle.layout.specs.declared.ChunkSpan.{ChunkSpan}
 use Rattle.layout.specs.declared.Layout.{Layout}
-use Rattle.layout.specs.declared.Outline.TheVariants.{Found}
 use Rattle.blocks.specs.StoredFields.{envelope_value}
 use Rattle.blocks.specs.Sizes.{size_of, places_from, block_at, blocks_of}
 use Rattle.blocks.specs.declared.BlockKind.{BlockKind}
@@ -24,8 +26,8 @@ use Rattle.acceptance.proofs.Holding.{AllHold}
 use Rattle.acceptance.proofs.PointsInUse.{value-fits}
 use Rattle.acceptance.proofs.OpenModules.{Opens, module-opens}
 use Rattle.records.specs.Records.{summary_record, record_at, records_of, all_records}
-use Rattle.records.specs.Steps.{records_from, records_of_three, ValuesScale}
-use Rattle.acceptance.proofs.Ahead.{every_any}
+use Rattle.records.specs.Steps.{records_from, ValuesScale}
+use Rattle.acceptance.proofs.Ahead.{Ahead, ahead-second, ahead-inside, ahead_small, ahead-part, ahead-next, ahead-over, every_any}
 use Rattle.records.proofs.RecordLengths.{summary-length, record-length, equal-lengths, block-lengths}
 
 -- A panning envelope for which the rules hold.
@@ -33,7 +35,7 @@ panning-fits : (m : List ℕ) (instruments version at : ℕ) → AllHold (envelo
 panning-fits m instruments version at hold point h two =
     leb-true (envelope_value m at point) 64 (rw two at (value-fits m instruments (eqb version 3) at hold point h))
 
-module _ (m : List ℕ) (l : Layout) (o : opened m ≡ Found l) where
+module _ (m : List ℕ) (l : Layout) (o : opened m ≡ Ok l) where
   opens : Opens m l
   opens = module-opens m l o
 
@@ -76,7 +78,7 @@ module _ (m : List ℕ) (l : Layout) where
       (record-length m l.version PanningEnvelope) _ _
 
   -- The length that is computed for each kind.
-  pub songs-reported : opened m ≡ Found l → (kind : RecordKind) (chunk : ChunkSpan) → kind ≡ Song → chunk ≡ chunk_of l kind
+  pub songs-reported : opened m ≡ Ok l → (kind : RecordKind) (chunk : ChunkSpan) → kind ≡ Song → chunk ≡ chunk_of l kind
       → chunk.length ≡ length (records_of m l kind)
   songs-reported o kind chunk e c = rw e (ap (λ (p : ChunkSpan). p.length) (rw e at c) ∙ sym (songs-length m l o))
 
@@ -115,7 +117,7 @@ module _ (m : List ℕ) (l : Layout) (kind : RecordKind) (blocks : BlockKind) (c
   pub records-same : records_from m blocks kind l.version count start ≡ records_of m l kind
   records-same = ap (λ (places : List ℕ). joined (map (record_at m l.version kind) places)) places_same
 
-  pub records-ready : opened m ≡ Found l → Every (ValuesScale m l.version kind) (places_from (size_of blocks m) count start)
+  pub records-ready : opened m ≡ Ok l → Every (ValuesScale m l.version kind) (places_from (size_of blocks m) count start)
   records-ready o = subst (Every (ValuesScale m l.version kind)) (sym places_same) (values-fit m l o kind)
 
   pub records-written : (out : List ℕ) {out' : List ℕ} {r : ℕ}
@@ -123,23 +125,57 @@ module _ (m : List ℕ) (l : Layout) (kind : RecordKind) (blocks : BlockKind) (c
       → (r ≡ length (records_of m l kind)) × (out' ≡ records_of m l kind ++ drop r out)
   records-written out w = rw records-same at w
 
--- All records as they are written: the summary, three kinds, and the three others.
-abbrev pub by_threes : List ℕ → Layout → List ℕ
-by_threes m l =
-    summary_record m l
-    ++ (records_of_three m l Song Instrument Pattern ++ records_of_three m l Sample VolumeEnvelope PanningEnvelope)
+-- All records as they are written: the summary, and the kinds one after the other.
+abbrev pub kinds : List RecordKind
+kinds = Song ∷ Instrument ∷ Pattern ∷ Sample ∷ VolumeEnvelope ∷ PanningEnvelope ∷ []
 
-pub all_split : (m : List ℕ) (l : Layout) → by_threes m l ≡ all_records m l
-all_split m l =
-    let others : List ℕ = records_of_three m l Sample VolumeEnvelope PanningEnvelope in
-    ap (λ (rest : List ℕ). summary_record m l ++ rest)
-    (append_assoc (records_of m l Song) (records_of m l Instrument ++ records_of m l Pattern) others
-    ∙ ap (λ (rest : List ℕ). records_of m l Song ++ rest) (append_assoc (records_of m l Instrument) (records_of m l Pattern) others))
+module _ (m : List ℕ) (l : Layout) where
+  abbrev pub of_kinds : List RecordKind → List ℕ
+  of_kinds some = joined (map (records_of m l) some)
 
-pub all-written : (m : List ℕ) (l : Layout) (out : List ℕ) {out' : List ℕ} {r : ℕ}
-    → (r ≡ length (by_threes m l)) × (out' ≡ by_threes m l ++ drop r out)
-    → (r ≡ length (all_records m l)) × (out' ≡ all_records m l ++ drop r out)
-all-written m l out {out'} {r} w = subst (λ (all : List ℕ). (r ≡ length all) × (out' ≡ all ++ drop r out)) (all_split m l) w
+  kind-next : (some : List RecordKind) (i : ℕ) → i < length some
+      → of_kinds (drop i some) ≡ records_of m l (get_or some i Song) ++ of_kinds (drop (suc i) some)
+  kind-next [] i h = absurd (omega arith)
+  kind-next (kind ∷ some) zero h = refl
+  kind-next (kind ∷ some) (suc i) h = kind-next some i (omega arith)
 
-pub all_room : (m : List ℕ) (l : Layout) {k : ℕ} → length (all_records m l) ≤ k → length (by_threes m l) ≤ k
-all_room m l {k} h = subst (λ (all : List ℕ). length all ≤ k) (sym (all_split m l)) h
+  all_split : summary_record m l ++ of_kinds kinds ≡ all_records m l
+  all_split = simp append-nil
+
+  -- The loop over the kinds: those before an index are written.
+  abbrev pub KindsFrom : List ℕ → List ℕ → ℕ → ℕ → Type 0
+  KindsFrom out₀ out to i = Ahead out₀ (all_records m l) out to (of_kinds (drop i kinds))
+
+  pub kinds-first : (out₀ out : List ℕ) → out ≡ summary_record m l ++ drop 60 out₀ → KindsFrom out₀ out 60 0
+  kinds-first out₀ out e =
+      subst (λ (all : List ℕ). Ahead out₀ all out 60 (of_kinds kinds)) all_split
+      (ahead-second (summary_record m l) (of_kinds kinds) (sym (summary-length m l), e))
+
+  module _ {out₀ out : List ℕ} {to : ℕ} (i : ℕ) (room : length (all_records m l) ≤ length out₀) (state : KindsFrom out₀ out to i) where
+    pub kinds-inside : to ≤ length out
+    kinds-inside = ahead-inside room out (of_kinds (drop i kinds)) state
+
+    pub kinds-last : 6 ≤ i → (to ≡ length (all_records m l)) × (out ≡ all_records m l ++ drop to out₀)
+    kinds-last over =
+        let P : List ℕ → Type 0 = Ahead out₀ (all_records m l) out to in
+        ahead-over room out (subst P (ap of_kinds (drop_of_length-le kinds {i = i} over)) state)
+
+    module _ (less : i < 6) where
+      abbrev this : List ℕ
+      this = records_of m l (get_or kinds i Song)
+
+      abbrev later : List ℕ
+      later = of_kinds (drop (suc i) kinds)
+
+      next : Ahead out₀ (all_records m l) out to (this ++ later)
+      next = let P : List ℕ → Type 0 = Ahead out₀ (all_records m l) out to in subst P (kind-next kinds i less) state
+
+      pub kinds-part : length this ≤ length (mid_of to (length out - to) out)
+      kinds-part = ahead-part room out this later next
+
+      pub kinds-small : to + length this ≤ length out₀
+      kinds-small = ahead_small room out this later next
+
+      pub kinds-turn : (mid : List ℕ) {r : ℕ} → (r ≡ length this) × (mid ≡ this ++ drop r (mid_of to (length out - to) out))
+          → KindsFrom out₀ (put_mid to (length out - to) out mid) (to + r) (i + 1)
+      kinds-turn mid written = rw (add-one i) (ahead-next room out this later next mid written)

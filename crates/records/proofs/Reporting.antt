@@ -1,5 +1,8 @@
 -- Theorem 19, kind by kind: what a query answers for a block that is found is the block's record; for a playlist, entry by entry.
 use Prim.Native.Nat.{ℕ, zero, suc, ◌+◌, ◌*◌, ◌<◌}
+use Rattle.std.specs.Prelude.{Result, Ok}
+use Rattle.refusal.specs.declared.Refusal.{Refusal}
+use Rattle.queries.specs.declared.Block.{Block}
 use mathlib.Core.Path.{◌≡◌, refl, sym, ap, ◌∙◌}
 use mathlib.Core.List.{List, ◌++◌}
 use native.Mathlib.Omega.{arith}
@@ -8,12 +11,9 @@ use borrow.Author.Tests.{lt-ltb}
 use Rattle.vocabulary.specs.Lists.{joined}
 use Rattle.numbers.specs.Numbers.{Bytes, number16, each_from, bytes_from, bytes16}
 use Rattle.layout.specs.declared.Layout.{Layout}
-use Rattle.layout.specs.declared.Outline.{Outline}
-use Rattle.layout.specs.declared.Outline.TheVariants.{Found as Opened}
 use Rattle.blocks.specs.StoredFields.{song_length, song_entry}
 use Rattle.blocks.specs.declared.RecordKind.TheVariants.{Song, Instrument, Pattern, Sample, VolumeEnvelope, PanningEnvelope}
 use Rattle.module.specs.Verdicts.{opened}
-use Rattle.queries.specs.declared.Found.{Found}
 use Rattle.samples.specs.Shown.{sample_if}
 use Rattle.envelopes.specs.Shown.{count_if, envelope_if}
 use Rattle.envelopes.specs.declared.EnvelopeKind.TheVariants.{Volume, Panning}
@@ -54,10 +54,10 @@ pub same-joint : {a b c d e f g a' b' c' d' e' f' g' : List ℕ} → a ≡ a' �
     → a ++ (b ++ (c ++ (d ++ (e ++ (f ++ g))))) ≡ a' ++ (b' ++ (c' ++ (d' ++ (e' ++ (f' ++ g')))))
 same-joint p q r s t u v = rw (p, q, r, s, t, u, v) refl
 
-module _ (m : List ℕ) (l : Layout) (o : opened m ≡ Opened l) where
+module _ (m : List ℕ) (l : Layout) (o : opened m ≡ Ok l) where
   summary-reported : reported_summary m ≡ summary_record m l
   summary-reported =
-      ap (λ (x : Outline).
+      ap (λ (x : Result Layout Refusal).
       version_record (version_if x)
       ++ ((name_if m x).name ++ (info_record (info_if x) ++ (bytes16 (count_if m Volume x).count ++ bytes16 (count_if m Panning x).count))))
       o
@@ -65,40 +65,40 @@ module _ (m : List ℕ) (l : Layout) (o : opened m ≡ Opened l) where
   songs-reported : Bytes m → joined (each_from (reported_song m) 0 (info_if (opened m)).songs) ≡ records_of m l Song
   unfolding record_at
   songs-reported bytes =
-      ap (λ (x : Outline). joined (each_from (reported_song m) 0 (info_if x).songs)) o
+      ap (λ (x : Result Layout Refusal). joined (each_from (reported_song m) 0 (info_if x).songs)) o
       ∙ records-numbered m l o Song
-      (λ (f : Found). song_record (song_if m f) (joined (each_from (λ (entry : ℕ). bytes16 (entry_if m entry f).pattern) 0 (song_if m f).length)))
+      (λ (f : Result Block Refusal). song_record (song_if m f) (joined (each_from (λ (entry : ℕ). bytes16 (entry_if m entry f).pattern) 0 (song_if m f).length)))
       (λ b. ap (song_record (shown_song m b.at)) (playlist-given m bytes b.at))
 
   instruments-reported : joined (each_from (reported_instrument m) 1 (info_if (opened m)).instruments) ≡ records_of m l Instrument
   unfolding record_at
   instruments-reported =
-      ap (λ (x : Outline). joined (each_from (reported_instrument m) 1 (info_if x).instruments)) o
-      ∙ records-numbered m l o Instrument (λ (f : Found). instrument_record (instrument_if m f)) (λ b. refl)
+      ap (λ (x : Result Layout Refusal). joined (each_from (reported_instrument m) 1 (info_if x).instruments)) o
+      ∙ records-numbered m l o Instrument (λ (f : Result Block Refusal). instrument_record (instrument_if m f)) (λ b. refl)
 
   patterns-reported : joined (each_from (reported_pattern m) 0 (info_if (opened m)).patterns) ≡ records_of m l Pattern
   unfolding record_at
   patterns-reported =
-      ap (λ (x : Outline). joined (each_from (reported_pattern m) 0 (info_if x).patterns)) o
-      ∙ records-numbered m l o Pattern (λ (f : Found). bytes16 (rows_if m f).rows) (λ b. refl)
+      ap (λ (x : Result Layout Refusal). joined (each_from (reported_pattern m) 0 (info_if x).patterns)) o
+      ∙ records-numbered m l o Pattern (λ (f : Result Block Refusal). bytes16 (rows_if m f).rows) (λ b. refl)
 
   samples-reported : joined (each_from (reported_sample m) 1 (info_if (opened m)).samples) ≡ records_of m l Sample
   unfolding record_at
   samples-reported =
-      ap (λ (x : Outline). joined (each_from (reported_sample m) 1 (info_if x).samples)) o
-      ∙ records-numbered m l o Sample (λ (f : Found). sample_record (sample_if m f)) (λ b. refl)
+      ap (λ (x : Result Layout Refusal). joined (each_from (reported_sample m) 1 (info_if x).samples)) o
+      ∙ records-numbered m l o Sample (λ (f : Result Block Refusal). sample_record (sample_if m f)) (λ b. refl)
 
   volumes-reported : joined (each_from (reported_envelope m Volume) 0 (count_if m Volume (opened m)).count) ≡ records_of m l VolumeEnvelope
   unfolding record_at
   volumes-reported =
-      ap (λ (x : Outline). joined (each_from (reported_envelope m Volume) 0 (count_if m Volume x).count)) o
-      ∙ records-numbered m l o VolumeEnvelope (λ (f : Found). envelope_record (envelope_if m Volume f)) (λ b. refl)
+      ap (λ (x : Result Layout Refusal). joined (each_from (reported_envelope m Volume) 0 (count_if m Volume x).count)) o
+      ∙ records-numbered m l o VolumeEnvelope (λ (f : Result Block Refusal). envelope_record (envelope_if m Volume f)) (λ b. refl)
 
   pannings-reported : joined (each_from (reported_envelope m Panning) 0 (count_if m Panning (opened m)).count) ≡ records_of m l PanningEnvelope
   unfolding record_at
   pannings-reported =
-      ap (λ (x : Outline). joined (each_from (reported_envelope m Panning) 0 (count_if m Panning x).count)) o
-      ∙ records-numbered m l o PanningEnvelope (λ (f : Found). envelope_record (envelope_if m Panning f)) (λ b. refl)
+      ap (λ (x : Result Layout Refusal). joined (each_from (reported_envelope m Panning) 0 (count_if m Panning x).count)) o
+      ∙ records-numbered m l o PanningEnvelope (λ (f : Result Block Refusal). envelope_record (envelope_if m Panning f)) (λ b. refl)
 
   pub records-reported : Bytes m → all_records m l ≡ reported_records m
   records-reported bytes =

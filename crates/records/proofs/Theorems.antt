@@ -10,15 +10,14 @@
 -- The answer of the call is `all_answer`, and its output is `all_output`; its contract cites these. `reported_records` uses the queries' own
 -- answers and no place of a block.
 use Prim.Native.Nat.{ℕ}
+use Rattle.std.specs.Prelude.{Ok, Err}
 use mathlib.Core.Path.{◌≡◌, ap, ◌∙◌}
 use mathlib.Core.List.{List}
 use lib.ListN.{length}
 use Rattle.refusal.specs.declared.Refusal.{Refusal}
-use Rattle.refusal.specs.declared.Verdict.TheVariants.{Accepted, Refused}
 use Rattle.refusal.specs.Lengths.{refused_length, length_if, output_if}
 use Rattle.numbers.specs.Numbers.{Bytes}
 use Rattle.layout.specs.declared.Layout.{Layout}
-use Rattle.layout.specs.declared.Outline.TheVariants.{Found}
 use Rattle.module.specs.Verdicts.{opened, module_verdict}
 use Rattle.module.specs.Outputs.{answer_opened, output_opened}
 use Rattle.acceptance.proofs.OpenModules.{accepted-opens, refused-opens}
@@ -27,14 +26,14 @@ use Rattle.records.specs.Reported.{reported_records}
 use Rattle.records.proofs.Reporting as Reporting
 
 -- Theorem 19.
-pub records-reported : (m : List ℕ) → Bytes m → (l : Layout) → opened m ≡ Found l → all_records m l ≡ reported_records m
+pub records-reported : (m : List ℕ) → Bytes m → (l : Layout) → opened m ≡ Ok l → all_records m l ≡ reported_records m
 records-reported m bytes l o = Reporting.records-reported m l o bytes
 
-module _ (m : List ℕ) (bytes : Bytes m) (accepted : module_verdict m ≡ Accepted) where
+module _ (m : List ℕ) (bytes : Bytes m) (accepted : module_verdict m ≡ Ok tt) where
   abbrev layout : Layout
   layout = (accepted-opens m accepted).0
 
-  opens : opened m ≡ Found layout
+  opens : opened m ≡ Ok layout
   opens = (accepted-opens m accepted).1
 
   pub all-reported : (room : ℕ) → all_answer m room ≡ length_if (length (reported_records m)) room
@@ -46,7 +45,7 @@ module _ (m : List ℕ) (bytes : Bytes m) (accepted : module_verdict m ≡ Accep
       ap (output_opened (all_records m) out) opens
       ∙ ap (λ (records : List ℕ). output_if (length_if (length records) (length out)) records out) (records-reported m bytes layout opens)
 
-module _ (m : List ℕ) (r : Refusal) (refused : module_verdict m ≡ Refused r) where
+module _ (m : List ℕ) (r : Refusal) (refused : module_verdict m ≡ Err r) where
   pub all-refused : (room : ℕ) → all_answer m room ≡ refused_length r
   all-refused room = ap (answer_opened (all_records m) room) (refused-opens m r refused)
 

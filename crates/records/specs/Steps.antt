@@ -3,7 +3,6 @@
 use Rattle.std.specs.Prelude.{ℕ, ◌≤◌, ◌≡◌, List, ◌++◌, map}
 use Rattle.vocabulary.specs.Lists.{joined}
 use Rattle.numbers.specs.Numbers.{bytes16, unsigned16}
-use Rattle.layout.specs.declared.Layout.{Layout}
 use Rattle.blocks.specs.StoredFields.{envelope_sections, envelope_value}
 use Rattle.blocks.specs.Sizes.{size_of, places_from}
 use Rattle.blocks.specs.declared.BlockKind.{BlockKind}
@@ -12,7 +11,7 @@ use Rattle.blocks.specs.declared.RecordKind.TheVariants.{Song, Instrument, Patte
 use Rattle.envelopes.specs.Shown.{position_shown, value_shown}
 use Rattle.envelopes.specs.declared.EnvelopeKind.{EnvelopeKind}
 use Rattle.envelopes.specs.declared.EnvelopeKind.TheVariants.{Volume, Panning}
-use Rattle.records.specs.Records.{record_at, records_of}
+use Rattle.records.specs.Records.{record_at}
 
 -- A point of the envelope at a place.
 abbrev pub point_record : List ℕ → EnvelopeKind → ℕ → ℕ → ℕ → List ℕ
@@ -26,10 +25,6 @@ points_from m kind version at n point = joined (map (point_record m kind version
 -- The records of n blocks from a place on.
 abbrev pub records_from : List ℕ → BlockKind → RecordKind → ℕ → ℕ → ℕ → List ℕ
 records_from m blocks kind version n at = joined (map (record_at m version kind) (places_from (size_of blocks m) n at))
-
--- The records of three kinds, one kind after the other.
-abbrev pub records_of_three : List ℕ → Layout → RecordKind → RecordKind → RecordKind → List ℕ
-records_of_three m l a b c = records_of m l a ++ (records_of m l b ++ records_of m l c)
 
 -- V5: a panning value in version 2 is at most 64. There is no condition on other values.
 abbrev pub ValueScales : EnvelopeKind → ℕ → ℕ → Type 0

@@ -7,7 +7,6 @@ ghost use Rattle.std.specs.Prelude.{◌≡◌, ◌++◌, ◌<◌, ◌≤◌, len
 ghost use Rattle.std.specs.Int.Signed.{mag};
 ghost use Rattle.vocabulary.specs.Lists.{Every};
 ghost use Rattle.numbers.specs.Numbers.{SmallPlace, bytes_from, unsigned16, put_at};
-ghost use Rattle.layout.specs.declared.Outline.TheVariants.{Found};
 ghost use Rattle.blocks.specs.StoredFields.{envelope_sections};
 ghost use Rattle.blocks.specs.Sizes.{size_of, places_from};
 ghost use Rattle.module.specs.Verdicts.{opened};
@@ -16,16 +15,14 @@ ghost use Rattle.samples.specs.Shown.{shown_sample};
 ghost use Rattle.envelopes.specs.Shown.{record_kind};
 ghost use Rattle.summary.specs.Shown.{shown_info};
 ghost use Rattle.records.specs.Records.{info_record, counts_record, summary_record, sample_record, record_at, records_of, all_records, all_answer, all_output};
-ghost use Rattle.records.specs.Steps.{point_record, points_from, records_from, records_of_three, ValuesScale};
+ghost use Rattle.records.specs.Steps.{point_record, points_from, records_from, ValuesScale};
 
 use blocks::stored::{envelope_sections, sample_flags, sample_frames};
-use blocks::{
-    BlockKind, RecordKind, block_at, block_kind, chunk_of, count_of, envelope_count, size, width,
-};
+use blocks::{BlockKind, RecordKind, block_at, chunk_of, count_of, envelope_count, size, width};
 use envelopes::{EnvelopeKind, position, value};
-use layout::{Layout, Outline};
+use layout::Layout;
 use numbers::{copy, put16, put32};
-use refusal::{LengthAnswer, Reason, refuse, refused, written};
+use refusal::{LengthAnswer, Reason, refuse};
 use summary::name_of;
 
 // Writes the numbers of INFO and the numbers of volume and panning envelopes: 14 bytes from 46 on.
@@ -110,14 +107,9 @@ fn write_points(m: &[u8], kind: EnvelopeKind, version: u8, at: usize, out: &mut 
     ensures { out.new ≡ points_from m.now kind version at 32 0 ++ drop 128 out.old }
 {
     let sections = envelope_sections(m, at);
-    let mut point: u8 = 0;
-    let mut to: usize = 0;
-    let mut left: u8 = 32;
-    while 0 < left {
+    for point in 0..32 {
+        let to = 4 * (point as usize);
         write_point(m, kind, version, at, sections, point, &mut out[to..]);
-        to = to + 4;
-        point = point + 1;
-        left = left - 1;
     }
 }
 
@@ -165,21 +157,19 @@ fn write_blocks(
 {
     let mut at = start;
     let mut to: usize = 0;
-    let mut left = count;
-    while 0 < left {
+    for _ in 0..count {
         to = to + write_record(m, kind, version, at, &mut out[to..]);
         at = at + size(m, blocks, at);
-        left = left - 1;
     }
     to
 }
 
 // Writes the records of all blocks of a record kind to the front of an output, and returns their length.
 fn write_records(m: &[u8], l: Layout, kind: RecordKind, out: &mut [u8]) -> usize
-    requires { (opened m.now ≡ Found l) × (length (records_of m.now l kind) ≤ length out.old) }
+    requires { (opened m.now ≡ Ok l) × (length (records_of m.now l kind) ≤ length out.old) }
     ensures { (result ≡ length (records_of m.now l kind)) × (out.new ≡ records_of m.now l kind ++ drop result out.old) }
 {
-    let blocks = block_kind(kind);
+    let blocks = BlockKind::from(kind);
     let start = block_at(m, blocks, chunk_of(l, kind), 0);
     let count = count_of(m, l, kind);
     write_blocks(m, blocks, kind, l.version, start, count, out)
@@ -187,7 +177,7 @@ fn write_records(m: &[u8], l: Layout, kind: RecordKind, out: &mut [u8]) -> usize
 
 // The length of the records of all blocks of a record kind. Those of songs are as long as their chunk's data.
 fn records_length(m: &[u8], l: Layout, kind: RecordKind) -> usize
-    requires { opened m.now ≡ Found l }
+    requires { opened m.now ≡ Ok l }
     ensures { (result ≡ length (records_of m.now l kind)) × (result < 0x100000000) }
 {
     let count = count_of(m, l, kind) as usize;
@@ -203,7 +193,7 @@ fn records_length(m: &[u8], l: Layout, kind: RecordKind) -> usize
 
 // The length of all records.
 fn all_length(m: &[u8], l: Layout) -> usize
-    requires { opened m.now ≡ Found l }
+    requires { opened m.now ≡ Ok l }
     ensures { result ≡ length (all_records m.now l) }
 {
     let songs = records_length(m, l, RecordKind::Song);
@@ -215,60 +205,37 @@ fn all_length(m: &[u8], l: Layout) -> usize
     60 + songs + instruments + patterns + samples + volume + panning
 }
 
-// Writes the records of three kinds to the front of an output, one kind after the other, and returns their length.
-fn write_three(
-    m: &[u8],
-    l: Layout,
-    a: RecordKind,
-    b: RecordKind,
-    c: RecordKind,
-    out: &mut [u8],
-) -> usize
-    requires { (opened m.now ≡ Found l) × (length (records_of_three m.now l a b c) ≤ length out.old) }
-    ensures { (result ≡ length (records_of_three m.now l a b c))
-        × (out.new ≡ records_of_three m.now l a b c ++ drop result out.old) }
-{
-    let first = write_records(m, l, a, out);
-    let second = first + write_records(m, l, b, &mut out[first..]);
-    second + write_records(m, l, c, &mut out[second..])
-}
-
 // Writes all records to the front of an output that has room for them, and returns their length.
 fn write_all(m: &[u8], l: Layout, out: &mut [u8]) -> usize
-    requires { (opened m.now ≡ Found l) × (length (all_records m.now l) ≤ length out.old) }
+    requires { (opened m.now ≡ Ok l) × (length (all_records m.now l) ≤ length out.old) }
     ensures { (result ≡ length (all_records m.now l)) × (out.new ≡ all_records m.now l ++ drop result out.old) }
 {
     write_summary(m, l, out);
-    let to = 60
-        + write_three(
-            m,
-            l,
-            RecordKind::Song,
-            RecordKind::Instrument,
-            RecordKind::Pattern,
-            &mut out[60..],
-        );
-    to + write_three(
-        m,
-        l,
+    let mut to = 60;
+    for kind in [
+        RecordKind::Song,
+        RecordKind::Instrument,
+        RecordKind::Pattern,
         RecordKind::Sample,
         RecordKind::VolumeEnvelope,
         RecordKind::PanningEnvelope,
-        &mut out[to..],
-    )
+    ] {
+        to = to + write_records(m, l, kind, &mut out[to..]);
+    }
+    to
 }
 
 // Writes all records of an accepted module. The only refusal is 17.
 fn all_opened(m: &[u8], l: Layout, out: &mut [u8]) -> LengthAnswer
-    requires { opened m.now ≡ Found l }
-    ensures { (result ≡ answer_opened (all_records m.now) (length out.old) (Found l))
-        × (out.new ≡ output_opened (all_records m.now) out.old (Found l)) }
+    requires { opened m.now ≡ Ok l }
+    ensures { (result ≡ answer_opened (all_records m.now) (length out.old) (Ok l))
+        × (out.new ≡ output_opened (all_records m.now) out.old (Ok l)) }
 {
     let needed = all_length(m, l);
     if out.len() < needed {
-        return refused(refuse(Reason::Room, needed));
+        return LengthAnswer::from(Err(refuse(Reason::Room, needed)));
     }
-    written(write_all(m, l, out))
+    LengthAnswer::from(Ok(write_all(m, l, out)))
 }
 
 // Writes all records of a module. The refusals are the module's own, then 17.
@@ -276,7 +243,7 @@ pub fn all(m: &[u8], out: &mut [u8]) -> LengthAnswer
     ensures { (result ≡ all_answer m.now (length out.old)) × (out.new ≡ all_output m.now out.old) }
 {
     match module::open(m) {
-        Outline::Found(l) => all_opened(m, l, out),
-        Outline::Refused(r) => refused(r),
+        Ok(l) => all_opened(m, l, out),
+        Err(r) => LengthAnswer::from(Err(r)),
     }
 }

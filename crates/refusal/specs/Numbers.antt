@@ -1,13 +1,11 @@
 -- FORMAT.md, "Refusals" (document 01, "Refusal numbers and their order"): the number of each reason, and an answer in numbers.
-use Rattle.std.specs.Prelude.{ℕ, ◌≡◌, List, [], ◌∷◌, ◌++◌, replicate}
+use Rattle.std.specs.Prelude.{ℕ, ◌≡◌, List, [], ◌∷◌, ◌++◌, replicate, ⊤, Result, Ok, Err}
 use Rattle.refusal.specs.declared.Reason.{Reason}
 use Rattle.refusal.specs.declared.Reason.TheVariants.{TooLong, NotAModule, Version, ChunkCut, Identifier, Repeated}
 use Rattle.refusal.specs.declared.Reason.TheVariants.{BeforeInfo, Missing, FixedLength, InfoRange, Blocks, Reference}
 use Rattle.refusal.specs.declared.Reason.TheVariants.{FieldRange, Loop, Stream, Sizes, Room, NotThere, OddFrames}
 use Rattle.refusal.specs.declared.Refusal.{Refusal}
 use Rattle.refusal.specs.declared.Outcome.{Outcome}
-use Rattle.refusal.specs.declared.Verdict.{Verdict}
-use Rattle.refusal.specs.declared.Verdict.TheVariants.{Accepted, Refused}
 
 -- F1: the number of each reason, from document 01's table.
 abbrev pub number_of : Reason → ℕ
@@ -42,9 +40,9 @@ no_refusal = record { number = 0; place = 0 }
 abbrev pub refused_outcome : Refusal → Outcome
 refused_outcome r = record { number = r.number; place = r.place }
 
-abbrev pub outcome_of : Verdict → Outcome
-outcome_of Accepted = no_refusal
-outcome_of (Refused r) = refused_outcome r
+abbrev pub outcome_of : Result ⊤ Refusal → Outcome
+outcome_of (Ok _) = no_refusal
+outcome_of (Err r) = refused_outcome r
 
 -- F1: an answer in document 01's numbers: the refusal's number and place, 0 and 0 if there is none, and then its values. On a refusal all
 -- values are 0.
@@ -58,9 +56,9 @@ abbrev pub refused_numbers : Refusal → ℕ → List ℕ
 refused_numbers r values = outcome_numbers (refused_outcome r) ++ replicate values 0
 
 -- A verdict in numbers: it has no values.
-abbrev pub verdict_numbers : Verdict → List ℕ
-verdict_numbers Accepted = accepted_numbers []
-verdict_numbers (Refused r) = refused_numbers r 0
+abbrev pub verdict_numbers : Result ⊤ Refusal → List ℕ
+verdict_numbers (Ok _) = accepted_numbers []
+verdict_numbers (Err r) = refused_numbers r 0
 
 -- What a contract says of an answer: it equals the answer given here, and so do its numbers.
 abbrev pub IsAnswer : {A : Type 0} → (A → List ℕ) → A → A → Type 0

@@ -5,7 +5,7 @@
 
 ghost use Rattle.std.specs.Prelude.{◌≡◌};
 ghost use Rattle.refusal.specs.Numbers.{number_of, refusal, outcome_of};
-ghost use Rattle.refusal.specs.Lengths.{refused_length, written_length};
+ghost use Rattle.refusal.specs.Lengths.{length_answer};
 
 // The reason of a refusal, in the order of document 01's table.
 #[derive(Clone, Copy)]
@@ -50,18 +50,11 @@ pub enum Reason {
     OddFrames,
 }
 
-// A refusal: document 01's number, and the place.
+// A refusal: document 01's number, and the place. It has the number and not the reason, because the answers for C promise every number.
 #[derive(Clone, Copy)]
 pub struct Refusal {
     pub number: u8,
     pub place: usize,
-}
-
-// The result of a check.
-#[derive(Clone, Copy)]
-pub enum Verdict {
-    Accepted,
-    Refused(Refusal),
 }
 
 // The first part of every answer: the refusal's number and place, 0 and 0 if there is none.
@@ -80,30 +73,32 @@ pub struct LengthAnswer {
     pub length: usize,
 }
 
-// The number of a reason.
-pub fn number(reason: Reason) -> u8
-    ensures { result ≡ number_of reason }
-{
-    match reason {
-        Reason::TooLong => 1,
-        Reason::NotAModule => 2,
-        Reason::Version => 3,
-        Reason::ChunkCut => 4,
-        Reason::Identifier => 5,
-        Reason::Repeated => 6,
-        Reason::BeforeInfo => 7,
-        Reason::Missing => 8,
-        Reason::FixedLength => 9,
-        Reason::InfoRange => 10,
-        Reason::Blocks => 11,
-        Reason::Reference => 12,
-        Reason::FieldRange => 13,
-        Reason::Loop => 14,
-        Reason::Stream => 15,
-        Reason::Sizes => 16,
-        Reason::Room => 17,
-        Reason::NotThere => 18,
-        Reason::OddFrames => 19,
+impl From<Reason> for u8 {
+    // The number of a reason.
+    ghost from_gives = { λ reason given. given ≡ number_of reason };
+
+    fn from(reason: Reason) -> u8 {
+        match reason {
+            Reason::TooLong => 1,
+            Reason::NotAModule => 2,
+            Reason::Version => 3,
+            Reason::ChunkCut => 4,
+            Reason::Identifier => 5,
+            Reason::Repeated => 6,
+            Reason::BeforeInfo => 7,
+            Reason::Missing => 8,
+            Reason::FixedLength => 9,
+            Reason::InfoRange => 10,
+            Reason::Blocks => 11,
+            Reason::Reference => 12,
+            Reason::FieldRange => 13,
+            Reason::Loop => 14,
+            Reason::Stream => 15,
+            Reason::Sizes => 16,
+            Reason::Room => 17,
+            Reason::NotThere => 18,
+            Reason::OddFrames => 19,
+        }
     }
 }
 
@@ -112,43 +107,43 @@ pub fn refuse(reason: Reason, place: usize) -> Refusal
     ensures { result ≡ refusal reason place }
 {
     Refusal {
-        number: number(reason),
+        number: u8::from(reason),
         place,
     }
 }
 
-// The first part of an answer. Every one is made here.
-pub fn outcome_of(verdict: Verdict) -> Outcome
-    ensures { result ≡ outcome_of verdict }
-{
-    match verdict {
-        Verdict::Accepted => Outcome {
-            number: 0,
-            place: 0,
-        },
-        Verdict::Refused(r) => Outcome {
-            number: r.number as u64,
-            place: r.place,
-        },
+impl From<Result<(), Refusal>> for Outcome {
+    // The first part of an answer. Every one is made here.
+    ghost from_gives = { λ verdict given. given ≡ outcome_of verdict };
+
+    fn from(verdict: Result<(), Refusal>) -> Outcome {
+        match verdict {
+            Ok(()) => Outcome {
+                number: 0,
+                place: 0,
+            },
+            Err(r) => Outcome {
+                number: r.number as u64,
+                place: r.place,
+            },
+        }
     }
 }
 
-// The answer of a call that refuses to fill an output.
-pub fn refused(r: Refusal) -> LengthAnswer
-    ensures { result ≡ refused_length r }
-{
-    LengthAnswer {
-        outcome: outcome_of(Verdict::Refused(r)),
-        length: 0,
-    }
-}
+impl From<Result<usize, Refusal>> for LengthAnswer {
+    // The answer of a call that fills an output, or refuses to.
+    ghost from_gives = { λ answer given. given ≡ length_answer answer };
 
-// The answer of a call that has written the given number of bytes to an output.
-pub fn written(length: usize) -> LengthAnswer
-    ensures { result ≡ written_length length }
-{
-    LengthAnswer {
-        outcome: outcome_of(Verdict::Accepted),
-        length,
+    fn from(answer: Result<usize, Refusal>) -> LengthAnswer {
+        match answer {
+            Ok(length) => LengthAnswer {
+                outcome: Outcome::from(Ok(())),
+                length,
+            },
+            Err(r) => LengthAnswer {
+                outcome: Outcome::from(Err(r)),
+                length: 0,
+            },
+        }
     }
 }

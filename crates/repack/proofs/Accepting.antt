@@ -1,6 +1,7 @@
 -- What acceptance of a module provides for the code that repacks it: its patterns fill PATT and have sound streams, and the repacked module
 -- is the module with PATT's rewritten data.
 use Prim.Native.Nat.{ℕ, zero, suc, ◌+◌, ◌≤◌, ◌<◌}
+use Rattle.std.specs.Prelude.{Ok}
 use mathlib.Core.Path.{◌≡◌, refl, sym, ap, ◌∙◌}
 use mathlib.Core.List.{List, ◌++◌}
 use native.Mathlib.Omega.{arith}
@@ -14,7 +15,6 @@ use Rattle.refusal.proofs.FilledOutputs.{all-lacking, all-enough}
 use Rattle.refusal.specs.declared.LengthAnswer.{LengthAnswer}
 use Rattle.numbers.specs.Numbers.{Bytes}
 use Rattle.layout.specs.declared.Layout.{Layout}
-use Rattle.layout.specs.declared.Outline.TheVariants.{Found}
 use Rattle.blocks.specs.Sizes.{size_of, places_from}
 use Rattle.blocks.specs.declared.BlockKind.TheVariants.{Pattern}
 use Rattle.module.specs.Streams.{pattern_stream_rules}
@@ -36,7 +36,7 @@ all-sound : (m : List ℕ) (tracks n at : ℕ)
 all-sound m tracks zero at e = tt
 all-sound m tracks (suc n) at e = ((accepted-says _).0 (every_first (every_first e)), all-sound m tracks n (at + size_of Pattern m at) (every_rest e))
 
-module _ (m : List ℕ) (bytes : Bytes m) (l : Layout) (o : opened m ≡ Found l) where
+module _ (m : List ℕ) (bytes : Bytes m) (l : Layout) (o : opened m ≡ Ok l) where
   opens : Opens m l
   opens = module-opens m l o
 
@@ -66,11 +66,11 @@ module _ (m : List ℕ) (bytes : Bytes m) (l : Layout) (o : opened m ≡ Found l
     pub module-lacks : (needed : ℕ) → length out < needed → (length out < needed → needed ≡ length rewritten)
         → (answer : LengthAnswer)
         → answer ≡ refused_length (refusal Room needed)
-        → (answer ≡ answer_opened (repacked_module m) (length out) (Found l)) × (out ≡ output_opened (repacked_module m) out (Found l))
+        → (answer ≡ answer_opened (repacked_module m) (length out) (Ok l)) × (out ≡ output_opened (repacked_module m) out (Ok l))
     module-lacks needed h same answer e = all-lacking (repacked_module m l) out needed (same h ∙ sym same_length) h answer e
 
     pub module-done : length rewritten ≤ length out → (n : ℕ) (answer : LengthAnswer) (out' : List ℕ) → answer ≡ written_length n
         → (n ≡ length rewritten) × (out' ≡ rewritten ++ drop n out)
-        → (answer ≡ answer_opened (repacked_module m) (length out) (Found l)) × (out' ≡ output_opened (repacked_module m) out (Found l))
+        → (answer ≡ answer_opened (repacked_module m) (length out) (Ok l)) × (out' ≡ output_opened (repacked_module m) out (Ok l))
     module-done h n answer out' e done =
         all-enough (repacked_module m l) out (omega (arith, same_length)) n answer out' e (done.0 ∙ sym same_length, done.1 ∙ rw module-replaced refl)

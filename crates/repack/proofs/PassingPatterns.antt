@@ -1,11 +1,11 @@
 -- The loops over the patterns: the total length of their rewritten blocks, and writing them.
 use Prim.Native.Nat.{ℕ, zero, suc, ◌+◌, ◌-◌, ◌≤◌, ◌<◌}
+use Rattle.std.specs.Prelude.{Ok}
 use mathlib.Core.Path.{◌≡◌, refl, sym, ap, ◌∙◌}
 use mathlib.Core.List.{List, [], ◌++◌, append_assoc, append-nil}
 use native.Mathlib.Omega.{arith}
 use lib.ListN.{length, drop, length-append, length-drop}
 use borrow.Rule.Slice.PartMut.{mid_of, put_mid}
-use Rattle.refusal.specs.declared.Verdict.TheVariants.{Accepted}
 use Rattle.layout.specs.declared.ChunkSpan.{ChunkSpan}
 use Rattle.blocks.specs.Sizes.{size_of, place_after, first_block}
 use Rattle.blocks.specs.Filling.{data_end}
@@ -19,7 +19,7 @@ use Rattle.repack.proofs.Rewritten.{block-shorter}
 
 -- The first of the remaining patterns: its stream is sound, its block ends no later than the end, and the others follow.
 pub record NextPattern (m : List ℕ) (tracks left at end : ℕ) : Type 0 where
-  pub sound : stream_verdict m tracks at ≡ Accepted
+  pub sound : stream_verdict m tracks at ≡ Ok tt
   pub inside : at + size_of Pattern m at ≤ end
   pub later : PatternsTo m tracks (left - 1) (at + size_of Pattern m at) end
   pub splits : rewritten_blocks m tracks left at ≡ repacked_block m tracks at ++ rewritten_blocks m tracks (left - 1) (at + size_of Pattern m at)
@@ -37,7 +37,7 @@ module _ {m : List ℕ} {tracks at end : ℕ} where
       }
 
   -- The preconditions of the functions that read the pattern's block.
-  pub pattern-ready : (left : ℕ) → 0 < left → PatternsTo m tracks left at end → (at + 6 ≤ length m) × (at ≤ end) × (stream_verdict m tracks at ≡ Accepted)
+  pub pattern-ready : (left : ℕ) → 0 < left → PatternsTo m tracks left at end → (at + 6 ≤ length m) × (at ≤ end) × (stream_verdict m tracks at ≡ Ok tt)
   pattern-ready left some p =
       let next = pattern-next left some p in
       (omega (arith, next.inside, p.inside, size-least Pattern m at), omega (arith, next.inside), next.sound)

@@ -1,6 +1,9 @@
 -- The packer's stream of a pattern with a sound stream, and the pattern's rewritten block: what repacking the stream answers and writes,
 -- their lengths, and that they are no longer than before.
 use Prim.Native.Nat.{ℕ, ◌+◌, ◌%◌, ◌≤◌, ◌<◌}
+use Rattle.std.specs.Prelude.{Result, Ok, Err}
+use Rattle.refusal.specs.declared.Refusal.{Refusal}
+use Rattle.refusal.specs.Lengths.{needed_if}
 use mathlib.Core.Path.{◌≡◌, refl, sym, ap, ◌∙◌}
 use mathlib.Core.List.{List, ◌++◌}
 use mathlib.Core.Bool.{Bool, true, false, cond}
@@ -10,15 +13,12 @@ use lib.Dec.{ltb}
 use borrow.Author.Tests.{le-ltb}
 use Rattle.refusal.specs.Numbers.{refusal}
 use Rattle.refusal.specs.declared.Reason.TheVariants.{Room}
-use Rattle.refusal.specs.declared.Verdict.TheVariants.{Accepted}
 use Rattle.cells.specs.Cells.{sizes_fit, rows_of}
 use Rattle.numbers.specs.Numbers.{part_of}
 use Rattle.packed_rows.specs.Entries.{rows_from}
 use Rattle.packed_rows.specs.Stream.{Reading, read_stream, entries_read, cells_read}
 use Rattle.packed_rows.specs.Packer.{packed_length}
-use Rattle.packed_rows.specs.Answers.{verdict_of_reading, packed_if, repack_stream_answer, repack_stream_output}
-use Rattle.packed_rows.specs.declared.Packing.{Packing}
-use Rattle.packed_rows.specs.declared.Packing.TheVariants.{Packed, Refused}
+use Rattle.packed_rows.specs.Answers.{verdict_of_reading, repack_stream_answer, repack_stream_output}
 use Rattle.packed_rows.proofs.StreamLength.{packed-length}
 use Rattle.packed_rows.proofs.Repacking.{repack-found}
 use Rattle.packed_rows.proofs.Accepted.{accepted-rows}
@@ -40,14 +40,14 @@ packed-size stream =
 filled-shorter : (n k : ℕ) → n ≤ k → n + n % 2 ≤ k + k % 2
 filled-shorter n k h = omega arith
 
-module _ (m : List ℕ) (tracks at : ℕ) (sound : stream_verdict m tracks at ≡ Accepted) where
+module _ (m : List ℕ) (tracks at : ℕ) (sound : stream_verdict m tracks at ≡ Ok tt) where
   fits : sizes_fit (pattern_rows m at) tracks ≡ true
   fits = accepted-sizes (packed_bytes m at) (pattern_rows m at) tracks sound
 
   read : Reading
   read = read_stream (pattern_rows m at) tracks (packed_bytes m at)
 
-  read-sound : verdict_of_reading (read_stream (pattern_rows m at) tracks (packed_bytes m at)) ≡ Accepted
+  read-sound : verdict_of_reading (read_stream (pattern_rows m at) tracks (packed_bytes m at)) ≡ Ok tt
   read-sound = simp fits at sound
 
   stream-length : length (repacked_stream m tracks at)
@@ -56,7 +56,7 @@ module _ (m : List ℕ) (tracks at : ℕ) (sound : stream_verdict m tracks at �
 
   pub stream-answer : (room : ℕ)
       → repack_stream_answer (packed_bytes m at) (pattern_rows m at) tracks room
-      ≡ packed_if (length (repacked_stream m tracks at)) room
+      ≡ needed_if (length (repacked_stream m tracks at)) room
   stream-answer room = rw stream-length (simp fits (sym (repack-found (read_stream (pattern_rows m at) tracks (packed_bytes m at)) tracks room read-sound)))
 
   pub stream-output : (out : List ℕ) → length (repacked_stream m tracks at) ≤ length out
@@ -91,20 +91,20 @@ module _ (m : List ℕ) (tracks at : ℕ) (sound : stream_verdict m tracks at �
     block-shorter = omega (arith, block_size, filled-shorter (length (repacked_stream m tracks at)) (pattern_packed_length m at) stream-least)
 
 -- The length that repacking a stream answers, with or without enough room.
-abbrev pub length_answered : Packing → ℕ
-length_answered (Packed n) = n
-length_answered (Refused r) = r.place
+abbrev pub length_answered : Result ℕ Refusal → ℕ
+length_answered (Ok n) = n
+length_answered (Err r) = r.place
 
-answered-needed : (needed room : ℕ) → length_answered (packed_if needed room) ≡ needed
+answered-needed : (needed room : ℕ) → length_answered (needed_if needed room) ≡ needed
 answered-needed needed room = go (ltb room needed)
   where
-    go : (lacks : Bool) → length_answered (cond lacks (Refused (refusal Room needed)) (Packed needed)) ≡ needed
+    go : (lacks : Bool) → length_answered (cond lacks (Err (refusal Room needed)) (Ok needed)) ≡ needed
     go true = refl
     go false = refl
 
 -- The result of repacking the stream of a pattern, from the arguments and the answer of its call.
-pub stream-done : (m : List ℕ) (tracks at : ℕ) → stream_verdict m tracks at ≡ Accepted
-    → (p : Packing) (stream out out' : List ℕ) (rows n : ℕ) → (stream ≡ packed_bytes m at) × (length stream < 0x100000000)
+pub stream-done : (m : List ℕ) (tracks at : ℕ) → stream_verdict m tracks at ≡ Ok tt
+    → (p : Result ℕ Refusal) (stream out out' : List ℕ) (rows n : ℕ) → (stream ≡ packed_bytes m at) × (length stream < 0x100000000)
     → rows ≡ pattern_rows m at → p ≡ repack_stream_answer stream rows tracks (length out) → out' ≡ repack_stream_output stream rows tracks out
     → n ≡ length_answered p
     → (n ≡ length (repacked_stream m tracks at))
@@ -120,7 +120,7 @@ stream-done m tracks at sound p stream out out' rows n (same, below) r answered 
   where
     is : n ≡ length (repacked_stream m tracks at)
     is =
-        let answer : p ≡ packed_if (length (repacked_stream m tracks at)) (length out) =
+        let answer : p ≡ needed_if (length (repacked_stream m tracks at)) (length out) =
         answered ∙ rw (same, r) (stream-answer m tracks at sound (length out)) in
         reported ∙ ap length_answered answer ∙ answered-needed (length (repacked_stream m tracks at)) (length out)
 

@@ -1,5 +1,6 @@
 -- Writing a pattern's rewritten block: its rows, then its stream after the place of the length, then the length, then the filler.
 use Prim.Native.Nat.{ℕ, ◌+◌, ◌-◌, ◌%◌, ◌≤◌, ◌<◌}
+use Rattle.std.specs.Prelude.{Ok}
 use mathlib.Core.Path.{◌≡◌, refl, sym, ap, ◌∙◌}
 use mathlib.Core.Logic.{◌≢◌}
 use mathlib.Core.List.{List, [], ◌∷◌, ◌++◌, append_assoc, append-nil}
@@ -8,7 +9,6 @@ use native.Mathlib.Numerals.{add-one}
 use lib.ListN.{length, get_or, take, drop, set, replicate, length-append}
 use lib.Seq.{drop-cons, set_at}
 use borrow.Rule.Slice.PartMut.{mid_of, put_mid}
-use Rattle.refusal.specs.declared.Verdict.TheVariants.{Accepted}
 use Rattle.numbers.specs.Numbers.{part_of, bytes32, put_at}
 use Rattle.blocks.specs.StoredFields.{pattern_packed_length}
 use Rattle.module.specs.Streams.{stream_verdict}
@@ -45,7 +45,7 @@ module _ (rows stream out third : List ℕ) (n : ℕ) (two : length rows ≡ 2) 
       )
 
 -- The same for a pattern at a place of a module, from the arguments and the answers of the calls.
-module _ (m : List ℕ) (tracks at : ℕ) (inside : at + 6 ≤ length m) (sound : stream_verdict m tracks at ≡ Accepted) where
+module _ (m : List ℕ) (tracks at : ℕ) (inside : at + 6 ≤ length m) (sound : stream_verdict m tracks at ≡ Ok tt) where
   pub block-long : length (repacked_block m tracks at) ≡ 6 + length (repacked_stream m tracks at) + length (repacked_stream m tracks at) % 2
   block-long = block_size m tracks at sound (omega arith)
 

@@ -1,6 +1,7 @@
 -- FORMAT.md, X1 to X4 (document 01, "Repacking a module keeps .."): the repacked module. Its header and its chunks are in the same order
 -- and the same byte for byte, except that PATT has the packer's streams and the lengths that follow from them.
-use Rattle.std.specs.Prelude.{ℕ, ◌+◌, ◌%◌, List, [], ◌++◌, map, cond, length, replicate, eqb}
+use Rattle.std.specs.Prelude.{ℕ, ◌+◌, ◌%◌, List, [], ◌++◌, map, cond, length, replicate, eqb, Result, Ok, Err}
+use Rattle.refusal.specs.declared.Refusal.{Refusal}
 use Rattle.vocabulary.specs.Lists.{joined}
 use Rattle.refusal.specs.declared.LengthAnswer.{LengthAnswer}
 use Rattle.numbers.specs.Numbers.{part_of, bytes32}
@@ -9,8 +10,6 @@ use Rattle.packed_rows.specs.Stream.{read_stream, entries_read}
 use Rattle.packed_rows.specs.Packer.{packed_stream}
 use Rattle.layout.specs.Chunks.{patt_identifier, ChunkHeader, chunks, chunks_read, with_content}
 use Rattle.layout.specs.declared.Layout.{Layout}
-use Rattle.layout.specs.declared.Outline.{Outline}
-use Rattle.layout.specs.declared.Outline.TheVariants.{Found, Refused}
 use Rattle.blocks.specs.StoredFields.{pattern_rows, packed_bytes}
 use Rattle.blocks.specs.Sizes.{pattern_blocks}
 use Rattle.module.specs.Verdicts.{opened}
@@ -45,9 +44,9 @@ abbrev pub repacked_module : List ℕ → Layout → List ℕ
 repacked_module m l = part_of m 0 8 ++ joined (map (repacked_chunk_bytes m l) (chunks_read (chunks m)))
 
 -- The repacked module; nothing for a module that is refused.
-abbrev pub repacked_if : List ℕ → Outline → List ℕ
-repacked_if m (Found l) = repacked_module m l
-repacked_if m (Refused r) = []
+abbrev pub repacked_if : List ℕ → Result Layout Refusal → List ℕ
+repacked_if m (Ok l) = repacked_module m l
+repacked_if m (Err r) = []
 
 abbrev pub repacked : List ℕ → List ℕ
 repacked m = repacked_if m (opened m)

@@ -1,8 +1,7 @@
 -- Definitions that the contracts of private functions cite: the repacked module as its bytes up to PATT's length, that length and the
 -- rewritten data, and its bytes after PATT; and what is known about the patterns of an accepted module.
-use Rattle.std.specs.Prelude.{ℕ, zero, suc, ◌+◌, ◌≤◌, ◌≡◌, List, ◌++◌, map, length, take, drop}
+use Rattle.std.specs.Prelude.{ℕ, zero, suc, ◌+◌, ◌≤◌, ◌≡◌, List, ◌++◌, map, length, take, drop, Ok}
 use Rattle.vocabulary.specs.Lists.{joined}
-use Rattle.refusal.specs.declared.Verdict.TheVariants.{Accepted}
 use Rattle.numbers.specs.Numbers.{bytes32}
 use Rattle.layout.specs.declared.ChunkSpan.{ChunkSpan}
 use Rattle.blocks.specs.Sizes.{size_of, place_after, places_from, first_block}
@@ -25,7 +24,7 @@ replaced m chunk rewritten = take (chunk.at + 4) m ++ (bytes32 (length rewritten
 -- The n patterns from a place on have sound streams.
 abbrev pub StreamsSound : List ℕ → ℕ → ℕ → ℕ → Type 0
 StreamsSound m tracks zero at = Unit {0}
-StreamsSound m tracks (suc n) at = (stream_verdict m tracks at ≡ Accepted) × StreamsSound m tracks n (at + size_of Pattern m at)
+StreamsSound m tracks (suc n) at = (stream_verdict m tracks at ≡ Ok tt) × StreamsSound m tracks n (at + size_of Pattern m at)
 
 -- The n patterns from a place on end at `end`, inside the module, and have sound streams.
 pub record PatternsTo (m : List ℕ) (tracks n at end : ℕ) : Type 0 where

@@ -5,8 +5,6 @@
 #![tactic(auto)]
 
 ghost use Rattle.std.specs.Prelude.{◌≡◌, ◌++◌, ◌+◌, ◌<◌, ◌≤◌, length, drop};
-ghost use Rattle.refusal.specs.declared.Verdict.TheVariants.{Accepted};
-ghost use Rattle.layout.specs.declared.Outline.TheVariants.{Found};
 ghost use Rattle.blocks.specs.StoredFields.{pattern_packed_length};
 ghost use Rattle.blocks.specs.Sizes.{first_block};
 ghost use Rattle.blocks.specs.declared.BlockKind.TheVariants.{Pattern};
@@ -18,29 +16,28 @@ ghost use Rattle.repack.specs.Steps.{rewritten_blocks, rewritten_front, replaced
 
 use blocks::stored::{packed_bytes, pattern_rows};
 use blocks::{BlockKind, block_at, size};
-use layout::{ChunkSpan, Layout, Outline};
+use layout::{ChunkSpan, Layout};
 use numbers::{part, put32};
-use packed_rows::Packing;
-use refusal::{LengthAnswer, Reason, refuse, refused, written};
+use refusal::{LengthAnswer, Reason, refuse};
 
 // Writes the packer's stream of the pattern at a place to the front of the output if that has room for it. Returns the stream's length,
 // also if there is no room.
 fn repack_stream(m: &[u8], tracks: u16, at: usize, out: &mut [u8]) -> usize
-    requires { stream_verdict m.now tracks at ≡ Accepted }
+    requires { stream_verdict m.now tracks at ≡ Ok tt }
     ensures { (result ≡ length (repacked_stream m.now tracks at))
         × (result ≤ pattern_packed_length m.now at) × (result < 0x100000000)
         × (result ≤ length out.old → out.new ≡ repacked_stream m.now tracks at ++ drop result out.old) }
 {
     let rows = pattern_rows(m, at) as usize;
     match packed_rows::repack(packed_bytes(m, at), rows, tracks as usize, out) {
-        Packing::Packed(n) => n,
-        Packing::Refused(r) => r.place,
+        Ok(n) => n,
+        Err(r) => r.place,
     }
 }
 
 // The length of a pattern's rewritten block.
 fn block_length(m: &[u8], tracks: u16, at: usize) -> usize
-    requires { (at + 6 ≤ length m.now) × (stream_verdict m.now tracks at ≡ Accepted) }
+    requires { (at + 6 ≤ length m.now) × (stream_verdict m.now tracks at ≡ Ok tt) }
     ensures { result ≡ length (repacked_block m.now tracks at) }
 {
     let mut none = [0u8; 0];
@@ -55,18 +52,16 @@ fn data_length(m: &[u8], chunk: ChunkSpan, patterns: u16, tracks: u16) -> usize
 {
     let mut at = block_at(m, BlockKind::Pattern, chunk, 0);
     let mut length: usize = 0;
-    let mut left = patterns;
-    while 0 < left {
+    for _ in 0..patterns {
         length = length + block_length(m, tracks, at);
         at = at + size(m, BlockKind::Pattern, at);
-        left = left - 1;
     }
     length
 }
 
 // Writes a pattern's rewritten block to the front of an output that has room for it, and returns its length.
 fn write_block(m: &[u8], tracks: u16, at: usize, out: &mut [u8]) -> usize
-    requires { (at + 6 ≤ length m.now) × (stream_verdict m.now tracks at ≡ Accepted) × (length (repacked_block m.now tracks at) ≤ length out.old) }
+    requires { (at + 6 ≤ length m.now) × (stream_verdict m.now tracks at ≡ Ok tt) × (length (repacked_block m.now tracks at) ≤ length out.old) }
     ensures { (result ≡ length (repacked_block m.now tracks at))
         × (out.new ≡ repacked_block m.now tracks at ++ drop result out.old) }
 {
@@ -89,11 +84,9 @@ fn write_data(m: &[u8], chunk: ChunkSpan, patterns: u16, tracks: u16, out: &mut 
 {
     let mut at = block_at(m, BlockKind::Pattern, chunk, 0);
     let mut to: usize = 0;
-    let mut left = patterns;
-    while 0 < left {
+    for _ in 0..patterns {
         to = to + write_block(m, tracks, at, &mut out[to..]);
         at = at + size(m, BlockKind::Pattern, at);
-        left = left - 1;
     }
     to
 }
@@ -145,17 +138,17 @@ fn room_needed(m: &[u8], chunk: ChunkSpan, patterns: u16, tracks: u16, room: usi
 
 // Repacks an accepted module. The only refusal is 17.
 fn repack_opened(m: &[u8], l: Layout, out: &mut [u8]) -> LengthAnswer
-    requires { opened m.now ≡ Found l }
-    ensures { (result ≡ answer_opened (repacked_module m.now) (length out.old) (Found l))
-        × (out.new ≡ output_opened (repacked_module m.now) out.old (Found l)) }
+    requires { opened m.now ≡ Ok l }
+    ensures { (result ≡ answer_opened (repacked_module m.now) (length out.old) (Ok l))
+        × (out.new ≡ output_opened (repacked_module m.now) out.old (Ok l)) }
 {
     let p = l.spans;
     let chunk = p.patt;
     let needed = room_needed(m, chunk, l.patterns, l.tracks, out.len());
     if out.len() < needed {
-        return refused(refuse(Reason::Room, needed));
+        return LengthAnswer::from(Err(refuse(Reason::Room, needed)));
     }
-    written(write_module(m, chunk, l.patterns, l.tracks, out))
+    LengthAnswer::from(Ok(write_module(m, chunk, l.patterns, l.tracks, out)))
 }
 
 // Repacks a module. The refusals are the module's own, then 17.
@@ -163,7 +156,7 @@ pub fn repack(m: &[u8], out: &mut [u8]) -> LengthAnswer
     ensures { (result ≡ repack_answer m.now (length out.old)) × (out.new ≡ repack_output m.now out.old) }
 {
     match module::open(m) {
-        Outline::Found(l) => repack_opened(m, l, out),
-        Outline::Refused(r) => refused(r),
+        Ok(l) => repack_opened(m, l, out),
+        Err(r) => LengthAnswer::from(Err(r)),
     }
 }

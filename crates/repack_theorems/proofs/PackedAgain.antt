@@ -1,8 +1,8 @@
 -- The packer's stream of the pattern in an accepted stream is accepted too, and has the same rows.
 use Prim.Native.Nat.{ℕ}
+use Rattle.std.specs.Prelude.{Ok}
 use mathlib.Core.Path.{◌≡◌, sym, ap, subst, ◌∙◌}
 use mathlib.Core.List.{List}
-use Rattle.refusal.specs.declared.Verdict.TheVariants.{Accepted}
 use Rattle.cells.specs.Cells.{Row, rows_of}
 use Rattle.packed_rows.specs.Entries.{rows_from}
 use Rattle.packed_rows.specs.Stream.{Reading, read_stream, entries_read, cells_read, AcceptedAs}
@@ -20,7 +20,7 @@ rows_held rows tracks stream = rows_from tracks (entries_read (read_stream rows 
 held_rows : {rows tracks : ℕ} {stream cells : List ℕ} → AcceptedAs rows tracks stream cells → rows_held rows tracks stream ≡ rows_of rows tracks cells
 held_rows {tracks = tracks} a = ap (λ (r : Reading). rows_from tracks (entries_read r)) a.read ∙ sym (accepted-rows a)
 
-module _ (rows tracks : ℕ) (stream : List ℕ) (accepted : check_answer stream rows tracks ≡ Accepted) where
+module _ (rows tracks : ℕ) (stream : List ℕ) (accepted : check_answer stream rows tracks ≡ Ok tt) where
   first : AcceptedAs rows tracks stream (cells_read rows tracks stream)
   first = holds stream rows tracks accepted
 
@@ -29,7 +29,7 @@ module _ (rows tracks : ℕ) (stream : List ℕ) (accepted : check_answer stream
       subst (λ (pattern : List Row). AcceptedAs rows tracks (packed_stream pattern) (cells_read rows tracks stream))
       (sym (held_rows first)) (round_trip rows tracks (cells_read rows tracks stream) (accepted-length first))
 
-  pub packed-accepted : check_answer (packed_stream (rows_held rows tracks stream)) rows tracks ≡ Accepted
+  pub packed-accepted : check_answer (packed_stream (rows_held rows tracks stream)) rows tracks ≡ Ok tt
   packed-accepted =
       (accepts-exactly rows tracks (packed_stream (rows_held rows tracks stream)) (accepted-sizes stream rows tracks accepted)).1
       (again.entries, accepted-stream again)

@@ -1,6 +1,7 @@
 -- The packer's stream consists of bytes if the stream that it was read from does: every field of a cell is 0 or was stored by an entry of
 -- that stream, tracks are at most 254 and masks are below 64.
 use Prim.Native.Nat.{ℕ, ◌+◌, ◌-◌, ◌<◌, ◌≤◌}
+use Rattle.std.specs.Prelude.{Ok}
 use mathlib.Core.Path.{◌≡◌}
 use mathlib.Core.Logic.{◌↔◌}
 use mathlib.Core.List.{List, [], ◌∷◌, map}
@@ -11,7 +12,6 @@ use lib.Dec.{eqb}
 use Rattle.vocabulary.specs.Lists.{joined, Every, none, also}
 use Rattle.vocabulary.proofs.EveryOne.{every_first, every_rest, every_of}
 use Rattle.vocabulary.proofs.MappedLists.{every_map}
-use Rattle.refusal.specs.declared.Verdict.TheVariants.{Accepted}
 use Rattle.cells.specs.Cells.{Cell, Row, empty_cell, non_zeros}
 use Rattle.numbers.specs.Numbers.{Bytes}
 use Rattle.numbers.proofs.AllBytes.{bytes-get_or, bytes-nil, bytes-cons, bytes-first, bytes_rest, bytes-append, bytes-front}
@@ -94,7 +94,7 @@ repacked-bytes tracks few entries h =
     (every_of (λ es e. entries-bytes (packs 1 (row_from tracks es)) (row-from-shaped tracks es) (row-from-bytes tracks es e) (omega arith)) h))
 
 -- The packer's stream of an accepted stream of bytes consists of bytes.
-pub packed-bytes : (rows tracks : ℕ) (stream : List ℕ) → check_answer stream rows tracks ≡ Accepted → Bytes stream
+pub packed-bytes : (rows tracks : ℕ) (stream : List ℕ) → check_answer stream rows tracks ≡ Ok tt → Bytes stream
     → Bytes (packed_stream (rows_from tracks (entries_read (read_stream rows tracks stream))))
 packed-bytes rows tracks stream ok h =
     let accepted = holds stream rows tracks ok in

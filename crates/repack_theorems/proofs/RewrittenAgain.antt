@@ -1,5 +1,6 @@
 -- Repacking the repacked module gives the repacked module itself.
 use Prim.Native.Nat.{ℕ, ◌+◌}
+use Rattle.std.specs.Prelude.{Ok}
 use mathlib.Core.Path.{◌≡◌, refl, sym, ap, subst, ◌∙◌}
 use mathlib.Core.List.{List, ◌++◌, map}
 use Rattle.vocabulary.specs.Lists.{joined}
@@ -8,7 +9,6 @@ use Rattle.vocabulary.proofs.MappedLists.{every_map, map-stays}
 use Rattle.numbers.specs.Numbers.{Bytes}
 use Rattle.layout.specs.Chunks.{patt_identifier}
 use Rattle.layout.specs.declared.Layout.{Layout}
-use Rattle.layout.specs.declared.Outline.TheVariants.{Found}
 use Rattle.blocks.specs.Sizes.{size_of, places_from}
 use Rattle.blocks.specs.declared.BlockKind.TheVariants.{Pattern}
 use Rattle.module.specs.Verdicts.{opened}
@@ -20,7 +20,7 @@ use Rattle.repack_theorems.proofs.RewrittenModule.{header, chunks, blocks, rewri
 use Rattle.repack_theorems.proofs.RewrittenModule.{rules-rewritten}
 use Rattle.repack_theorems.proofs.RewrittenAlike.{n, k, other_opens, counts, patterns-there}
 
-module _ (m : List ℕ) (bytes : Bytes m) (l : Layout) (o : opened m ≡ Found l) where
+module _ (m : List ℕ) (bytes : Bytes m) (l : Layout) (o : opened m ≡ Ok l) where
   -- The rewritten patterns of the repacked module are its patterns.
   data-again : repacked_patterns (n m bytes l o) (k m bytes l o) ≡ repacked_patterns m l
   data-again =

@@ -1,6 +1,7 @@
 -- An accepted module and its repacked module are alike: their headers and INFO are the same bytes, and so is every chunk except PATT. Each
 -- pattern has the same rows and the same cells.
 use Prim.Native.Nat.{ℕ, ◌+◌, ◌-◌, ◌<◌}
+use Rattle.std.specs.Prelude.{Ok, Err}
 use mathlib.Core.Path.{◌≡◌, refl, sym, ap, ◌∙◌}
 use mathlib.Core.List.{List, [], map}
 use mathlib.Core.Bool.{Bool, true, false, cond, ◌&&◌, ◌||◌}
@@ -19,7 +20,6 @@ use Rattle.packed_rows.proofs.Shapes.{get_or-mapped}
 use Rattle.layout.specs.Chunks.{patt_identifier}
 use Rattle.layout.specs.declared.ChunkSpan.{ChunkSpan}
 use Rattle.layout.specs.declared.Layout.{Layout}
-use Rattle.layout.specs.declared.Outline.TheVariants.{Found as Opened}
 use Rattle.blocks.specs.Sizes.{size_of, place_after, block_at, envelope_count}
 use Rattle.blocks.specs.declared.BlockKind.{BlockKind}
 use Rattle.blocks.specs.declared.BlockKind.TheVariants.{Song as SongBlock, Instrument as InstrumentBlock, Pattern as PatternBlock}
@@ -29,7 +29,6 @@ use Rattle.blocks.specs.declared.RecordKind.{RecordKind}
 use Rattle.blocks.specs.declared.RecordKind.TheVariants.{Song, Instrument, Pattern, Sample, VolumeEnvelope, PanningEnvelope}
 use Rattle.module.specs.Verdicts.{opened}
 use Rattle.queries.specs.Finding.{first_of, there, block_of, found_in, found_if, found}
-use Rattle.queries.specs.declared.Found.TheVariants.{At, Refused}
 use Rattle.acceptance.specs.Rules.{Among, EnvelopesRules, Filled, Covered}
 use Rattle.acceptance.proofs.Spans.{SpanHolds, Found as FoundSpan, LayoutOf}
 use Rattle.acceptance.proofs.Locating.{PartAt, part-inside, part-is}
@@ -82,7 +81,7 @@ name-there : (m : List ℕ) (l : Layout) → l.spans.name.present ≡ true → n
 name-there m l e = ap (λ (there : Bool). cond there (bytes_from m (l.spans.name.at + 8) 44) (replicate 44 0)) e
 
 -- What a query finds in a module that opens.
-found-opened : (m : List ℕ) (l : Layout) (kind : RecordKind) (number : ℕ) → opened m ≡ Opened l → found m kind number ≡ found_in m l kind number
+found-opened : (m : List ℕ) (l : Layout) (kind : RecordKind) (number : ℕ) → opened m ≡ Ok l → found m kind number ≡ found_in m l kind number
 found-opened m l kind number o = ap (found_if m kind number) o
 
 -- A chunk that is in both modules, or in neither.
@@ -90,14 +89,14 @@ data SameChunk (m n : List ℕ) (chunks : List (List ℕ)) (letters : List ℕ) 
   missing : p.present ≡ false → q.present ≡ false → SameChunk m n chunks letters p q
   held : (chunk : List ℕ) → Among chunks letters chunk → SpanHolds m p chunk → SpanHolds n q chunk → SameChunk m n chunks letters p q
 
-module _ (m : List ℕ) (bytes : Bytes m) (l : Layout) (o : opened m ≡ Opened l) where
+module _ (m : List ℕ) (bytes : Bytes m) (l : Layout) (o : opened m ≡ Ok l) where
   abbrev pub n : List ℕ
   n = repacked_module m l
 
   abbrev pub k : Layout
   k = (opens-rewritten m bytes l o).0
 
-  pub other_opens : opened n ≡ Opened k
+  pub other_opens : opened n ≡ Ok k
   other_opens = (opens-rewritten m bytes l o).1
 
   first : LayoutOf m (header m bytes l o) (chunks m bytes l o) l
@@ -238,8 +237,8 @@ module _ (m : List ℕ) (bytes : Bytes m) (l : Layout) (o : opened m ≡ Opened 
       (go (leb (first_of kind) number && ltb (number - first_of kind) (count_of m l kind)) refl)
     where
       go : (t : Bool) → there m l kind number ≡ t
-          → FoundAlike kind m n (cond t (At (block_of m l kind number)) (Refused (refusal NotThere 0)))
-          (cond t (At (block_of n k kind number)) (Refused (refusal NotThere 0)))
+          → FoundAlike kind m n (cond t (Ok (block_of m l kind number)) (Err (refusal NotThere 0)))
+          (cond t (Ok (block_of n k kind number)) (Err (refusal NotThere 0)))
       go true e =
           both (block_of m l kind number) (block_of n k kind number) (second.version ∙ sym first.version) counts.4
           (same-record kind (number - first_of kind)

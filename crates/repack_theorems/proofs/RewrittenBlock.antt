@@ -1,6 +1,7 @@
 -- A pattern's block and its rewritten block, as lists of bytes. The rewritten block has the same number of rows, its stream is the
 -- packer's, it has the same rows of cells, it is no longer, and rewriting it again leaves it unchanged.
 use Prim.Native.Nat.{ℕ, ◌+◌, ◌%◌, ◌≤◌}
+use Rattle.std.specs.Prelude.{Ok}
 use mathlib.Core.Path.{◌≡◌, sym, ap, ◌∙◌}
 use mathlib.Core.List.{List, [], ◌++◌, map, append_assoc, append-nil}
 use native.Mathlib.Omega.{arith}
@@ -8,7 +9,6 @@ use lib.ListN.{length, take, replicate, length-append}
 use lib.Seq.{take_at, length-take-le}
 use Rattle.vocabulary.specs.Lists.{joined, Every}
 use Rattle.vocabulary.proofs.MappedLists.{map-itself}
-use Rattle.refusal.specs.declared.Verdict.TheVariants.{Accepted}
 use Rattle.numbers.specs.Numbers.{number16, number32, part_of, bytes32}
 use Rattle.packed_rows.specs.Packer.{packed_stream}
 use Rattle.blocks.specs.StoredFields.{packed_bytes}
@@ -54,7 +54,7 @@ blocks-rewritten {m} tracks at blocks p e =
 -- A block that is as long as its bytes say, and whose stream the check accepts.
 pub record SoundBlock (tracks : ℕ) (block : List ℕ) : Type 0 where
   pub sized : Sized Pattern block
-  pub accepted : stream_verdict block tracks 0 ≡ Accepted
+  pub accepted : stream_verdict block tracks 0 ≡ Ok tt
 
 module _ (tracks : ℕ) (block : List ℕ) (b : SoundBlock tracks block) where
   abbrev stream : List ℕ
@@ -99,7 +99,7 @@ module _ (tracks : ℕ) (block : List ℕ) (b : SoundBlock tracks block) where
   pub rewritten-stream : packed_bytes (rewritten_block tracks block) 0 ≡ stream
   rewritten-stream = ap (part_of (rewritten_block tracks block) 6) rewritten-length ∙ part-is stream-part
 
-  pub rewritten-accepted : stream_verdict (rewritten_block tracks block) tracks 0 ≡ Accepted
+  pub rewritten-accepted : stream_verdict (rewritten_block tracks block) tracks 0 ≡ Ok tt
   rewritten-accepted = rw (rewritten-stream, rewritten-rows) (packed-accepted (number16 block 0) tracks (packed_bytes block 0) b.accepted)
 
   pub rewritten-sound : SoundBlock tracks (rewritten_block tracks block)

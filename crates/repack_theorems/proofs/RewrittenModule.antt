@@ -1,5 +1,6 @@
 -- An accepted module and its repacked module: the chunks and blocks of both, and that the rules hold for the repacked module.
 use Prim.Native.Nat.{ℕ, ◌+◌, ◌%◌, ◌≤◌, ◌<◌}
+use Rattle.std.specs.Prelude.{Ok}
 use mathlib.Core.Path.{◌≡◌, refl, sym, ap, subst, ◌∙◌}
 use mathlib.Core.List.{List, [], ◌∷◌, ◌++◌, map, append-nil}
 use mathlib.Core.Bool.{false, ◌||◌}
@@ -12,12 +13,10 @@ use Rattle.vocabulary.specs.Letters.{patt_letters}
 use Rattle.vocabulary.proofs.EveryOne.{every_of, every-both, every_first, every_one}
 use Rattle.vocabulary.proofs.JoinedLists.{joined-shorter}
 use Rattle.vocabulary.proofs.MappedLists.{every_map}
-use Rattle.refusal.specs.declared.Verdict.TheVariants.{Accepted}
 use Rattle.numbers.specs.Numbers.{Bytes, number16, number32, bytes32}
 use Rattle.numbers.proofs.AllBytes.{bytes-append, bytes-front, bytes_after, bytes_take, bytes-of-part, bytes-joined, bytes-replicate, bytes32-bytes}
 use Rattle.layout.specs.Chunks.{patt_identifier}
 use Rattle.layout.specs.declared.Layout.{Layout}
-use Rattle.layout.specs.declared.Outline.TheVariants.{Found}
 use Rattle.blocks.specs.StoredFields.{packed_bytes}
 use Rattle.blocks.specs.Sizes.{size_of, places_from}
 use Rattle.blocks.specs.declared.BlockKind.TheVariants.{Pattern}
@@ -60,7 +59,7 @@ whole_part block = record { before = []; after = []; bytes = sym (append-nil blo
 sound-rules : (tracks : ℕ) (block : List ℕ) → SoundBlock tracks block → PatternRules tracks block
 sound-rules tracks block b = pattern-holds (whole_part block) b.sized tracks ((every_one _).1 ((accepted-says _).1 b.accepted))
 
-module _ (m : List ℕ) (bytes : Bytes m) (l : Layout) (o : opened m ≡ Found l) where
+module _ (m : List ℕ) (bytes : Bytes m) (l : Layout) (o : opened m ≡ Ok l) where
   pub all_of : Rules m
   all_of = (accepted-exactly m bytes).0 (ap verdict_of_outline o)
 
@@ -108,7 +107,7 @@ module _ (m : List ℕ) (bytes : Bytes m) (l : Layout) (o : opened m ≡ Found l
       → AllHold (pattern_stream_rules m l.tracks at)
       → SoundBlock l.tracks block
   sound-block at block p s e =
-      let accepted : stream_verdict m l.tracks at ≡ Accepted = (accepted-says _).0 (every_first e) in
+      let accepted : stream_verdict m l.tracks at ≡ Ok tt = (accepted-says _).0 (every_first e) in
       record { sized = s; accepted = rw (rows-same p s, packed-same p s) at accepted }
 
   pub sound-blocks : Every (SoundBlock l.tracks) blocks
@@ -244,7 +243,7 @@ module _ (m : List ℕ) (bytes : Bytes m) (l : Layout) (o : opened m ≡ Found l
       subst Bytes (sym repacked-bytes) (bytes-changed changed each header chunks (subst Bytes rules.bytes bytes))
 
   -- The repacked module opens, with a layout of its chunks.
-  pub opens-rewritten : (k : Layout) × (opened (repacked_module m l) ≡ Found k) × LayoutOf (repacked_module m l) header (map changed chunks) k
+  pub opens-rewritten : (k : Layout) × (opened (repacked_module m l) ≡ Ok k) × LayoutOf (repacked_module m l) header (map changed chunks) k
   opens-rewritten =
       let info = info-left rules change refl all_of.info all_of.info_there in
       changed-opens all_of change (record { name = refl; volume = refl; panning = refl }) blocks-after repacked-bytes short-enough info bytes-rewritten

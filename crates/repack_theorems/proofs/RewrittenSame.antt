@@ -1,5 +1,6 @@
 -- The repacked module is the module exactly if the stream of every pattern is the packer's and every filler is 0.
 use Prim.Native.Nat.{ℕ, suc, ◌+◌, ◌-◌, ◌%◌, ◌≤◌, ◌<◌}
+use Rattle.std.specs.Prelude.{Ok}
 use mathlib.Core.Path.{◌≡◌, refl, sym, ap, ◌∙◌}
 use mathlib.Core.Logic.{◌↔◌}
 use mathlib.Core.List.{List, [], ◌∷◌, ◌++◌, map, append_assoc}
@@ -15,7 +16,6 @@ use Rattle.numbers.specs.Numbers.{Bytes, number32, part_of, bytes32}
 use Rattle.numbers.proofs.Parts.{parts-of, four-again}
 use Rattle.layout.specs.Chunks.{patt_identifier}
 use Rattle.layout.specs.declared.Layout.{Layout}
-use Rattle.layout.specs.declared.Outline.TheVariants.{Found}
 use Rattle.blocks.specs.StoredFields.{pattern_packed_length, packed_bytes}
 use Rattle.blocks.specs.Sizes.{size_of, place_after}
 use Rattle.blocks.specs.declared.BlockKind.TheVariants.{Pattern as PatternBlock}
@@ -23,7 +23,6 @@ use Rattle.blocks.specs.declared.RecordKind.TheVariants.{Pattern}
 use Rattle.module.specs.Verdicts.{opened}
 use Rattle.queries.specs.Finding.{found, block_of}
 use Rattle.queries.specs.declared.Block.{Block}
-use Rattle.queries.specs.declared.Found.TheVariants.{At}
 use Rattle.queries.proofs.Numbering.{counted-found}
 use Rattle.acceptance.specs.Rules.{Covered}
 use Rattle.acceptance.proofs.Locating.{PartAt, number32-at, part_length, part-there, part-is, part-of-part}
@@ -144,10 +143,10 @@ every-index : {P : List ℕ → Type 0} (list : List (List ℕ)) → ((i : ℕ) 
 every-index [] h = none
 every-index (block ∷ list) h = also (h 0 (omega arith)) (every-index list (λ i l. h (suc i) (omega arith)))
 
-module _ (m : List ℕ) (bytes : Bytes m) (l : Layout) (o : opened m ≡ Found l) where
+module _ (m : List ℕ) (bytes : Bytes m) (l : Layout) (o : opened m ≡ Ok l) where
   -- Every pattern of the module is stored as the packer writes it.
   abbrev pub AllPacked : Type 0
-  AllPacked = (pattern : ℕ) (b : Block) → found m Pattern pattern ≡ At b → PackedAt m b.tracks b.at
+  AllPacked = (pattern : ℕ) (b : Block) → found m Pattern pattern ≡ Ok b → PackedAt m b.tracks b.at
 
   -- The block of the pattern with a number.
   module _ (i : ℕ) (h : i < length (blocks m bytes l o)) where
@@ -163,7 +162,7 @@ module _ (m : List ℕ) (bytes : Bytes m) (l : Layout) (o : opened m ≡ Found l
     below : Bytes block
     below = every-at i [] h (blocks-bytes m bytes l o)
 
-    counted-there : found m Pattern i ≡ At (block_of m l Pattern i)
+    counted-there : found m Pattern i ≡ Ok (block_of m l Pattern i)
     counted-there = counted-found m l Pattern i o (omega arith) (omega (arith, (blocks-in m bytes l o).filled.number))
 
     packed-block : AllPacked → rewritten_block l.tracks block ≡ block

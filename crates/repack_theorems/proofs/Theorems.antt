@@ -11,23 +11,21 @@
 -- The repacked module is `repacked`, the check is `module_verdict` and the answer is `repack_answer`; the contracts cite these. `ShowsSame`
 -- lists the answers of the queries.
 use Prim.Native.Nat.{ℕ, ◌≤◌}
+use Rattle.std.specs.Prelude.{Ok}
 use mathlib.Core.Path.{◌≡◌, refl, sym, ap, subst, ◌∙◌}
 use mathlib.Core.Logic.{◌↔◌}
 use mathlib.Core.List.{List}
 use native.Mathlib.Omega.{arith}
 use lib.ListN.{length}
 use borrow.Author.Tests.{le-ltb}
-use Rattle.refusal.specs.declared.Verdict.TheVariants.{Accepted}
 use Rattle.refusal.specs.Lengths.{written_length}
 use Rattle.numbers.specs.Numbers.{Bytes}
 use Rattle.layout.specs.declared.Layout.{Layout}
-use Rattle.layout.specs.declared.Outline.TheVariants.{Found}
 use Rattle.blocks.specs.declared.RecordKind.TheVariants.{Pattern}
 use Rattle.module.specs.Verdicts.{opened, verdict_of_outline, module_verdict}
 use Rattle.module.specs.Outputs.{answer_opened}
 use Rattle.queries.specs.Finding.{found}
 use Rattle.queries.specs.declared.Block.{Block}
-use Rattle.queries.specs.declared.Found.TheVariants.{At}
 use Rattle.acceptance.proofs.OpenModules.{accepted-opens}
 use Rattle.repack.specs.Repacked.{repacked_module, repack_answer, repacked}
 use Rattle.showing_theorems.specs.Showing.{ShowsSame}
@@ -40,11 +38,11 @@ use Rattle.repack_theorems.proofs.RewrittenAgain.{repacked-again}
 use Rattle.repack_theorems.proofs.RewrittenSame.{same-exactly}
 
 -- Theorem 11.
-module _ (m : List ℕ) (bytes : Bytes m) (accepted : module_verdict m ≡ Accepted) where
+module _ (m : List ℕ) (bytes : Bytes m) (accepted : module_verdict m ≡ Ok tt) where
   abbrev layout : Layout
   layout = (accepted-opens m accepted).0
 
-  opens : opened m ≡ Found layout
+  opens : opened m ≡ Ok layout
   opens = (accepted-opens m accepted).1
 
   is : repacked m ≡ repacked_module m layout
@@ -53,7 +51,7 @@ module _ (m : List ℕ) (bytes : Bytes m) (accepted : module_verdict m ≡ Accep
   pub repacked-bytes : Bytes (repacked m)
   repacked-bytes = subst Bytes (sym is) (bytes-rewritten m bytes layout opens)
 
-  pub repacked-accepted : module_verdict (repacked m) ≡ Accepted
+  pub repacked-accepted : module_verdict (repacked m) ≡ Ok tt
   repacked-accepted = ap module_verdict is ∙ ap verdict_of_outline (other_opens m bytes layout opens)
 
   pub repacked-shows-same : ShowsSame m (repacked m)
@@ -70,7 +68,7 @@ module _ (m : List ℕ) (bytes : Bytes m) (accepted : module_verdict m ≡ Accep
   pub repacked-twice : repacked (repacked m) ≡ repacked m
   repacked-twice = ap repacked is ∙ repacked-again m bytes layout opens ∙ sym is
 
-  pub repacked-same-exactly : (repacked m ≡ m) ↔ ((pattern : ℕ) (b : Block) → found m Pattern pattern ≡ At b → PackedAt m b.tracks b.at)
+  pub repacked-same-exactly : (repacked m ≡ m) ↔ ((pattern : ℕ) (b : Block) → found m Pattern pattern ≡ Ok b → PackedAt m b.tracks b.at)
   repacked-same-exactly =
       let exactly = same-exactly m bytes layout opens in
       (λ e. exactly.0 (sym is ∙ e), λ all. is ∙ exactly.1 all)

@@ -1,6 +1,7 @@
 -- What acceptance of a module provides for the code that replaces a sample: the blocks are inside their chunks, and the result is the module
 -- with the sample's block replaced and INST's new data put at their place.
 use Prim.Native.Nat.{ℕ, ◌+◌, ◌-◌, ◌≤◌, ◌<◌}
+use Rattle.std.specs.Prelude.{Ok}
 use mathlib.Core.Path.{◌≡◌, sym, ap, ◌∙◌}
 use mathlib.Core.List.{List, ◌++◌, map}
 use mathlib.Core.Bool.{true}
@@ -16,7 +17,6 @@ use Rattle.numbers.proofs.AllBytes.{bytes-front, bytes_after}
 use Rattle.numbers.proofs.PutBytes.{put-there, put-length, put-within}
 use Rattle.layout.specs.declared.ChunkSpan.{ChunkSpan}
 use Rattle.layout.specs.declared.Layout.{Layout}
-use Rattle.layout.specs.declared.Outline.TheVariants.{Found}
 use Rattle.blocks.specs.Sizes.{size_of, block_at}
 use Rattle.blocks.specs.Filling.{data_end}
 use Rattle.blocks.specs.declared.BlockKind.TheVariants.{Sample as SampleBlock}
@@ -37,7 +37,7 @@ use Rattle.replace.proofs.ReplacedBytes.{block-set, spliced-is, smpl-before, bot
 use Rattle.replace.proofs.WritingInstruments.{instruments-length, instruments-inside}
 use Rattle.replace.proofs.WritingSample.{replaced-length}
 
-module _ (m : List ℕ) (bytes : Bytes m) (l : Layout) (o : opened m ≡ Found l) where
+module _ (m : List ℕ) (bytes : Bytes m) (l : Layout) (o : opened m ≡ Ok l) where
   opens : Opens m l
   opens = module-opens m l o
 

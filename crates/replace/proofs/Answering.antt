@@ -1,5 +1,6 @@
 -- The answer, by the verdict on the rules of the call.
 use Prim.Native.Nat.{ℕ, ◌-◌, ◌%◌, ◌≤◌, ◌<◌}
+use Rattle.std.specs.Prelude.{⊤, Result, Ok, Err}
 use mathlib.Core.Path.{◌≡◌, refl, sym, ap, ◌∙◌}
 use mathlib.Core.Logic.{◌≢◌}
 use mathlib.Core.List.{List, ◌++◌}
@@ -13,19 +14,13 @@ use Rattle.refusal.specs.declared.Outcome.{Outcome}
 use Rattle.refusal.specs.declared.Reason.{Reason}
 use Rattle.refusal.specs.declared.Reason.TheVariants.{TooLong, Room, NotThere, OddFrames}
 use Rattle.refusal.specs.declared.Refusal.{Refusal}
-use Rattle.refusal.specs.declared.Verdict.{Verdict}
-use Rattle.refusal.specs.declared.Verdict.TheVariants.{Accepted, Refused as VerdictRefused}
 use Rattle.layout.specs.declared.Layout.{Layout}
-use Rattle.layout.specs.declared.Outline.{Outline}
-use Rattle.layout.specs.declared.Outline.TheVariants.{Found}
 use Rattle.blocks.specs.Sizes.{block_at}
 use Rattle.blocks.specs.declared.BlockKind.TheVariants.{Sample as SampleBlock}
 use Rattle.blocks.specs.declared.RecordKind.TheVariants.{Sample}
 use Rattle.module.specs.Verdicts.{opened}
 use Rattle.queries.specs.Finding.{there, found_in}
 use Rattle.queries.specs.declared.Block.{Block}
-use Rattle.queries.specs.declared.Found.{Found as FoundBlock}
-use Rattle.queries.specs.declared.Found.TheVariants.{At, Refused as NotFound}
 use Rattle.queries.proofs.Numbering.{found-there, not-there}
 use Rattle.replace.specs.Replaced.{new_frames, replaced_module, cleared_count, replace_rules, refused_replace, replace_if, replace_answer}
 use Rattle.replace.specs.Replaced.{replace_output_if, replace_output}
@@ -35,14 +30,14 @@ module _ (m : List ℕ) (l : Layout) (sample : ℕ) (new out : List ℕ) where
   abbrev result : List ℕ
   result = replaced_module m l sample new
 
-  abbrev verdict : Verdict
+  abbrev verdict : Result ⊤ Refusal
   verdict = first_broken (replace_rules m l sample new (length out))
 
   -- The answer and the output are those of the call.
   abbrev pub Answered : ReplaceAnswer → List ℕ → Type 0
-  Answered answer out' = (answer ≡ replace_if m sample new (length out) (Found l)) × (out' ≡ replace_output_if m sample new out (Found l))
+  Answered answer out' = (answer ≡ replace_if m sample new (length out) (Ok l)) × (out' ≡ replace_output_if m sample new out (Ok l))
 
-  refused-by : (reason : Reason) (place : ℕ) → eqb (number_of reason) 0 ≡ false → verdict ≡ VerdictRefused (refusal reason place)
+  refused-by : (reason : Reason) (place : ℕ) → eqb (number_of reason) 0 ≡ false → verdict ≡ Err (refusal reason place)
       → {answer : ReplaceAnswer} → answer ≡ refused_replace (refusal reason place)
       → Answered answer out
   refused-by reason place some v e = rw (v, some) (e, refl)
@@ -75,23 +70,23 @@ module _ (m : List ℕ) (l : Layout) (sample : ℕ) (new out : List ℕ) where
             → {outcome : Outcome} → outcome ≡ no_refusal → {out' : List ℕ} → out' ≡ result ++ drop (length result) out
             → Answered (record { outcome = outcome; length = n; cleared = cleared }) out'
         replaced fits size counted none written =
-            let passed : verdict ≡ Accepted =
+            let passed : verdict ≡ Ok tt =
             rw (t, eq-eqb (length new % 2) 0 even, le-leb (length result) 16777216 short, le-leb (length result) (length out) fits) refl in
             rw (passed, size, counted, none) (refl, written)
 
 -- A sample that was found, and one that was not.
 module _ (m : List ℕ) (l : Layout) (sample : ℕ) where
-  pub sample-found : {f : FoundBlock} {b : Block} → f ≡ found_in m l Sample sample → f ≡ At b
+  pub sample-found : {f : Result Block Refusal} {b : Block} → f ≡ found_in m l Sample sample → f ≡ Ok b
       → (there m l Sample sample ≡ true) × (b.at ≡ block_at m SampleBlock l.spans.smpl (sample - 1))
   sample-found {f} {b} e g = let (t, is) = found-there m l Sample sample b (sym e ∙ g) in (t, ap (λ (block : Block). block.at) is)
 
-  pub sample-lacking : {f : FoundBlock} {r : Refusal} → f ≡ found_in m l Sample sample → f ≡ NotFound r
+  pub sample-lacking : {f : Result Block Refusal} {r : Refusal} → f ≡ found_in m l Sample sample → f ≡ Err r
       → (there m l Sample sample ≡ false) × (r ≡ refusal NotThere 0)
   sample-lacking {f} {r} e g = not-there m l Sample sample r (sym e ∙ g)
 
 -- The answer by the opened module.
 module _ (m : List ℕ) (sample : ℕ) (new out : List ℕ) where
-  pub by-outline : {o : Outline} → opened m ≡ o → {answer : ReplaceAnswer} {out' : List ℕ}
+  pub by-outline : {o : Result Layout Refusal} → opened m ≡ o → {answer : ReplaceAnswer} {out' : List ℕ}
       → (answer ≡ replace_if m sample new (length out) o) × (out' ≡ replace_output_if m sample new out o)
       → (answer ≡ replace_answer m sample new (length out)) × (out' ≡ replace_output m sample new out)
   by-outline e both = rw e both

@@ -1,5 +1,6 @@
 -- The lemmas about the result, for the values that the code has computed: the block's place and size, and the place of INST's data.
 use Prim.Native.Nat.{ℕ, ◌+◌, ◌-◌, ◌≤◌, ◌<◌}
+use Rattle.std.specs.Prelude.{Ok}
 use mathlib.Core.Path.{◌≡◌, refl, ◌∙◌}
 use mathlib.Core.List.{List, ◌++◌}
 use mathlib.Core.Bool.{true}
@@ -8,7 +9,6 @@ use lib.ListN.{length, drop}
 use borrow.Rule.Slice.PartMut.{mid_of, put_mid}
 use Rattle.numbers.specs.Numbers.{Bytes}
 use Rattle.layout.specs.declared.Layout.{Layout}
-use Rattle.layout.specs.declared.Outline.TheVariants.{Found}
 use Rattle.blocks.specs.Sizes.{size_of, block_at}
 use Rattle.blocks.specs.declared.BlockKind.TheVariants.{Sample as SampleBlock}
 use Rattle.blocks.specs.declared.RecordKind.TheVariants.{Sample}
@@ -19,7 +19,7 @@ use Rattle.replace.specs.Replaced.{new_frames, new_block, rewritten_instruments,
 use Rattle.replace.specs.Steps.{block_replaced, SampleIn, place_afterwards}
 use Rattle.replace.proofs.Accepting.{module-limit, sample-in, block-before, result-size, result-length, place_inside, place-room, result-written}
 
-module _ (m : List ℕ) (bytes : Bytes m) (l : Layout) (o : opened m ≡ Found l) (sample : ℕ) (t : there m l Sample sample ≡ true) (new : List ℕ) {at : ℕ}
+module _ (m : List ℕ) (bytes : Bytes m) (l : Layout) (o : opened m ≡ Ok l) (sample : ℕ) (t : there m l Sample sample ≡ true) (new : List ℕ) {at : ℕ}
     (e : at ≡ block_at m SampleBlock l.spans.smpl (sample - 1)) where
   pub sample-there : length new ≤ 16777216 → {room : ℕ} → length (replaced_module m l sample new) ≤ room
       → SampleIn m l.spans.smpl at × (length new ≤ 16777216) × (length (block_replaced m l.spans.smpl at new) ≤ room)

@@ -1,6 +1,6 @@
 -- FORMAT.md, E1 to E6 (document 02, K1, "Replacing a sample"): the module with the block of one sample replaced, and with the loops cleared
 -- that no longer fit it. `new` is the new frames as bytes, 2 for each frame.
-use Rattle.std.specs.Prelude.{ℕ, ◌+◌, ◌-◌, ◌/◌, ◌%◌, List, [], ◌∷◌, ◌++◌, map, Bool, cond, ◌&&◌, length, set, replicate, eqb, leb, ltb}
+use Rattle.std.specs.Prelude.{ℕ, ◌+◌, ◌-◌, ◌/◌, ◌%◌, List, [], ◌∷◌, ◌++◌, map, Bool, cond, ◌&&◌, length, set, replicate, eqb, leb, ltb, ⊤, Result, Ok, Err}
 use Rattle.vocabulary.specs.Lists.{joined}
 use Rattle.refusal.specs.Numbers.{no_refusal, refused_outcome}
 use Rattle.refusal.specs.Rules.{Rule, rule, first_broken}
@@ -8,14 +8,10 @@ use Rattle.refusal.specs.Lengths.{output_if}
 use Rattle.refusal.specs.declared.LengthAnswer.{LengthAnswer}
 use Rattle.refusal.specs.declared.Reason.TheVariants.{TooLong, Room, NotThere, OddFrames}
 use Rattle.refusal.specs.declared.Refusal.{Refusal}
-use Rattle.refusal.specs.declared.Verdict.{Verdict}
-use Rattle.refusal.specs.declared.Verdict.TheVariants.{Accepted, Refused as VerdictRefused}
 use Rattle.numbers.specs.Numbers.{part_of, bytes32}
 use Rattle.packed_rows.specs.Entries.{count}
 use Rattle.layout.specs.Chunks.{inst_identifier, smpl_identifier, ChunkHeader, chunks, chunks_read, with_content}
 use Rattle.layout.specs.declared.Layout.{Layout}
-use Rattle.layout.specs.declared.Outline.{Outline}
-use Rattle.layout.specs.declared.Outline.TheVariants.{Found, Refused}
 use Rattle.blocks.specs.StoredFields.{instrument_sample, instrument_loop_start, instrument_loop_length}
 use Rattle.blocks.specs.Sizes.{size_of, instrument_blocks, sample_blocks}
 use Rattle.blocks.specs.declared.BlockKind.TheVariants.{Sample as SampleBlock}
@@ -86,25 +82,25 @@ replace_rules m l sample new room =
 abbrev pub refused_replace : Refusal → ReplaceAnswer
 refused_replace r = record { outcome = refused_outcome r; length = 0; cleared = 0 }
 
-abbrev pub replace_by : List ℕ → Layout → ℕ → List ℕ → Verdict → ReplaceAnswer
-replace_by m l sample new Accepted = record {
+abbrev pub replace_by : List ℕ → Layout → ℕ → List ℕ → Result ⊤ Refusal → ReplaceAnswer
+replace_by m l sample new (Ok _) = record {
   outcome = no_refusal;
   length = length (replaced_module m l sample new);
   cleared = cleared_count m l sample (new_frames new);
 }
-replace_by m l sample new (VerdictRefused r) = refused_replace r
+replace_by m l sample new (Err r) = refused_replace r
 
-abbrev pub replace_if : List ℕ → ℕ → List ℕ → ℕ → Outline → ReplaceAnswer
-replace_if m sample new room (Found l) = replace_by m l sample new (first_broken (replace_rules m l sample new room))
-replace_if m sample new room (Refused r) = refused_replace r
+abbrev pub replace_if : List ℕ → ℕ → List ℕ → ℕ → Result Layout Refusal → ReplaceAnswer
+replace_if m sample new room (Ok l) = replace_by m l sample new (first_broken (replace_rules m l sample new room))
+replace_if m sample new room (Err r) = refused_replace r
 
 abbrev pub replace_answer : List ℕ → ℕ → List ℕ → ℕ → ReplaceAnswer
 replace_answer m sample new room = replace_if m sample new room (opened m)
 
 -- The module with the sample replaced; nothing for a module that is refused.
-abbrev pub sample_replaced_if : List ℕ → ℕ → List ℕ → Outline → List ℕ
-sample_replaced_if m sample new (Found l) = replaced_module m l sample new
-sample_replaced_if m sample new (Refused r) = []
+abbrev pub sample_replaced_if : List ℕ → ℕ → List ℕ → Result Layout Refusal → List ℕ
+sample_replaced_if m sample new (Ok l) = replaced_module m l sample new
+sample_replaced_if m sample new (Err r) = []
 
 abbrev pub sample_replaced : List ℕ → ℕ → List ℕ → List ℕ
 sample_replaced m sample new = sample_replaced_if m sample new (opened m)
@@ -113,10 +109,10 @@ sample_replaced m sample new = sample_replaced_if m sample new (opened m)
 abbrev pub length_part : ReplaceAnswer → LengthAnswer
 length_part answer = record { outcome = answer.outcome; length = answer.length }
 
-abbrev pub replace_output_if : List ℕ → ℕ → List ℕ → List ℕ → Outline → List ℕ
-replace_output_if m sample new out (Found l) =
-    output_if (length_part (replace_if m sample new (length out) (Found l))) (replaced_module m l sample new) out
-replace_output_if m sample new out (Refused r) = out
+abbrev pub replace_output_if : List ℕ → ℕ → List ℕ → List ℕ → Result Layout Refusal → List ℕ
+replace_output_if m sample new out (Ok l) =
+    output_if (length_part (replace_if m sample new (length out) (Ok l))) (replaced_module m l sample new) out
+replace_output_if m sample new out (Err r) = out
 
 abbrev pub replace_output : List ℕ → ℕ → List ℕ → List ℕ → List ℕ
 replace_output m sample new out = replace_output_if m sample new out (opened m)

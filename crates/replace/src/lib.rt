@@ -5,7 +5,6 @@
 
 ghost use Rattle.std.specs.Prelude.{◌≡◌, [], ◌∷◌, ◌++◌, map, true, ◌+◌, ◌-◌, ◌≤◌, length, drop};
 ghost use Rattle.packed_rows.specs.Entries.{count};
-ghost use Rattle.layout.specs.declared.Outline.TheVariants.{Found as Opened};
 ghost use Rattle.blocks.specs.Sizes.{block_at};
 ghost use Rattle.blocks.specs.declared.BlockKind.TheVariants.{Sample as SampleBlock};
 ghost use Rattle.blocks.specs.declared.RecordKind.TheVariants.{Sample};
@@ -21,11 +20,11 @@ use blocks::stored::{
     instrument_sample,
 };
 use blocks::{BlockKind, RecordKind, block_at, size};
-use layout::{ChunkSpan, Layout, Outline};
+use layout::{ChunkSpan, Layout};
 use module::is_looped;
 use numbers::{part, put16, put32};
-use queries::{Found, find_in};
-use refusal::{Outcome, Reason, Refusal, Verdict, outcome_of, refuse};
+use queries::find_in;
+use refusal::{Outcome, Reason, Refusal, refuse};
 
 // The length of the module that was written, and the number of instruments whose loop was cleared.
 #[repr(C)]
@@ -41,7 +40,7 @@ fn refused(r: Refusal) -> ReplaceAnswer
     ensures { result ≡ refused_replace r }
 {
     ReplaceAnswer {
-        outcome: outcome_of(Verdict::Refused(r)),
+        outcome: Outcome::from(Err(r)),
         length: 0,
         cleared: 0,
     }
@@ -91,12 +90,10 @@ fn write_instruments(
     let mut at = block_at(m, BlockKind::Instrument, inst, 0);
     let mut to: usize = 0;
     let mut cleared: usize = 0;
-    let mut left = instruments;
-    while 0 < left {
+    for _ in 0..instruments {
         cleared = cleared + write_instrument(m, sample, frames, at, &mut out[to..]);
         to = to + 50;
         at = at + 50;
-        left = left - 1;
     }
     cleared
 }
@@ -150,7 +147,7 @@ fn place_afterwards(inst: ChunkSpan, smpl: ChunkSpan, old: usize, new: usize) ->
 
 // Writes the result to the front of an output that has room for it, and returns the number of loops that are cleared.
 fn write_result(m: &[u8], l: Layout, at: usize, sample: usize, new: &[u8], out: &mut [u8]) -> usize
-    requires { (opened m.now ≡ Opened l) × (there m.now l Sample sample ≡ true)
+    requires { (opened m.now ≡ Ok l) × (there m.now l Sample sample ≡ true)
         × (at ≡ block_at m.now SampleBlock l.spans.smpl (sample - 1)) × (length new.now ≤ 16777216)
         × (length (replaced_module m.now l sample new.now) ≤ length out.old) }
     ensures { (result ≡ cleared_count m.now l sample (new_frames new.now))
@@ -180,10 +177,10 @@ fn replace_at(
     new: &[u8],
     out: &mut [u8],
 ) -> ReplaceAnswer
-    requires { (opened m.now ≡ Opened l) × (there m.now l Sample sample ≡ true)
+    requires { (opened m.now ≡ Ok l) × (there m.now l Sample sample ≡ true)
         × (at ≡ block_at m.now SampleBlock l.spans.smpl (sample - 1)) }
-    ensures { (result ≡ replace_if m.now sample new.now (length out.old) (Opened l))
-        × (out.new ≡ replace_output_if m.now sample new.now out.old (Opened l)) }
+    ensures { (result ≡ replace_if m.now sample new.now (length out.old) (Ok l))
+        × (out.new ≡ replace_output_if m.now sample new.now out.old (Ok l)) }
 {
     if new.len() % 2 != 0 {
         return refused(refuse(Reason::OddFrames, 0));
@@ -198,7 +195,7 @@ fn replace_at(
     }
     let cleared = write_result(m, l, at, sample, new, out);
     ReplaceAnswer {
-        outcome: outcome_of(Verdict::Accepted),
+        outcome: Outcome::from(Ok(())),
         length,
         cleared,
     }
@@ -206,13 +203,13 @@ fn replace_at(
 
 // Replaces a sample of an accepted module: 18, 19, 1, 17.
 fn replace_opened(m: &[u8], l: Layout, sample: usize, new: &[u8], out: &mut [u8]) -> ReplaceAnswer
-    requires { opened m.now ≡ Opened l }
-    ensures { (result ≡ replace_if m.now sample new.now (length out.old) (Opened l))
-        × (out.new ≡ replace_output_if m.now sample new.now out.old (Opened l)) }
+    requires { opened m.now ≡ Ok l }
+    ensures { (result ≡ replace_if m.now sample new.now (length out.old) (Ok l))
+        × (out.new ≡ replace_output_if m.now sample new.now out.old (Ok l)) }
 {
     match find_in(m, l, RecordKind::Sample, sample) {
-        Found::At(b) => replace_at(m, l, b.at, sample, new, out),
-        Found::Refused(r) => refused(r),
+        Ok(b) => replace_at(m, l, b.at, sample, new, out),
+        Err(r) => refused(r),
     }
 }
 
@@ -222,7 +219,7 @@ pub fn replace(m: &[u8], sample: usize, new: &[u8], out: &mut [u8]) -> ReplaceAn
         × (out.new ≡ replace_output m.now sample new.now out.old) }
 {
     match module::open(m) {
-        Outline::Found(l) => replace_opened(m, l, sample, new, out),
-        Outline::Refused(r) => refused(r),
+        Ok(l) => replace_opened(m, l, sample, new, out),
+        Err(r) => refused(r),
     }
 }

@@ -1,16 +1,15 @@
 -- Every call that replaces a sample and is not refused (`DescribedCalls`): the result is accepted, its loops lie within their samples, and the
 -- answer counts the instruments that are shown differently.
 use Prim.Native.Nat.{ℕ, ◌≤◌}
+use Rattle.std.specs.Prelude.{⊤, Result, Ok}
+use Rattle.refusal.specs.declared.Refusal.{Refusal}
 use mathlib.Core.Path.{◌≡◌, sym, ap, subst, ◌∙◌}
 use mathlib.Core.List.{List, map}
 use native.Mathlib.Omega.{arith}
 use lib.ListN.{length}
 use Rattle.vocabulary.specs.Lists.{joined, Every}
-use Rattle.refusal.specs.declared.Verdict.{Verdict}
-use Rattle.refusal.specs.declared.Verdict.TheVariants.{Accepted}
 use Rattle.numbers.specs.Numbers.{Bytes, each_from, bytes16}
 use Rattle.layout.specs.declared.Layout.{Layout}
-use Rattle.layout.specs.declared.Outline.{Outline}
 use Rattle.module.specs.Verdicts.{module_verdict}
 use Rattle.replace.specs.Replaced.{new_frames, cleared_count, replace_by, replace_if, replace_answer, sample_replaced}
 use Rattle.summary.specs.Shown.{info_answer}
@@ -30,7 +29,7 @@ use Rattle.replace_theorems.proofs.DescribedCalls.{Passed, described-call}
 -- What holds for the result.
 pub record ResultOf (m : List ℕ) (sample : ℕ) (new : List ℕ) (room : ℕ) : Type 0 where
   pub bytes : Bytes (sample_replaced m sample new)
-  pub accepted : module_verdict (sample_replaced m sample new) ≡ Accepted
+  pub accepted : module_verdict (sample_replaced m sample new) ≡ Ok tt
   pub inside : LoopsInside (sample_replaced m sample new)
   pub cleared : Differing (each_from (instrument_answer m) 1 (info_answer m).instruments)
       (each_from (instrument_answer (sample_replaced m sample new)) 1 (info_answer m).instruments)
@@ -50,8 +49,8 @@ module _ (d : Description) (w : WellFormed d) (sample : ℕ) (low : 1 ≤ sample
       let new = replaced-well-formed d w sample low high frames fits limit in
       let answer : (replace_answer (encoded d) sample bytes_of room).cleared
       ≡ cleared_count (encoded d) l sample (new_frames bytes_of) =
-      ap (λ (o : Outline). (replace_if (encoded d) sample bytes_of room o).cleared) passed.opens
-      ∙ ap (λ (v : Verdict). (replace_by (encoded d) l sample bytes_of v).cleared) passed.held in
+      ap (λ (o : Result Layout Refusal). (replace_if (encoded d) sample bytes_of room o).cleared) passed.opens
+      ∙ ap (λ (v : Result ⊤ Refusal). (replace_by (encoded d) l sample bytes_of v).cleared) passed.held in
       let many : (info_answer (encoded d)).instruments ≡ w.info.instruments =
       ap (λ (a : InfoAnswer). a.instruments) ((encoding-shows d w).info w.info w.info_there) in
       record {

@@ -1,5 +1,6 @@
 -- The number of instruments whose loop is cleared is the number of instruments that are shown differently.
 use Prim.Native.Nat.{ℕ, ◌+◌, ◌-◌, ◌≤◌, ◌<◌}
+use Rattle.std.specs.Prelude.{Ok}
 use mathlib.Core.Path.{◌≡◌, refl, sym, ap, ◌∙◌}
 use mathlib.Core.List.{List, [], ◌∷◌, map}
 use mathlib.Core.Bool.{Bool, true, false, cond}
@@ -10,7 +11,6 @@ use Rattle.vocabulary.specs.Lists.{joined, Every}
 use Rattle.numbers.specs.Numbers.{each_from, bytes16}
 use Rattle.packed_rows.specs.Entries.{count}
 use Rattle.layout.specs.declared.Layout.{Layout}
-use Rattle.layout.specs.declared.Outline.TheVariants.{Found}
 use Rattle.module.specs.Verdicts.{opened}
 use Rattle.replace.specs.Replaced.{new_frames, cleared_count, sample_replaced}
 use Rattle.instruments.specs.Shown.{instrument_answer}
@@ -72,7 +72,7 @@ module _ (d : Description) (w : WellFormed d) (sample : ℕ) (low : 1 ≤ sample
   abbrev rewritten : List Instrument
   rewritten = map (cleared_instrument sample (length frames)) w.instruments
 
-  counted : (l : Layout) → opened (encoded d) ≡ Found l
+  counted : (l : Layout) → opened (encoded d) ≡ Ok l
       → cleared_count (encoded d) l sample (new_frames new) ≡ count (map (loop_outside sample (length frames)) w.instruments)
   counted l opens =
       let (k, opens_as, layout) = encoded-opens d w in
@@ -95,7 +95,7 @@ module _ (d : Description) (w : WellFormed d) (sample : ℕ) (low : 1 ≤ sample
       (replaced-well-formed d w sample low high frames fits limit) rewritten
       (in-changed (replaced_chunk sample frames) w.instruments_there)
 
-  pub cleared-differ : (l : Layout) → opened (encoded d) ≡ Found l
+  pub cleared-differ : (l : Layout) → opened (encoded d) ≡ Ok l
       → Differing (each_from (instrument_answer (encoded d)) 1 w.info.instruments)
       (each_from (instrument_answer (sample_replaced (encoded d) sample (joined (map bytes16 frames)))) 1 w.info.instruments)
       (cleared_count (encoded d) l sample (new_frames (joined (map bytes16 frames))))

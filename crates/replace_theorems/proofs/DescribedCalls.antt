@@ -1,6 +1,7 @@
 -- A call that replaces a sample and is not refused: the module opens and the rules of the call hold. So the module is the encoding of a
 -- description, the new frames are frames of 16 bits, there is a sample with that number, and the result is within the limit.
 use Prim.Native.Nat.{ℕ, ◌-◌, ◌%◌, ◌≤◌}
+use Rattle.std.specs.Prelude.{⊤, Result, Ok, Err}
 use mathlib.Core.Path.{◌≡◌, refl, sym, ap, ◌∙◌}
 use mathlib.Core.List.{List, ◌∷◌, map}
 use mathlib.Core.Bool.{Bool}
@@ -14,13 +15,9 @@ use Rattle.refusal.specs.Rules.{Rule, rule, first_broken}
 use Rattle.refusal.specs.declared.Reason.{Reason}
 use Rattle.refusal.specs.declared.Reason.TheVariants.{TooLong, Room, NotThere, OddFrames}
 use Rattle.refusal.specs.declared.Refusal.{Refusal}
-use Rattle.refusal.specs.declared.Verdict.{Verdict}
-use Rattle.refusal.specs.declared.Verdict.TheVariants.{Accepted, Refused as VerdictRefused}
 use Rattle.refusal.proofs.RuleLists.{rules-held}
 use Rattle.numbers.specs.Numbers.{Bytes, bytes16}
 use Rattle.layout.specs.declared.Layout.{Layout}
-use Rattle.layout.specs.declared.Outline.{Outline}
-use Rattle.layout.specs.declared.Outline.TheVariants.{Found, Refused}
 use Rattle.module.specs.Verdicts.{opened, verdict_of_outline}
 use Rattle.acceptance.specs.Places.{AllChunks, ContentPlace, PlaceOf}
 use Rattle.acceptance.proofs.Holding.{and-says}
@@ -72,21 +69,21 @@ call-numbers m l sample new room =
 -- A call that is not refused: the module opens, and the rules of the call hold.
 pub record Passed (m : List ℕ) (sample : ℕ) (new : List ℕ) (room : ℕ) : Type 0 where
   pub layout : Layout
-  pub opens : opened m ≡ Found layout
-  pub held : first_broken (replace_rules m layout sample new room) ≡ Accepted
+  pub opens : opened m ≡ Ok layout
+  pub held : first_broken (replace_rules m layout sample new room) ≡ Ok tt
 
 module _ (m : List ℕ) (bytes : Bytes m) (sample : ℕ) (new : List ℕ) (room : ℕ) where
-  rules-passed : (l : Layout) → opened m ≡ Found l → (v : Verdict) → first_broken (replace_rules m l sample new room) ≡ v
+  rules-passed : (l : Layout) → opened m ≡ Ok l → (v : Result ⊤ Refusal) → first_broken (replace_rules m l sample new room) ≡ v
       → (replace_by m l sample new v).outcome.number ≡ 0
       → Passed m sample new room
-  rules-passed l opens Accepted held ok = record { layout = l; opens = opens; held = held }
-  rules-passed l opens (VerdictRefused r) held ok =
+  rules-passed l opens (Ok _) held ok = record { layout = l; opens = opens; held = held }
+  rules-passed l opens (Err r) held ok =
       let some : 1 ≤ r.number = first-broken (call-numbers m l sample new room) r held in
       absurd (omega (arith, ok))
 
-  call-passed : (o : Outline) → opened m ≡ o → (replace_if m sample new room o).outcome.number ≡ 0 → Passed m sample new room
-  call-passed (Found l) opens ok = rules-passed l opens (first_broken (replace_rules m l sample new room)) refl ok
-  call-passed (Refused r) opens ok =
+  call-passed : (o : Result Layout Refusal) → opened m ≡ o → (replace_if m sample new room o).outcome.number ≡ 0 → Passed m sample new room
+  call-passed (Ok l) opens ok = rules-passed l opens (first_broken (replace_rules m l sample new room)) refl ok
+  call-passed (Err r) opens ok =
       let some : 1 ≤ r.number = place-number (refusal-place m bytes r (ap verdict_of_outline opens)).0 in
       absurd (omega (arith, ok))
 
@@ -110,7 +107,7 @@ module _ (m : List ℕ) (bytes : Bytes m) (sample : ℕ) (new : List ℕ) (new_b
   described passed d w is frames fits same =
       let l : Layout = passed.layout in
       let (k, first, layout) = encoded-opens d w in
-      let second : opened (encoded d) ≡ Found l = ap opened is ∙ passed.opens in
+      let second : opened (encoded d) ≡ Ok l = ap opened is ∙ passed.opens in
       let one : k ≡ l = cc in
       let numbers = info-numbers d w layout w.info w.info_there in
       let rules = rules-held (replace_rules m l sample new room) passed.held in

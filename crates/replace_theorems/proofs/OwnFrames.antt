@@ -1,5 +1,6 @@
 -- A sample of 16 bits that is replaced by its own frames: the description and the module are unchanged.
 use Prim.Native.Nat.{ℕ, ◌-◌, ◌*◌}
+use Rattle.std.specs.Prelude.{Ok}
 use mathlib.Core.Path.{◌≡◌, refl, sym, ap, subst, ◌∙◌}
 use mathlib.Core.List.{List, [], map}
 use mathlib.Core.Bool.{Bool, true, false, cond, ◌&&◌}
@@ -10,7 +11,6 @@ use lib.Dec.{leb, ltb}
 use Rattle.vocabulary.specs.Lists.{joined}
 use Rattle.vocabulary.proofs.EveryOne.{every_of}
 use Rattle.vocabulary.proofs.MappedLists.{map-stays}
-use Rattle.refusal.specs.declared.Verdict.TheVariants.{Accepted}
 use Rattle.numbers.specs.Numbers.{Bytes, bytes16}
 use Rattle.module.specs.Verdicts.{module_verdict}
 use Rattle.acceptance.specs.Rules.{Covered}
@@ -107,7 +107,7 @@ module _ (d : Description) (w : WellFormed d) (sample : ℕ) where
       go true e part = ap (sample_replaced (encoded d) sample) part ∙ own-frames d w sample (width-sixteen old.width e)
       go false e part = absurd (omega (arith, e))
 
-pub own-frames-shown : (m : List ℕ) → Bytes m → module_verdict m ≡ Accepted → (sample : ℕ) → (sample_answer m sample).width ≡ 16
+pub own-frames-shown : (m : List ℕ) → Bytes m → module_verdict m ≡ Ok tt → (sample : ℕ) → (sample_answer m sample).width ≡ 16
     → sample_replaced m sample (frames_part m sample) ≡ m
 own-frames-shown m bytes accepted sample =
     let (d, w, is) = accepted-encoded m bytes accepted in

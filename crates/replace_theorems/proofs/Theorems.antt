@@ -22,15 +22,14 @@
 -- The result is `sample_replaced`, the number of cleared instruments is `cleared_count`, the answer is `replace_answer` and the check is
 -- `module_verdict`. The contracts cite these, and also the answers in `Shows`, `LoopsInside` and `Differing`.
 use Prim.Native.Nat.{ℕ, ◌+◌, ◌-◌, ◌%◌, ◌≤◌, ◌<◌}
+use Rattle.std.specs.Prelude.{Ok}
 use mathlib.Core.Path.{◌≡◌, sym, ap, subst, ◌∙◌}
 use mathlib.Core.List.{List, map}
 use mathlib.Core.Bool.{true}
 use lib.ListN.{length, get_or}
 use Rattle.vocabulary.specs.Lists.{joined, Every}
-use Rattle.refusal.specs.declared.Verdict.TheVariants.{Accepted}
 use Rattle.numbers.specs.Numbers.{Bytes, each_from, bytes16}
 use Rattle.layout.specs.declared.Layout.{Layout}
-use Rattle.layout.specs.declared.Outline.TheVariants.{Found}
 use Rattle.blocks.specs.declared.RecordKind.TheVariants.{Sample}
 use Rattle.module.specs.Verdicts.{opened, module_verdict}
 use Rattle.queries.specs.Finding.{there}
@@ -78,7 +77,7 @@ module _ (d : Description) (w : WellFormed d) (sample : ℕ) where
       pub replaced-bytes : Bytes result
       replaced-bytes = subst Bytes (sym replaced-encoded) (encoding-bytes description replaced-well-formed)
 
-      pub replaced-accepted : module_verdict result ≡ Accepted
+      pub replaced-accepted : module_verdict result ≡ Ok tt
       replaced-accepted = ap module_verdict replaced-encoded ∙ encoding-accepted description replaced-well-formed
 
       pub replaced-shows : Shows result (replaced_description sample frames d)
@@ -88,7 +87,7 @@ module _ (d : Description) (w : WellFormed d) (sample : ℕ) where
       pub replaced-loops-inside : LoopsInside result
       replaced-loops-inside = subst LoopsInside (sym replaced-encoded) (ShownLoops.loops-inside description replaced-well-formed)
 
-      pub cleared-differ : (l : Layout) → opened (encoded d) ≡ Found l
+      pub cleared-differ : (l : Layout) → opened (encoded d) ≡ Ok l
           → Differing (each_from (instrument_answer (encoded d)) 1 w.info.instruments)
           (each_from (instrument_answer result) 1 w.info.instruments)
           (cleared_count (encoded d) l sample (new_frames new))
@@ -102,7 +101,7 @@ module _ (d : Description) (w : WellFormed d) (sample : ℕ) where
       → sample_replaced (encoded d) sample (stored_frames (get_or w.samples (sample - 1) empty_sample)) ≡ encoded d
   own-frames = OwnFrames.own-frames d w sample
 
-pub own-frames-shown : (m : List ℕ) → Bytes m → module_verdict m ≡ Accepted → (sample : ℕ) → (sample_answer m sample).width ≡ 16
+pub own-frames-shown : (m : List ℕ) → Bytes m → module_verdict m ≡ Ok tt → (sample : ℕ) → (sample_answer m sample).width ≡ 16
     → sample_replaced m sample (frames_part m sample) ≡ m
 own-frames-shown = OwnFrames.own-frames-shown
 
@@ -118,7 +117,7 @@ module _ (m : List ℕ) (bytes : Bytes m) (sample : ℕ) (new : List ℕ) (new_b
   pub result-bytes : Bytes (sample_replaced m sample new)
   result-bytes = (AnyModule.replaced-result m bytes sample new new_bytes room answered).bytes
 
-  pub result-accepted : module_verdict (sample_replaced m sample new) ≡ Accepted
+  pub result-accepted : module_verdict (sample_replaced m sample new) ≡ Ok tt
   result-accepted = (AnyModule.replaced-result m bytes sample new new_bytes room answered).accepted
 
   pub result-loops-inside : LoopsInside (sample_replaced m sample new)
@@ -133,7 +132,7 @@ module _ (m : List ℕ) (bytes : Bytes m) (sample : ℕ) (new : List ℕ) (new_b
 pub replacements-agree : map (λ (w : WorkedReplacement). w.found) worked_replacements ≡ map (λ (w : WorkedReplacement). w.said) worked_replacements
 replacements-agree = WorkedReplacements.replacements-agree
 
-pub result-too-long : (m : List ℕ) (l : Layout) (sample : ℕ) (new : List ℕ) (room : ℕ) → opened m ≡ Found l
+pub result-too-long : (m : List ℕ) (l : Layout) (sample : ℕ) (new : List ℕ) (room : ℕ) → opened m ≡ Ok l
     → there m l Sample sample ≡ true → length new % 2 ≡ 0 → 16777216 < length (replaced_module m l sample new)
     → replace_answer m sample new room ≡ record { outcome = record { number = 1; place = 0 }; length = 0; cleared = 0 }
 result-too-long = WorkedReplacements.result-too-long

@@ -2,6 +2,7 @@
 -- numbers. The numbers are counted by hand from the lengths in `SmallModules`. If a row is wrong, the checker does not say which: shorten
 -- `worked_replacements` until the row is left.
 use Prim.Native.Nat.{ℕ, ◌%◌, ◌<◌}
+use Rattle.std.specs.Prelude.{Ok}
 use mathlib.Core.Path.{◌≡◌, refl}
 use mathlib.Core.List.{List, [], ◌∷◌, ◌++◌, map}
 use mathlib.Core.Bool.{true}
@@ -13,7 +14,6 @@ use Rattle.numbers.specs.Numbers.{byte_at, number16, number32}
 use Rattle.packed_rows.specs.Stream.{read_from, reading}
 use Rattle.layout.specs.Chunks.{chunks_from, chunks}
 use Rattle.layout.specs.declared.Layout.{Layout}
-use Rattle.layout.specs.declared.Outline.TheVariants.{Found}
 use Rattle.blocks.specs.Sizes.{size_of}
 use Rattle.blocks.specs.declared.RecordKind.TheVariants.{Sample}
 use Rattle.module.specs.Verdicts.{opened}
@@ -162,7 +162,7 @@ replacements-agree =
     same-rows (map (λ (w : WorkedReplacement). w.found) worked_replacements) (map (λ (w : WorkedReplacement). w.said) worked_replacements) refl
 
 -- Number 1: a result that is too long. It cannot be written out, so this is a law.
-pub result-too-long : (m : List ℕ) (l : Layout) (sample : ℕ) (new : List ℕ) (room : ℕ) → opened m ≡ Found l
+pub result-too-long : (m : List ℕ) (l : Layout) (sample : ℕ) (new : List ℕ) (room : ℕ) → opened m ≡ Ok l
     → there m l Sample sample ≡ true → length new % 2 ≡ 0 → 16777216 < length (replaced_module m l sample new)
     → replace_answer m sample new room ≡ record { outcome = record { number = 1; place = 0 }; length = 0; cleared = 0 }
 result-too-long m l number new room opens t even long =

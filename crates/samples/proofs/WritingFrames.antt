@@ -1,11 +1,7 @@
--- A loop that writes numbers as 2 bytes each, from the front on.
---     writing-first   nothing is written yet
---     writing-length  the length is unchanged
---     writing-turn    one more number is written
---     writing-last    all numbers are written
+-- A loop that writes numbers as 2 bytes each, from the front on: one more number is written.
 use Prim.Native.Nat.{ℕ, zero, suc, ◌+◌, ◌*◌, ◌/◌, ◌%◌, ◌<◌, ◌≤◌}
 use mathlib.Core.Path.{◌≡◌, refl, sym, ap, ◌∙◌}
-use mathlib.Core.List.{List, [], ◌∷◌, ◌++◌, append-nil}
+use mathlib.Core.List.{List, ◌++◌}
 use native.Mathlib.Omega.{arith}
 use native.Mathlib.Numerals.{add-one, unary_clauses}
 use lib.ListN.{length, drop, set, length-append, length-drop}
@@ -38,10 +34,7 @@ pub record Writing (f : ℕ → ℤ) (n : ℕ) (out : List ℕ) (i : ℕ) : Type
   pub room : 2 * i + length rest ≡ 2 * n
 
 module _ (f : ℕ → ℤ) (n : ℕ) where
-  pub writing-first : (out : List ℕ) → length out ≡ 2 * n → Writing f n out 0
-  writing-first out h = record { rest = out; same = refl; room = omega (arith, h) }
-
-  pub writing-length : (out : List ℕ) (i : ℕ) → Writing f n out i → length out ≡ 2 * n
+  writing-length : (out : List ℕ) (i : ℕ) → Writing f n out i → length out ≡ 2 * n
   writing-length out i h =
       let joint : length out ≡ length (pairs f 0 i) + length h.rest = ap length h.same ∙ length-append (pairs f 0 i) h.rest in
       omega (arith, pairs-length f i 0, h.room)
@@ -66,10 +59,3 @@ module _ (f : ℕ → ℤ) (n : ℕ) where
             ∙ ap (λ (k : ℕ). pairs f 0 k ++ drop 2 h.rest) (sym (add-one i));
         room = omega (arith, h.room, length-drop 2 h.rest);
       }
-
-  pub writing-last : (out : List ℕ) (i : ℕ) → Writing f n out i → n ≤ i → out ≡ pairs f 0 n
-  writing-last out i h over = go h.rest h.same h.room
-    where
-      go : (rest : List ℕ) → out ≡ pairs f 0 i ++ rest → 2 * i + length rest ≡ 2 * n → out ≡ pairs f 0 n
-      go [] s r = let all : i ≡ n = omega (arith, r) in s ∙ append-nil (pairs f 0 i) ∙ ap (pairs f 0) all
-      go (x ∷ rest) s r = absurd (omega (arith, r, over))

@@ -1,6 +1,7 @@
 -- FORMAT.md, B5 and Q11 to Q13 (document 01, "Layout"): a sample and its frames as they are shown. Each answer begins with the refusal's
 -- number and place, 0 and 0 if there is none; on a refusal all other fields are 0.
-use Rattle.std.specs.Prelude.{ℕ, ◌+◌, ◌*◌, ◌/◌, List, cond, eqb, ltb, ℤ, pos, negsuc, ◌*ℤ◌}
+use Rattle.std.specs.Prelude.{ℕ, ◌+◌, ◌*◌, ◌/◌, List, cond, eqb, ltb, ℤ, pos, negsuc, ◌*ℤ◌, Result, Ok, Err}
+use Rattle.queries.specs.declared.Block.{Block}
 use Rattle.vocabulary.specs.Lists.{joined}
 use Rattle.refusal.specs.Numbers.{refusal, no_refusal, refused_outcome}
 use Rattle.refusal.specs.declared.Reason.TheVariants.{NotThere}
@@ -11,8 +12,6 @@ use Rattle.blocks.specs.StoredFields.{sample_flags, sample_frames}
 use Rattle.blocks.specs.Sizes.{width_of}
 use Rattle.blocks.specs.declared.RecordKind.TheVariants.{Sample}
 use Rattle.queries.specs.Finding.{found, answer_found, output_found}
-use Rattle.queries.specs.declared.Found.{Found}
-use Rattle.queries.specs.declared.Found.TheVariants.{At, Refused}
 use Rattle.samples.specs.declared.SampleAnswer.{SampleAnswer}
 use Rattle.samples.specs.declared.FramesAnswer.{FramesAnswer}
 use Rattle.samples.specs.declared.FrameAnswer.{FrameAnswer}
@@ -28,9 +27,9 @@ no_sample r = record { outcome = refused_outcome r; width = 0; frames = 0 }
 abbrev pub shown_sample : List ℕ → ℕ → SampleAnswer
 shown_sample m at = record { outcome = no_refusal; width = 8 * bytes_per_frame m at; frames = sample_frames m at }
 
-abbrev pub sample_if : List ℕ → Found → SampleAnswer
-sample_if m (At b) = shown_sample m b.at
-sample_if m (Refused r) = no_sample r
+abbrev pub sample_if : List ℕ → Result Block Refusal → SampleAnswer
+sample_if m (Ok b) = shown_sample m b.at
+sample_if m (Err r) = no_sample r
 
 -- Q1: the module's own refusal, then 18, else the sample.
 abbrev pub sample_answer : List ℕ → ℕ → SampleAnswer
@@ -43,9 +42,9 @@ no_frames r = record { outcome = refused_outcome r; offset = 0; length = 0 }
 abbrev pub shown_frames : List ℕ → ℕ → FramesAnswer
 shown_frames m at = record { outcome = no_refusal; offset = at + 8; length = sample_frames m at * bytes_per_frame m at }
 
-abbrev pub frames_if : List ℕ → Found → FramesAnswer
-frames_if m (At b) = shown_frames m b.at
-frames_if m (Refused r) = no_frames r
+abbrev pub frames_if : List ℕ → Result Block Refusal → FramesAnswer
+frames_if m (Ok b) = shown_frames m b.at
+frames_if m (Err r) = no_frames r
 
 abbrev pub frames_answer : List ℕ → ℕ → FramesAnswer
 frames_answer m sample = frames_if m (found m Sample sample)
@@ -81,9 +80,9 @@ frame_in m at frame =
     (record { outcome = no_refusal; frame = frame_of m at frame })
     (no_frame (refusal NotThere 0))
 
-abbrev pub frame_if : List ℕ → ℕ → Found → FrameAnswer
-frame_if m frame (At b) = frame_in m b.at frame
-frame_if m frame (Refused r) = no_frame r
+abbrev pub frame_if : List ℕ → ℕ → Result Block Refusal → FrameAnswer
+frame_if m frame (Ok b) = frame_in m b.at frame
+frame_if m frame (Err r) = no_frame r
 
 -- Q1: the module's own refusal, then 18, else the frame.
 abbrev pub frame_answer : List ℕ → ℕ → ℕ → FrameAnswer

@@ -14,10 +14,8 @@ ghost use Rattle.samples.specs.Steps.{frames_from};
 use blocks::stored::{SAMPLE_BYTES, sample_flags, sample_frames};
 use blocks::{RecordKind, width};
 use numbers::{byte, number16, number32, part, signed};
-use queries::{Found, find};
-use refusal::{
-    LengthAnswer, Outcome, Reason, Refusal, Verdict, outcome_of, refuse, refused, written,
-};
+use queries::find;
+use refusal::{LengthAnswer, Outcome, Reason, Refusal, refuse};
 
 // A sample: the bits of a frame (8, 16 or 32), and the number of frames.
 #[repr(C)]
@@ -56,7 +54,7 @@ fn no_sample(r: Refusal) -> SampleAnswer
     ensures { result ≡ no_sample r }
 {
     SampleAnswer {
-        outcome: outcome_of(Verdict::Refused(r)),
+        outcome: Outcome::from(Err(r)),
         width: 0,
         frames: 0,
     }
@@ -67,7 +65,7 @@ fn sample_at(m: &[u8], at: usize) -> SampleAnswer
     ensures { result ≡ shown_sample m.now at }
 {
     SampleAnswer {
-        outcome: outcome_of(Verdict::Accepted),
+        outcome: Outcome::from(Ok(())),
         width: (8 * frame_bytes(m, at)) as u8,
         frames: sample_frames(m, at),
     }
@@ -78,8 +76,8 @@ pub fn sample(m: &[u8], sample: usize) -> SampleAnswer
     ensures { result ≡ sample_answer m.now sample }
 {
     match find(m, RecordKind::Sample, sample) {
-        Found::At(b) => sample_at(m, b.at),
-        Found::Refused(r) => no_sample(r),
+        Ok(b) => sample_at(m, b.at),
+        Err(r) => no_sample(r),
     }
 }
 
@@ -87,7 +85,7 @@ fn no_frames(r: Refusal) -> FramesAnswer
     ensures { result ≡ no_frames r }
 {
     FramesAnswer {
-        outcome: outcome_of(Verdict::Refused(r)),
+        outcome: Outcome::from(Err(r)),
         offset: 0,
         length: 0,
     }
@@ -99,7 +97,7 @@ fn frames_at(m: &[u8], at: usize) -> FramesAnswer
     ensures { result ≡ shown_frames m.now at }
 {
     FramesAnswer {
-        outcome: outcome_of(Verdict::Accepted),
+        outcome: Outcome::from(Ok(())),
         offset: at + SAMPLE_BYTES,
         length: (sample_frames(m, at) as usize) * frame_bytes(m, at),
     }
@@ -110,8 +108,8 @@ pub fn frames_place(m: &[u8], sample: usize) -> FramesAnswer
     ensures { result ≡ frames_answer m.now sample }
 {
     match find(m, RecordKind::Sample, sample) {
-        Found::At(b) => frames_at(m, b.at),
-        Found::Refused(r) => no_frames(r),
+        Ok(b) => frames_at(m, b.at),
+        Err(r) => no_frames(r),
     }
 }
 
@@ -150,7 +148,7 @@ fn no_frame(r: Refusal) -> FrameAnswer
     ensures { result ≡ no_frame r }
 {
     FrameAnswer {
-        outcome: outcome_of(Verdict::Refused(r)),
+        outcome: Outcome::from(Err(r)),
         frame: 0,
     }
 }
@@ -165,7 +163,7 @@ fn frame_in(m: &[u8], at: usize, frame: usize) -> FrameAnswer
     }
     let bytes = frame_bytes(m, at);
     FrameAnswer {
-        outcome: outcome_of(Verdict::Accepted),
+        outcome: Outcome::from(Ok(())),
         frame: signed(at_16_bits(m, bytes, at + SAMPLE_BYTES + frame * bytes)),
     }
 }
@@ -175,8 +173,8 @@ pub fn frame(m: &[u8], sample: usize, frame: usize) -> FrameAnswer
     ensures { result ≡ frame_answer m.now sample frame }
 {
     match find(m, RecordKind::Sample, sample) {
-        Found::At(b) => frame_in(m, b.at, frame),
-        Found::Refused(r) => no_frame(r),
+        Ok(b) => frame_in(m, b.at, frame),
+        Err(r) => no_frame(r),
     }
 }
 
@@ -185,12 +183,10 @@ fn write_frames(m: &[u8], bytes: usize, at: usize, frames: usize, out: &mut [u8]
     requires { SmallPlace at × ((bytes < 5) × ((frames < 0x100000000) × (length out.old ≡ 2 * frames))) }
     ensures { out.new ≡ frames_from m.now bytes (at + 8) frames }
 {
-    let mut i = 0;
-    while i < frames {
+    for i in 0..frames {
         let v = at_16_bits(m, bytes, at + SAMPLE_BYTES + i * bytes);
         out[2 * i] = (v / 256) as u8;
         out[2 * i + 1] = (v % 256) as u8;
-        i = i + 1;
     }
 }
 
@@ -203,10 +199,10 @@ fn all_frames_in(m: &[u8], at: usize, out: &mut [u8]) -> LengthAnswer
     let frames = sample_frames(m, at) as usize;
     let needed = 2 * frames;
     if out.len() < needed {
-        return refused(refuse(Reason::Room, needed));
+        return LengthAnswer::from(Err(refuse(Reason::Room, needed)));
     }
     write_frames(m, frame_bytes(m, at), at, frames, &mut out[..needed]);
-    written(needed)
+    LengthAnswer::from(Ok(needed))
 }
 
 // Writes all frames of a sample at 16 bits, 2 bytes for each.
@@ -215,7 +211,7 @@ pub fn all_frames(m: &[u8], sample: usize, out: &mut [u8]) -> LengthAnswer
         × (out.new ≡ all_frames_output m.now sample out.old) }
 {
     match find(m, RecordKind::Sample, sample) {
-        Found::At(b) => all_frames_in(m, b.at, out),
-        Found::Refused(r) => refused(r),
+        Ok(b) => all_frames_in(m, b.at, out),
+        Err(r) => LengthAnswer::from(Err(r)),
     }
 }

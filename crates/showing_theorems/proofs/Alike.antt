@@ -1,16 +1,15 @@
 -- Modules that are alike: what has to be proved for two modules so that they show the same. Both are accepted, with the same numbers in
 -- header and INFO. For every record kind and number, both give the same refusal, or both have a block and the two have the same content.
 use Prim.Native.Nat.{ℕ}
+use Rattle.std.specs.Prelude.{Result, Ok, Err}
 use mathlib.Core.Path.{◌≡◌}
 use mathlib.Core.List.{List}
 use Rattle.refusal.specs.declared.Refusal.{Refusal}
-use Rattle.refusal.specs.declared.Verdict.TheVariants.{Accepted}
 use Rattle.numbers.specs.Numbers.{number16}
 use Rattle.packed_rows.specs.Entries.{rows_from}
 use Rattle.packed_rows.specs.Stream.{read_stream, entries_read}
 use Rattle.packed_rows.specs.Answers.{check_answer}
 use Rattle.layout.specs.declared.Layout.{Layout}
-use Rattle.layout.specs.declared.Outline.TheVariants.{Found as Opened}
 use Rattle.blocks.specs.StoredFields.{packed_bytes}
 use Rattle.blocks.specs.Sizes.{envelope_count}
 use Rattle.blocks.specs.declared.BlockKind.{BlockKind}
@@ -20,8 +19,6 @@ use Rattle.blocks.specs.declared.RecordKind.TheVariants.{Song, Instrument, Patte
 use Rattle.module.specs.Verdicts.{opened}
 use Rattle.queries.specs.Finding.{found}
 use Rattle.queries.specs.declared.Block.{Block}
-use Rattle.queries.specs.declared.Found.{Found}
-use Rattle.queries.specs.declared.Found.TheVariants.{At, Refused}
 use Rattle.acceptance.proofs.Locating.{PartAt}
 use Rattle.acceptance.proofs.Cutting.{Sized}
 use Rattle.summary.specs.Shown.{name_of}
@@ -37,8 +34,8 @@ pub record SameBlock (kind : BlockKind) (m n : List ℕ) (at to : ℕ) : Type 0 
 -- rows of cells.
 pub record SamePattern (tracks : ℕ) (m n : List ℕ) (at to : ℕ) : Type 0 where
   pub rows : number16 n to ≡ number16 m at
-  pub here : check_answer (packed_bytes m at) (number16 m at) tracks ≡ Accepted
-  pub there : check_answer (packed_bytes n to) (number16 n to) tracks ≡ Accepted
+  pub here : check_answer (packed_bytes m at) (number16 m at) tracks ≡ Ok tt
+  pub there : check_answer (packed_bytes n to) (number16 n to) tracks ≡ Ok tt
   pub cells : rows_from tracks (entries_read (read_stream (number16 n to) tracks (packed_bytes n to)))
       ≡ rows_from tracks (entries_read (read_stream (number16 m at) tracks (packed_bytes m at)))
 
@@ -53,17 +50,17 @@ SameRecord PanningEnvelope tracks m n at to = SameBlock (block_kind_of PanningEn
 
 -- What is found for a number in both modules: the same refusal, or blocks with the same content that are shown with the same version and
 -- tracks.
-pub data FoundAlike (kind : RecordKind) (m n : List ℕ) : Found → Found → Type 0 where
-  neither : (r : Refusal) → FoundAlike kind m n (Refused r) (Refused r)
-  both : (b c : Block) → c.version ≡ b.version → c.tracks ≡ b.tracks → SameRecord kind b.tracks m n b.at c.at → FoundAlike kind m n (At b) (At c)
+pub data FoundAlike (kind : RecordKind) (m n : List ℕ) : Result Block Refusal → Result Block Refusal → Type 0 where
+  neither : (r : Refusal) → FoundAlike kind m n (Err r) (Err r)
+  both : (b c : Block) → c.version ≡ b.version → c.tracks ≡ b.tracks → SameRecord kind b.tracks m n b.at c.at → FoundAlike kind m n (Ok b) (Ok c)
 
 -- Both modules open. Their headers and INFO are equal, they show the same name and have the same number of envelopes of each kind, and for
 -- every record kind and number the same is found.
 pub record Alike (m n : List ℕ) : Type 0 where
   pub layout : Layout
   pub other : Layout
-  pub opens : opened m ≡ Opened layout
-  pub other_opens : opened n ≡ Opened other
+  pub opens : opened m ≡ Ok layout
+  pub other_opens : opened n ≡ Ok other
   pub version : other.version ≡ layout.version
   pub revision : other.revision ≡ layout.revision
   pub instruments : other.instruments ≡ layout.instruments

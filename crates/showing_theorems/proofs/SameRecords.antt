@@ -1,6 +1,9 @@
 -- All records by one call: the number of records of each kind is the same, and the records for each number are those of blocks with the
 -- same content.
 use Prim.Native.Nat.{ℕ, ◌+◌}
+use Rattle.std.specs.Prelude.{Result, Ok, Err}
+use Rattle.refusal.specs.declared.Refusal.{Refusal}
+use Rattle.queries.specs.declared.Block.{Block}
 use mathlib.Core.Path.{◌≡◌, refl, sym, ap, ◌∙◌}
 use mathlib.Core.List.{List, []}
 use lib.ListN.{length}
@@ -12,8 +15,6 @@ use Rattle.blocks.specs.declared.RecordKind.{RecordKind}
 use Rattle.blocks.specs.declared.RecordKind.TheVariants.{Song, Instrument, Pattern, Sample, VolumeEnvelope, PanningEnvelope}
 use Rattle.module.specs.Outputs.{answer_opened, output_opened}
 use Rattle.queries.specs.Finding.{first_of, found}
-use Rattle.queries.specs.declared.Found.{Found}
-use Rattle.queries.specs.declared.Found.TheVariants.{At, Refused}
 use Rattle.envelopes.specs.declared.EnvelopeKind.TheVariants.{Volume, Panning}
 use Rattle.songs.specs.Shown.{shown_song, playlist_bytes}
 use Rattle.songs.specs.declared.SongAnswer.{SongAnswer}
@@ -30,9 +31,9 @@ use Rattle.showing_theorems.proofs.SameSamples.{sample-same}
 use Rattle.showing_theorems.proofs.AlikeAnswers.{by-opening, by-finding}
 
 -- The record of a block that was found.
-abbrev record_if : List ℕ → RecordKind → Found → List ℕ
-record_if m kind (At b) = record_at m b.version kind b.at
-record_if m kind (Refused r) = []
+abbrev record_if : List ℕ → RecordKind → Result Block Refusal → List ℕ
+record_if m kind (Ok b) = record_at m b.version kind b.at
+record_if m kind (Err r) = []
 
 -- Blocks with the same content have the same record.
 record_same : (m n : List ℕ) (kind : RecordKind) (tracks at to : ℕ) {version other : ℕ} → other ≡ version

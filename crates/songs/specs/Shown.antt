@@ -1,6 +1,7 @@
 -- FORMAT.md, B2, Q3 and Q7 (document 01, "Layout"): a song as it is shown. Each answer begins with the refusal's number and place, 0 and 0
 -- if there is none; on a refusal all other fields are 0.
-use Rattle.std.specs.Prelude.{ℕ, ◌+◌, ◌*◌, List, cond, replicate, ltb}
+use Rattle.std.specs.Prelude.{ℕ, ◌+◌, ◌*◌, List, cond, replicate, ltb, Result, Ok, Err}
+use Rattle.queries.specs.declared.Block.{Block}
 use Rattle.refusal.specs.Numbers.{refusal, no_refusal, refused_outcome}
 use Rattle.refusal.specs.declared.Reason.TheVariants.{NotThere}
 use Rattle.refusal.specs.declared.Refusal.{Refusal}
@@ -9,8 +10,6 @@ use Rattle.numbers.specs.Numbers.{bytes_from}
 use Rattle.blocks.specs.StoredFields.{song_name, song_length, song_entry}
 use Rattle.blocks.specs.declared.RecordKind.TheVariants.{Song}
 use Rattle.queries.specs.Finding.{found, answer_found, output_found}
-use Rattle.queries.specs.declared.Found.{Found}
-use Rattle.queries.specs.declared.Found.TheVariants.{At, Refused}
 use Rattle.songs.specs.declared.SongAnswer.{SongAnswer}
 use Rattle.songs.specs.declared.EntryAnswer.{EntryAnswer}
 
@@ -21,9 +20,9 @@ no_song r = record { outcome = refused_outcome r; name = replicate 44 0; length 
 abbrev pub shown_song : List ℕ → ℕ → SongAnswer
 shown_song m at = record { outcome = no_refusal; name = song_name m at; length = song_length m at }
 
-abbrev pub song_if : List ℕ → Found → SongAnswer
-song_if m (At b) = shown_song m b.at
-song_if m (Refused r) = no_song r
+abbrev pub song_if : List ℕ → Result Block Refusal → SongAnswer
+song_if m (Ok b) = shown_song m b.at
+song_if m (Err r) = no_song r
 
 -- Q1: the module's own refusal, then 18, else the song.
 abbrev pub song_answer : List ℕ → ℕ → SongAnswer
@@ -39,9 +38,9 @@ entry_in m at entry =
     (record { outcome = no_refusal; pattern = song_entry m at entry })
     (no_entry (refusal NotThere 0))
 
-abbrev pub entry_if : List ℕ → ℕ → Found → EntryAnswer
-entry_if m entry (At b) = entry_in m b.at entry
-entry_if m entry (Refused r) = no_entry r
+abbrev pub entry_if : List ℕ → ℕ → Result Block Refusal → EntryAnswer
+entry_if m entry (Ok b) = entry_in m b.at entry
+entry_if m entry (Err r) = no_entry r
 
 abbrev pub entry_answer : List ℕ → ℕ → ℕ → EntryAnswer
 entry_answer m song entry = entry_if m entry (found m Song song)

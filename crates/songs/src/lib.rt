@@ -11,10 +11,8 @@ ghost use Rattle.songs.specs.Shown.{playlist_bytes, playlist_answer, playlist_ou
 use blocks::RecordKind;
 use blocks::stored::{SONG_ENTRIES, song_entry, song_length};
 use numbers::copy;
-use queries::{Found, find, name44};
-use refusal::{
-    LengthAnswer, Outcome, Reason, Refusal, Verdict, outcome_of, refuse, refused, written,
-};
+use queries::{find, name};
+use refusal::{LengthAnswer, Outcome, Reason, Refusal, refuse};
 
 // A song: its name, and the number of entries of its playlist.
 #[repr(C)]
@@ -37,7 +35,7 @@ fn no_song(r: Refusal) -> SongAnswer
     ensures { result ≡ no_song r }
 {
     SongAnswer {
-        outcome: outcome_of(Verdict::Refused(r)),
+        outcome: Outcome::from(Err(r)),
         name: [0; 44],
         length: 0,
     }
@@ -48,8 +46,8 @@ fn song_at(m: &[u8], at: usize) -> SongAnswer
     ensures { result ≡ shown_song m.now at }
 {
     SongAnswer {
-        outcome: outcome_of(Verdict::Accepted),
-        name: name44(m, at),
+        outcome: Outcome::from(Ok(())),
+        name: name(m, at),
         length: song_length(m, at),
     }
 }
@@ -59,8 +57,8 @@ pub fn song(m: &[u8], song: usize) -> SongAnswer
     ensures { result ≡ song_answer m.now song }
 {
     match find(m, RecordKind::Song, song) {
-        Found::At(b) => song_at(m, b.at),
-        Found::Refused(r) => no_song(r),
+        Ok(b) => song_at(m, b.at),
+        Err(r) => no_song(r),
     }
 }
 
@@ -68,7 +66,7 @@ fn no_entry(r: Refusal) -> EntryAnswer
     ensures { result ≡ no_entry r }
 {
     EntryAnswer {
-        outcome: outcome_of(Verdict::Refused(r)),
+        outcome: Outcome::from(Err(r)),
         pattern: 0,
     }
 }
@@ -81,7 +79,7 @@ fn entry_in(m: &[u8], at: usize, entry: usize) -> EntryAnswer
         return no_entry(refuse(Reason::NotThere, 0));
     }
     EntryAnswer {
-        outcome: outcome_of(Verdict::Accepted),
+        outcome: Outcome::from(Ok(())),
         pattern: song_entry(m, at, entry as u16),
     }
 }
@@ -91,8 +89,8 @@ pub fn entry(m: &[u8], song: usize, entry: usize) -> EntryAnswer
     ensures { result ≡ entry_answer m.now song entry }
 {
     match find(m, RecordKind::Song, song) {
-        Found::At(b) => entry_in(m, b.at, entry),
-        Found::Refused(r) => no_entry(r),
+        Ok(b) => entry_in(m, b.at, entry),
+        Err(r) => no_entry(r),
     }
 }
 
@@ -104,10 +102,10 @@ fn write_playlist(m: &[u8], at: usize, out: &mut [u8]) -> LengthAnswer
 {
     let needed = 2 * (song_length(m, at) as usize);
     if out.len() < needed {
-        return refused(refuse(Reason::Room, needed));
+        return LengthAnswer::from(Err(refuse(Reason::Room, needed)));
     }
     copy(m, at + SONG_ENTRIES, &mut out[..needed]);
-    written(needed)
+    LengthAnswer::from(Ok(needed))
 }
 
 // Writes a song's playlist, 2 bytes for each entry.
@@ -116,7 +114,7 @@ pub fn playlist(m: &[u8], song: usize, out: &mut [u8]) -> LengthAnswer
         × (out.new ≡ playlist_output m.now song out.old) }
 {
     match find(m, RecordKind::Song, song) {
-        Found::At(b) => write_playlist(m, b.at, out),
-        Found::Refused(r) => refused(r),
+        Ok(b) => write_playlist(m, b.at, out),
+        Err(r) => LengthAnswer::from(Err(r)),
     }
 }

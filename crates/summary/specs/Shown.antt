@@ -1,12 +1,10 @@
 -- FORMAT.md, Q3 to Q6 (document 01, "Layout"): version, name and INFO's numbers as they are shown. Each answer begins with the refusal's
 -- number and place, 0 and 0 if there is none; on a refusal all other fields are 0.
-use Rattle.std.specs.Prelude.{ℕ, ◌+◌, List, cond, replicate}
+use Rattle.std.specs.Prelude.{ℕ, ◌+◌, List, cond, replicate, Result, Ok, Err}
 use Rattle.refusal.specs.Numbers.{no_refusal, refused_outcome}
 use Rattle.refusal.specs.declared.Refusal.{Refusal}
 use Rattle.numbers.specs.Numbers.{bytes_from}
 use Rattle.layout.specs.declared.Layout.{Layout}
-use Rattle.layout.specs.declared.Outline.{Outline}
-use Rattle.layout.specs.declared.Outline.TheVariants.{Found, Refused}
 use Rattle.module.specs.Verdicts.{opened}
 use Rattle.summary.specs.declared.VersionAnswer.{VersionAnswer}
 use Rattle.summary.specs.declared.NameAnswer.{NameAnswer}
@@ -19,9 +17,9 @@ no_version r = record { outcome = refused_outcome r; version = 0; revision = 0 }
 abbrev pub shown_version : Layout → VersionAnswer
 shown_version l = record { outcome = no_refusal; version = l.version; revision = l.revision }
 
-abbrev pub version_if : Outline → VersionAnswer
-version_if (Found l) = shown_version l
-version_if (Refused r) = no_version r
+abbrev pub version_if : Result Layout Refusal → VersionAnswer
+version_if (Ok l) = shown_version l
+version_if (Err r) = no_version r
 
 -- Q1: the module's own refusal, else the version.
 abbrev pub version_answer : List ℕ → VersionAnswer
@@ -37,9 +35,9 @@ name_of m l = cond l.spans.name.present (bytes_from m (l.spans.name.at + 8) 44) 
 abbrev pub shown_name : List ℕ → Layout → NameAnswer
 shown_name m l = record { outcome = no_refusal; name = name_of m l }
 
-abbrev pub name_if : List ℕ → Outline → NameAnswer
-name_if m (Found l) = shown_name m l
-name_if m (Refused r) = no_name r
+abbrev pub name_if : List ℕ → Result Layout Refusal → NameAnswer
+name_if m (Ok l) = shown_name m l
+name_if m (Err r) = no_name r
 
 abbrev pub name_answer : List ℕ → NameAnswer
 name_answer m = name_if m (opened m)
@@ -58,9 +56,9 @@ shown_info l = record {
   tracks = l.tracks;
 }
 
-abbrev pub info_if : Outline → InfoAnswer
-info_if (Found l) = shown_info l
-info_if (Refused r) = no_info r
+abbrev pub info_if : Result Layout Refusal → InfoAnswer
+info_if (Ok l) = shown_info l
+info_if (Err r) = no_info r
 
 abbrev pub info_answer : List ℕ → InfoAnswer
 info_answer m = info_if (opened m)

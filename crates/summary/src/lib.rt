@@ -5,9 +5,8 @@
 ghost use Rattle.std.specs.Prelude.{◌≡◌};
 ghost use Rattle.summary.specs.Shown.{no_version, version_answer, no_name, name_of, name_answer, no_info, info_answer};
 
-use layout::{Layout, Outline};
-use queries::name44;
-use refusal::{Outcome, Refusal, Verdict, outcome_of};
+use layout::Layout;
+use refusal::{Outcome, Refusal};
 
 // Version and revision, as stored.
 #[repr(C)]
@@ -42,7 +41,7 @@ fn no_version(r: Refusal) -> VersionAnswer
     ensures { result ≡ no_version r }
 {
     VersionAnswer {
-        outcome: outcome_of(Verdict::Refused(r)),
+        outcome: Outcome::from(Err(r)),
         version: 0,
         revision: 0,
     }
@@ -53,12 +52,12 @@ pub fn version(m: &[u8]) -> VersionAnswer
     ensures { result ≡ version_answer m.now }
 {
     match module::open(m) {
-        Outline::Found(l) => VersionAnswer {
-            outcome: outcome_of(Verdict::Accepted),
+        Ok(l) => VersionAnswer {
+            outcome: Outcome::from(Ok(())),
             version: l.version,
             revision: l.revision,
         },
-        Outline::Refused(r) => no_version(r),
+        Err(r) => no_version(r),
     }
 }
 
@@ -66,7 +65,7 @@ fn no_name(r: Refusal) -> NameAnswer
     ensures { result ≡ no_name r }
 {
     NameAnswer {
-        outcome: outcome_of(Verdict::Refused(r)),
+        outcome: Outcome::from(Err(r)),
         name: [0; 44],
     }
 }
@@ -79,7 +78,7 @@ pub fn name_of(m: &[u8], l: Layout) -> [u8; 44]
     if !p.present {
         return [0; 44];
     }
-    name44(m, (p.at as usize) + 8)
+    queries::name(m, (p.at as usize) + 8)
 }
 
 // The name.
@@ -87,11 +86,11 @@ pub fn name(m: &[u8]) -> NameAnswer
     ensures { result ≡ name_answer m.now }
 {
     match module::open(m) {
-        Outline::Found(l) => NameAnswer {
-            outcome: outcome_of(Verdict::Accepted),
+        Ok(l) => NameAnswer {
+            outcome: Outcome::from(Ok(())),
             name: name_of(m, l),
         },
-        Outline::Refused(r) => no_name(r),
+        Err(r) => no_name(r),
     }
 }
 
@@ -99,7 +98,7 @@ fn no_info(r: Refusal) -> InfoAnswer
     ensures { result ≡ no_info r }
 {
     InfoAnswer {
-        outcome: outcome_of(Verdict::Refused(r)),
+        outcome: Outcome::from(Err(r)),
         instruments: 0,
         samples: 0,
         songs: 0,
@@ -113,14 +112,14 @@ pub fn info(m: &[u8]) -> InfoAnswer
     ensures { result ≡ info_answer m.now }
 {
     match module::open(m) {
-        Outline::Found(l) => InfoAnswer {
-            outcome: outcome_of(Verdict::Accepted),
+        Ok(l) => InfoAnswer {
+            outcome: Outcome::from(Ok(())),
             instruments: l.instruments,
             samples: l.samples,
             songs: l.songs,
             patterns: l.patterns,
             tracks: l.tracks,
         },
-        Outline::Refused(r) => no_info(r),
+        Err(r) => no_info(r),
     }
 }

@@ -1,12 +1,9 @@
 use borrow.Author.Rules.{rules}
-use Rattle.blocks.proofs.Leading.{leading-first, leading-turn, leading-last}
+use Rattle.blocks.specs.Sizes.{size_of, first_block}
+use Rattle.blocks.proofs.Walking.{walk-turn}
 use Rattle.blocks.proofs.block_at.Goals as goal
 
-pub loop-left-init : goal.loop-left-init
-loop-left-init c = leading-first
-
-pub loop-left-preserved : goal.loop-left-preserved
-loop-left-preserved c = leading-turn c.loop-left.invariant c.loop-left-test.true c.size-at.ensures
-
-pub returns : goal.returns
-returns c = (leading-last c.loop-left.invariant c.first_block-at.ensures.0 c.loop-left-test.false, search rules)
+pub loop-preserved : goal.loop-preserved
+loop-preserved c =
+    let a = c.args in
+    (walk-turn (size_of a.kind a.m.now) c.loop.counter (first_block a.kind a.chunk) c.loop.invariant.0 c.size-at.ensures.0, search rules)

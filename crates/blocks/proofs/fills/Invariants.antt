@@ -1,9 +1,6 @@
-use Rattle.blocks.specs.Sizes.{size_of}
-use Rattle.blocks.proofs.Leading.{Leading}
+use Rattle.std.proofs.Common.{◌≡◌, ◌+◌, ◌*◌, ◌<◌}
+use Rattle.blocks.specs.Sizes.{block_at}
 use Rattle.blocks.proofs.fills.Given as goal
 
-abbrev pub invariant-loop-left : goal.invariant-loop-left
-invariant-loop-left l = Leading (size_of l.kind l.m) l.initial.left l.initial.at l.left l.at
-
-abbrev pub decreases-loop-left : goal.decreases-loop-left
-decreases-loop-left l = l.left
+abbrev pub invariant-loop : goal.invariant-loop
+invariant-loop l = (l.at ≡ block_at l.m l.kind l.fn.chunk l.counter) × (l.at < 0x200000000 + l.counter * 0x800000000)

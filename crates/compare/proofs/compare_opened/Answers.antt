@@ -14,7 +14,7 @@ returns-then-out-needed c =
 pub returns : goal.returns
 returns c =
     let count-all = c.count_all-needed in
-    let outcome-of = c.outcome_of in
+    let outcome-of = c.from in
     let list_all = c.list_all in
     opened-done c.args.m.now c.args.l c.args.k.now c.args.j c.args.out.now
     count-all.result count-all.ensures.0 c.if-out-needed.false _ _ _ outcome-of.ensures list_all.ensures.0

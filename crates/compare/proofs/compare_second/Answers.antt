@@ -5,16 +5,16 @@ use Rattle.compare.proofs.compare_second.Goals as goal
 pub compare_opened-requires : goal.compare_opened-requires
 compare_opened-requires c =
     let «open» = c.open in
-    record { first = c.requires; second = sym «open».ensures.0 ∙ c.in-Found.is }
+    record { first = c.requires; second = sym «open».ensures.0 ∙ c.in-Ok.is }
 
-pub returns-in-Found : goal.returns-in-Found
-returns-in-Found c =
+pub returns-in-Ok : goal.returns-in-Ok
+returns-in-Ok c =
     let «open» = c.open in
     by-second c.args.m.now c.args.l c.args.k.now c.args.out.now
-    (sym «open».ensures.0 ∙ c.in-Found.is) c.compare_opened.ensures
+    (sym «open».ensures.0 ∙ c.in-Ok.is) c.compare_opened.ensures
 
-pub returns-in-Refused : goal.returns-in-Refused
-returns-in-Refused c =
+pub returns-in-Err : goal.returns-in-Err
+returns-in-Err c =
     let «open» = c.open in
     by-second c.args.m.now c.args.l c.args.k.now c.args.out.now
-    (sym «open».ensures.0 ∙ c.in-Refused.is) (c.refused.ensures, refl)
+    (sym «open».ensures.0 ∙ c.in-Err.is) (c.refused.ensures, refl)

@@ -1,68 +1,38 @@
 use native.Mathlib.Omega.{arith}
 use Rattle.numbers.proofs.AllBytes.{slice-bytes}
-use Rattle.compare.proofs.ListingAll.{all_first, all-last, all_listed}
+use Rattle.compare.proofs.ListingAll.{kinds-first, kinds-turn, kinds-small, kinds-last}
 use Rattle.compare.proofs.list_all.Goals as goal
 
-pub list_three-requires : goal.list_three-requires
-list_three-requires c =
+pub loop-kind-init : goal.loop-kind-init
+loop-kind-init c =
+    let name = c.list_name-name in
+    let info = c.list_info in
+    kinds-first c.args.m.now c.args.l c.args.k.now c.args.j (name.ensures.0, name.ensures.2) (info.ensures.0, info.ensures.2)
+
+pub list_kind-n-requires : goal.list_kind-n-requires
+list_kind-n-requires c =
     let m = c.args.m.now in
-    let k = c.args.k.now in
-    let list-name = c.list_name-name in
-    let list-info = c.list_info in (
+    let k = c.args.k.now in (
       c.requires,
-      all_first m (slice-bytes m c.type_inv.m) c.args.l k (slice-bytes k c.type_inv.k)
-          c.args.j c.requires c.args.out.now (list-name.ensures.0, list-name.ensures.2)
-          (list-info.ensures.0, list-info.ensures.2),
+      kinds-small m c.args.l k c.args.j c.loop-kind.invariant (slice-bytes m c.type_inv.m) (slice-bytes k c.type_inv.k) c.requires c.loop-kind-test.true,
     )
 
-pub overflow_add-three : goal.overflow_add-three
-overflow_add-three c =
+pub overflow_add-n-in-loop-kind : goal.overflow_add-n-in-loop-kind
+overflow_add-n-in-loop-kind c =
     let m = c.args.m.now in
     let k = c.args.k.now in
-    let list-name = c.list_name-name in
-    let list-info = c.list_info in
     omega (
       arith,
-      all_first m (slice-bytes m c.type_inv.m) c.args.l k (slice-bytes k c.type_inv.k)
-          c.args.j c.requires c.args.out.now (list-name.ensures.0, list-name.ensures.2)
-          (list-info.ensures.0, list-info.ensures.2),
-      c.list_three.ensures.0,
+      kinds-small m c.args.l k c.args.j c.loop-kind.invariant (slice-bytes m c.type_inv.m) (slice-bytes k c.type_inv.k) c.requires c.loop-kind-test.true,
+      c.list_kind-n.ensures.0,
     )
 
-pub list_three-requires-2 : goal.list_three-requires-2
-list_three-requires-2 c =
-    let m = c.args.m.now in
-    let k = c.args.k.now in
-    let list-name = c.list_name-name in
-    let list-info = c.list_info in (
-      c.requires,
-      all-last m (slice-bytes m c.type_inv.m) c.args.l k (slice-bytes k c.type_inv.k)
-          c.args.j c.requires c.args.out.now (list-name.ensures.0, list-name.ensures.2)
-          (list-info.ensures.0, list-info.ensures.2) c.list_three.ensures,
-    )
-
-pub overflow_add-result : goal.overflow_add-result
-overflow_add-result c =
-    let m = c.args.m.now in
-    let k = c.args.k.now in
-    let list-name = c.list_name-name in
-    let list-info = c.list_info in
-    let list-three = c.list_three in
-    omega (
-      arith,
-      all-last m (slice-bytes m c.type_inv.m) c.args.l k (slice-bytes k c.type_inv.k)
-          c.args.j c.requires c.args.out.now (list-name.ensures.0, list-name.ensures.2)
-          (list-info.ensures.0, list-info.ensures.2) list-three.ensures,
-      c.list_three-2.ensures.0,
-    )
+pub loop-kind-preserved : goal.loop-kind-preserved
+loop-kind-preserved c =
+    kinds-turn c.args.m.now c.args.l c.args.k.now c.args.j c.loop-kind.invariant c.loop-kind-test.true c.list_kind-n.ensures
 
 pub returns : goal.returns
 returns c =
     let m = c.args.m.now in
     let k = c.args.k.now in
-    let list-name = c.list_name-name in
-    let list-info = c.list_info in
-    let list-three = c.list_three in
-    all_listed m (slice-bytes m c.type_inv.m) c.args.l k (slice-bytes k c.type_inv.k)
-    c.args.j c.requires c.args.out.now (list-name.ensures.0, list-name.ensures.2)
-    (list-info.ensures.0, list-info.ensures.2) list-three.ensures c.list_three-2.ensures
+    kinds-last m c.args.l k c.args.j c.loop-kind.invariant (slice-bytes m c.type_inv.m) (slice-bytes k c.type_inv.k) c.requires c.loop-kind-test.false

@@ -15,22 +15,22 @@ returns-then-equal c =
 pub compare-requires : goal.compare-requires
 compare-requires c = search rules
 
-pub returns-in-Compared : goal.returns-in-Compared
-returns-in-Compared c =
-    let pattern-rows = c.pattern_rows-rows in
-    let smaller = c.smaller-start in
-    let compare = c.compare in
-    cells-listed c.args.m.now c.args.l c.args.k.now c.args.j c.args.number
-    c.args.at c.args.to c.args.n c.args.out.now c.requires.1 c.requires.2 _ _
-    c.packed_bytes-a.ensures.0 c.packed_bytes-b.ensures.0 c.requires.0 pattern-rows.result pattern-rows.ensures
-    compare.result compare.ensures.0.0 c.in-Compared.entries (10 * smaller.result) _ c.in-Compared.is
-    (ap (10 *◌) smaller.ensures) compare.ensures.1
-
-pub returns-in-Refused : goal.returns-in-Refused
-returns-in-Refused c =
+pub unwrap-requires : goal.unwrap-requires
+unwrap-requires c =
     let pattern-rows = c.pattern_rows-rows in
     let compare = c.compare in
     never-refused c.args.m.now c.args.l c.args.k.now c.args.j c.args.number
     c.args.at c.args.to c.args.n c.args.out.now c.requires.1 c.requires.2 _ _
     c.packed_bytes-a.ensures.0 c.packed_bytes-b.ensures.0 c.requires.0 pattern-rows.result pattern-rows.ensures
-    compare.result compare.ensures.0.0 _ c.in-Refused.is
+    compare.result compare.ensures.0.0
+
+pub returns : goal.returns
+returns c =
+    let pattern-rows = c.pattern_rows-rows in
+    let smaller = c.min-start in
+    let compare = c.compare in
+    cells-listed c.args.m.now c.args.l c.args.k.now c.args.j c.args.number
+    c.args.at c.args.to c.args.n c.args.out.now c.requires.1 c.requires.2 _ _
+    c.packed_bytes-a.ensures.0 c.packed_bytes-b.ensures.0 c.requires.0 pattern-rows.result pattern-rows.ensures
+    compare.result compare.ensures.0.0 c.unwrap.result (10 * smaller.result) _ c.unwrap.ensures
+    (ap (10 *◌) smaller.ensures) compare.ensures.1

@@ -8,7 +8,7 @@ list_common-count-requires c =
     let first_of = c.first_of-first in
     let count_of = c.count_of-a in
     let count-of2 = c.count_of-b in
-    let smaller = c.smaller-common in (
+    let smaller = c.min-common in (
       c.requires.0,
       omega (arith, smaller.ensures, count_of.ensures),
       omega (arith, smaller.ensures, count-of2.ensures),
@@ -22,7 +22,7 @@ overflow_add-first c =
     let first_of = c.first_of-first in
     let count_of = c.count_of-a in
     let count-of2 = c.count_of-b in
-    let smaller = c.smaller-common in
+    let smaller = c.min-common in
     omega (arith, first-low c.args.kind, first_of.ensures, smaller.ensures, count_of.type_inv, count-of2.type_inv)
 
 pub overflow_add-first-2 : goal.overflow_add-first-2
@@ -30,14 +30,14 @@ overflow_add-first-2 c =
     let first_of = c.first_of-first in
     let count_of = c.count_of-a in
     let count-of2 = c.count_of-b in
-    omega (arith, first-low c.args.kind, first_of.ensures, c.larger.ensures, count_of.type_inv, count-of2.type_inv)
+    omega (arith, first-low c.args.kind, first_of.ensures, c.max.ensures, count_of.type_inv, count-of2.type_inv)
 
 pub overflow_add-n : goal.overflow_add-n
 overflow_add-n c =
     let first_of = c.first_of-first in
     let count_of = c.count_of-a in
     let count-of2 = c.count_of-b in
-    let smaller = c.smaller-common in
+    let smaller = c.min-common in
     omega (
       arith,
       c.list_common-count.ensures.0,
@@ -52,11 +52,11 @@ list_single-requires c =
     let first_of = c.first_of-first in
     let count_of = c.count_of-a in
     let count-of2 = c.count_of-b in
-    let smaller = c.smaller-common in
+    let smaller = c.min-common in
     let list-common = c.list_common-count in
-    let larger = c.larger in (
-      omega (arith, smaller.ensures, larger.ensures),
-      omega (arith, first-low kind, first_of.ensures, larger.ensures, count_of.type_inv, count-of2.type_inv),
+    let more = c.max in (
+      omega (arith, smaller.ensures, more.ensures),
+      omega (arith, first-low kind, first_of.ensures, more.ensures, count_of.type_inv, count-of2.type_inv),
       omega (
         arith,
         list-common.ensures.0,
@@ -71,7 +71,7 @@ overflow_add-result c =
     let first_of = c.first_of-first in
     let count_of = c.count_of-a in
     let count-of2 = c.count_of-b in
-    let smaller = c.smaller-common in
+    let smaller = c.min-common in
     let list-common = c.list_common-count in
     omega (
       arith,
@@ -87,10 +87,10 @@ returns c =
     let first_of = c.first_of-first in
     let count_of = c.count_of-a in
     let count-of2 = c.count_of-b in
-    let smaller = c.smaller-common in
+    let smaller = c.min-common in
     let list-common = c.list_common-count in
-    let larger = c.larger in
+    let more = c.max in
     let list-single = c.list_single in
     kind-listed c.args.m.now c.args.l c.args.k.now c.args.j c.args.kind
     c.args.n c.args.out.now first_of.ensures count_of.ensures count-of2.ensures smaller.ensures
-    larger.ensures list-common.ensures (list-single.ensures.0, list-single.ensures.2)
+    more.ensures list-common.ensures (list-single.ensures.0, list-single.ensures.2)

@@ -5,9 +5,6 @@ use Rattle.compare.proofs.list_single.Goals as goal
 pub loop-number-init : goal.loop-number-init
 loop-number-init c = single-first c.requires.0
 
-pub overflow_cast-number : goal.overflow_cast-number
-overflow_cast-number c = omega (arith, c.requires.1, c.loop-number-test.true)
-
 pub overflow_add-n : goal.overflow_add-n
 overflow_add-n c = omega (arith, c.requires, c.loop-number-test.true, c.loop-number.invariant.counts)
 
@@ -16,12 +13,6 @@ overflow_add-count c =
     let loop = c.loop-number in
     let loop-test = c.loop-number-test in
     omega (arith, c.requires, loop-test.true, loop.invariant.counts, c.list_whole-count.ensures.1)
-
-pub overflow_add-number : goal.overflow_add-number
-overflow_add-number c = omega (arith, c.requires, c.loop-number-test.true)
-
-pub loop-number-smaller : goal.loop-number-smaller
-loop-number-smaller c = omega (arith, c.loop-number-test.true)
 
 pub loop-number-preserved : goal.loop-number-preserved
 loop-number-preserved c =

@@ -1,15 +1,15 @@
 use Rattle.envelopes.proofs.count.Goals as goal
 
-pub returns-in-Found : goal.returns-in-Found
-returns-in-Found c =
+pub returns-in-Ok : goal.returns-in-Ok
+returns-in-Ok c =
     simp (
       ← c.open.ensures.0,
-      c.in-Found.is,
-      c.outcome_of.ensures,
+      c.in-Ok.is,
+      c.from.ensures,
       c.envelope_count.ensures,
       c.chunk_of.ensures,
-      c.record_kind.ensures,
+      c.from-in-Ok.ensures,
     )
 
-pub returns-in-Refused : goal.returns-in-Refused
-returns-in-Refused c = simp (← c.open.ensures.0, c.in-Refused.is, c.no_count.ensures)
+pub returns-in-Err : goal.returns-in-Err
+returns-in-Err c = simp (← c.open.ensures.0, c.in-Err.is, c.no_count.ensures)

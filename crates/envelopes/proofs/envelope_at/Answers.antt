@@ -4,7 +4,7 @@ use Rattle.envelopes.proofs.envelope_at.Goals as goal
 pub returns : goal.returns
 returns c =
     let envelope-sections = c.envelope_sections-sections in
-    let outcome-of = c.outcome_of in
+    let outcome-of = c.from in
     let envelope-instrument = c.envelope_instrument in
     let envelope-flags = c.envelope_flags in
     let envelope-first-sustain = c.envelope_first_sustain in

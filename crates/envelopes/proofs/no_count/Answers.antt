@@ -1,4 +1,4 @@
 use Rattle.envelopes.proofs.no_count.Goals as goal
 
 pub returns : goal.returns
-returns c = rw c.outcome_of.ensures
+returns c = rw c.from.ensures

@@ -1,41 +1,46 @@
+use mathlib.Core.Path.{◌∙◌}
 use Rattle.refusal.specs.Numbers.{verdict_numbers}
-use Rattle.refusal.proofs.InOrder.{first-stopped, second-stopped, third-stopped, last-follows}
-use Rattle.refusal.proofs.Outcomes.{is-answer}
-use Rattle.fields.proofs.FieldOrder.{song_part, instrument_part, volume_part, panning_part}
+use Rattle.refusal.proofs.RuleLists.{broken-append}
+use Rattle.refusal.proofs.Outcomes.{is-answer, passed-on}
 use Rattle.fields.proofs.check.Goals as goal
 
-pub returns-in-Refused : goal.returns-in-Refused
-returns-in-Refused c =
-    let m = c.args.m.now in
-    let l = c.args.l in
-    is-answer verdict_numbers (first-stopped (song_part m l) (instrument_part m l) (volume_part m l) (panning_part m l)
-    c.check_blocks.ensures c.in-Refused.is)
+pub returns-in_err-check_songs : goal.returns-in_err-check_songs
+returns-in_err-check_songs c =
+    is-answer verdict_numbers
+    (passed-on c.from_residual.result c.from_residual.ensures.1
+    ∙ simp (broken-append, ← c.check_songs.ensures, c.in_err-check_songs.was))
 
-pub returns-in-Refused-check_blocks : goal.returns-in-Refused-check_blocks
-returns-in-Refused-check_blocks c =
-    let check-blocks = c.check_blocks in
-    let m = c.args.m.now in
-    let l = c.args.l in
-    is-answer verdict_numbers (second-stopped (song_part m l) (instrument_part m l) (volume_part m l) (panning_part m l)
-    check-blocks.ensures c.in_default.is c.check_blocks-2.ensures
-    c.in-Refused-check_blocks.is)
+pub returns-in_err-check_instruments : goal.returns-in_err-check_instruments
+returns-in_err-check_instruments c =
+    let residual = c.from_residual-in_err-check_instruments in
+    is-answer verdict_numbers
+    (passed-on residual.result residual.ensures.1
+    ∙ simp (broken-append, ← c.check_songs.ensures, c.in_ok-check_songs.was, ← c.check_instruments.ensures, c.in_err-check_instruments.was))
 
-pub returns-in-Refused-check_envelopes : goal.returns-in-Refused-check_envelopes
-returns-in-Refused-check_envelopes c =
-    let check-blocks = c.check_blocks in
-    let check-blocks2 = c.check_blocks-2 in
-    let m = c.args.m.now in
-    let l = c.args.l in
-    is-answer verdict_numbers (third-stopped (song_part m l) (instrument_part m l) (volume_part m l) (panning_part m l)
-    check-blocks.ensures c.in_default.is check-blocks2.ensures c.in_default-check_blocks.is
-    c.check_envelopes.ensures c.in-Refused-check_envelopes.is)
+pub returns-in_err-check_envelopes : goal.returns-in_err-check_envelopes
+returns-in_err-check_envelopes c =
+    let residual = c.from_residual-in_err-check_envelopes in
+    is-answer verdict_numbers
+    (passed-on residual.result residual.ensures.1
+    ∙ simp (
+      broken-append,
+      ← c.check_songs.ensures,
+      c.in_ok-check_songs.was,
+      ← c.check_instruments.ensures,
+      c.in_ok-check_instruments.was,
+      ← c.check_envelopes.ensures,
+      c.in_err-check_envelopes.was,
+    ))
 
 pub returns : goal.returns
 returns c =
-    let check-blocks = c.check_blocks in
-    let check-blocks2 = c.check_blocks-2 in
-    let m = c.args.m.now in
-    let l = c.args.l in
-    is-answer verdict_numbers (last-follows (song_part m l) (instrument_part m l) (volume_part m l) (panning_part m l)
-    check-blocks.ensures c.in_default.is check-blocks2.ensures c.in_default-check_blocks.is
-    c.check_envelopes.ensures c.in_default-check_envelopes.is c.check_envelopes-2.ensures)
+    is-answer verdict_numbers
+    (simp (
+      broken-append,
+      ← c.check_songs.ensures,
+      c.in_ok-check_songs.was,
+      ← c.check_instruments.ensures,
+      c.in_ok-check_instruments.was,
+      ← c.check_envelopes.ensures,
+      c.in_ok-check_envelopes.was,
+    ) c.check_envelopes-2.ensures)

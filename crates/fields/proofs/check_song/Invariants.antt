@@ -1,9 +1,8 @@
-use Rattle.blocks.proofs.Passing.{Passing}
+use Prim.Native.Nat.{◌+◌}
+use Rattle.blocks.specs.StoredFields.{song_length}
+use Rattle.blocks.proofs.Passing.{PassingSteps}
 use Rattle.fields.specs.Fields.{entry_rules}
 use Rattle.fields.proofs.check_song.Given as goal
 
-abbrev pub invariant-loop-left : goal.invariant-loop-left
-invariant-loop-left l = Passing (entry_rules l.m l.patterns) (λ entry. 2) l.initial.left l.initial.entry l.left l.entry
-
-abbrev pub decreases-loop-left : goal.decreases-loop-left
-decreases-loop-left l = l.left
+abbrev pub invariant-loop-entry : goal.invariant-loop-entry
+invariant-loop-entry l = PassingSteps (entry_rules l.m l.patterns) 2 (song_length l.m l.at) (l.at + 46) l.entry

@@ -1,7 +1,7 @@
 use Rattle.instruments.proofs.instrument.Goals as goal
 
-pub returns-in-At : goal.returns-in-At
-returns-in-At c = simp (← c.find.ensures.0.0, c.in-At.is, c.instrument_at.ensures)
+pub returns-in-Ok : goal.returns-in-Ok
+returns-in-Ok c = simp (← c.find.ensures.0.0, c.in-Ok.is, c.instrument_at.ensures)
 
-pub returns-in-Refused : goal.returns-in-Refused
-returns-in-Refused c = simp (← c.find.ensures.0.0, c.in-Refused.is, c.no_instrument.ensures)
+pub returns-in-Err : goal.returns-in-Err
+returns-in-Err c = simp (← c.find.ensures.0.0, c.in-Err.is, c.no_instrument.ensures)

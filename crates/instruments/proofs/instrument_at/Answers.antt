@@ -6,13 +6,13 @@ use Rattle.instruments.proofs.instrument_at.Goals as goal
 
 pub returns : goal.returns
 returns c =
-    let outcome-of = c.outcome_of in
-    let name30 = c.name30 in
+    let outcome-of = c.from in
+    let name = c.name in
     let instrument-sample = c.instrument_sample in
     let instrument-volume = c.instrument_volume in
     let instrument-panning = c.instrument_panning in
     let signed = c.signed in
-    fields-shown _ _ outcome-of.ensures name30.ensures instrument-sample.ensures instrument-volume.ensures
+    fields-shown _ _ outcome-of.ensures name.ensures instrument-sample.ensures instrument-volume.ensures
     instrument-panning.ensures (to_z-of_z w16 _ (record { sfits = signed.type_inv }) ∙ signed.ensures)
     c.instrument_flags.ensures c.instrument_rate.ensures
     c.instrument_loop_start.ensures c.instrument_loop_length.ensures

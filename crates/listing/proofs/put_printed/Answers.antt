@@ -9,14 +9,13 @@ returns-then-input-gt65536 c = (
   counts c.put.result c.put.new.text (omega (arith, c.put.ensures.0, c.put.auto.text)),
 )
 
-pub returns-in-Written : goal.returns-in-Written
-returns-in-Written c =
-    let w = listing-written c.args.input.now c.args.text.now c.lines.new.out c.lines.result
-    c.lines.ensures.0.0 c.lines.ensures.1 c.lines.ensures.2 c.requires c.in-Written.n c.in-Written.is in
-    (simp (le-ltb _ _ c.if-input-gt65536.false) w.0, w.1)
+pub unwrap-requires : goal.unwrap-requires
+unwrap-requires c =
+    listing-never-refused c.args.input.now c.args.text.now c.lines.new.out c.lines.result
+    c.lines.ensures.0.0 c.lines.ensures.1 c.lines.ensures.2 c.requires
 
-pub returns-in-Refused : goal.returns-in-Refused
-returns-in-Refused c =
-    absurd (listing-never-refused c.args.input.now c.args.text.now c.lines.new.out c.lines.result
-    c.lines.ensures.0.0 c.lines.ensures.1 c.lines.ensures.2 c.requires c.in-Refused.field-0
-    c.in-Refused.is)
+pub returns : goal.returns
+returns c =
+    let w = listing-written c.args.input.now c.args.text.now c.lines.new.out c.lines.result
+    c.lines.ensures.0.0 c.lines.ensures.1 c.lines.ensures.2 c.requires c.unwrap.result c.unwrap.ensures in
+    (simp (le-ltb _ _ c.if-input-gt65536.false) w.0, w.1)

@@ -8,4 +8,4 @@ returns-then-m-at c = sym (number16-past c.args.m.now c.args.at c.if-m-at.true)
 
 pub returns : goal.returns
 unfolding number16
-returns c = simp (c.byte-high.ensures, c.byte-low.ensures)
+returns c = simp (c.from_be_bytes.ensures, c.byte.ensures, c.byte-2.ensures)

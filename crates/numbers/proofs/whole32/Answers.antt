@@ -1,6 +1,7 @@
-use Rattle.numbers.specs.Numbers.{number32}
+use Rattle.numbers.specs.Numbers.{byte_at}
+use Rattle.numbers.proofs.Bytes.{number32-bytes}
 use Rattle.numbers.proofs.whole32.Goals as goal
 
 pub returns : goal.returns
-unfolding number32
-returns c = simp (c.whole16.ensures, c.whole16-2.ensures)
+unfolding byte_at
+returns c = rw (number32-bytes c.args.m.now c.args.at) c.from_be_bytes.ensures

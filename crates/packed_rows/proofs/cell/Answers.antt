@@ -1,10 +1,10 @@
 use Prim.Native.Nat.{ℕ, ◌*◌, ◌≤◌}
+use Rattle.std.specs.Prelude.{Ok}
 use mathlib.Core.Path.{◌∙◌, ap, sym}
 use lib.Seq.{length-take-le}
 use lib.ListN.{replicate}
 use native.Mathlib.Omega.{arith}
-use Rattle.refusal.proofs.Outcomes.{is-answer}
-use Rattle.packed_rows.specs.declared.CellAnswer.TheVariants.{Found}
+use Rattle.refusal.proofs.Outcomes.{is-answer, passed-on}
 use Rattle.packed_rows.proofs.Sizes.{sizes}
 use Rattle.packed_rows.specs.Stream.{read_stream}
 use Rattle.packed_rows.proofs.SkippingRows.{cell-refused, cell-found}
@@ -25,14 +25,15 @@ returns-then-not-cell_there c =
       c.refuse-then-not-cell_there.ensures,
     ))
 
-pub returns-in-Refused : goal.returns-in-Refused
-returns-in-Refused c =
+pub returns-in_err-check_stream : goal.returns-in_err-check_stream
+returns-in_err-check_stream c =
     let tracks = c.args.tracks in
     let sizes-fit = c.sizes_fit in
     let cell-there = c.cell_there in
     is-answer cell_numbers (simp (← sizes-fit.ensures, c.if-not-sizes_fit.false, ← cell-there.ensures, c.if-not-cell_there.false)
-    (cell-refused (read_stream c.args.rows tracks c.args.stream.now) tracks c.args.row
-    c.args.track c.in-Refused.r (sym c.check_stream.ensures ∙ c.in-Refused.is)))
+    (passed-on c.from_residual.result c.from_residual.ensures.1
+    ∙ cell-refused (read_stream c.args.rows tracks c.args.stream.now) tracks c.args.row
+    c.args.track _ (sym c.check_stream.ensures ∙ c.in_err-check_stream.was)))
 
 pub overflow_mul-width : goal.overflow_mul-width
 overflow_mul-width c =
@@ -59,7 +60,7 @@ read_cell-requires c =
     let sizes-fit = c.sizes_fit in
     let cell-there = c.cell_there in
     let fits = sizes c.args.rows tracks (sym sizes-fit.ensures ∙ c.if-not-sizes_fit.false) in (
-      sym c.check_stream.ensures ∙ c.in_default.is,
+      sym c.check_stream.ensures ∙ c.in_ok-check_stream.was,
       sym cell-there.ensures ∙ c.if-not-cell_there.false,
       length-take-le (tracks * 6) (replicate {A = ℕ} 1524 0) (let h : tracks * 6 ≤ 1524 = omega arith in h),
     )
@@ -70,6 +71,6 @@ returns c =
     let cell-there = c.cell_there in
     let check-stream = c.check_stream in
     is-answer cell_numbers (simp (← sizes-fit.ensures, c.if-not-sizes_fit.false, ← cell-there.ensures, c.if-not-cell_there.false)
-    (ap Found c.read_cell.ensures
+    (ap Ok c.read_cell.ensures
     ∙ cell-found c.args.stream.now c.args.rows c.args.tracks c.args.row c.args.track
-    (sym check-stream.ensures ∙ c.in_default.is)))
+    (sym check-stream.ensures ∙ c.in_ok-check_stream.was)))

@@ -6,17 +6,17 @@ use lib.Seq.{length-take-le}
 use borrow.Author.Tests.{lt-ltb, le-ltb, eq-eqb, ne_eqb}
 use native.Mathlib.Omega.{arith}
 use Rattle.refusal.proofs.Outcomes.{is-answer-with}
+use Rattle.refusal.specs.Lengths.{value_numbers}
 use Rattle.cells.specs.Cells.{sizes_fit, rows_of}
 use Rattle.packed_rows.proofs.Sizes.{sizes}
 use Rattle.packed_rows.proofs.StreamLength.{packed-length}
-use Rattle.packed_rows.specs.Answers.{packing_numbers}
 use Rattle.packed_rows.proofs.pack.Goals as goal
 
 pub returns-then-not-sizes_fit : goal.returns-then-not-sizes_fit
 returns-then-not-sizes_fit c =
     let no-fit : sizes_fit c.args.rows c.args.tracks ≡ false =
     sym c.sizes_fit.ensures ∙ c.if-not-sizes_fit.true in
-    is-answer-with packing_numbers (simp (no-fit, c.refuse.ensures), simp no-fit)
+    is-answer-with value_numbers (simp (no-fit, c.refuse.ensures), simp no-fit)
 
 pub overflow_mul-tracks : goal.overflow_mul-tracks
 overflow_mul-tracks c =
@@ -38,7 +38,7 @@ pub returns-then-cells-rows : goal.returns-then-cells-rows
 returns-then-cells-rows c =
     let yes : sizes_fit c.args.rows c.args.tracks ≡ true =
     sym c.sizes_fit.ensures ∙ c.if-not-sizes_fit.false in
-    is-answer-with packing_numbers
+    is-answer-with value_numbers
     (simp (yes, ne_eqb _ _ c.if-cells-rows.true, c.refuse-then-cells-rows.ensures), simp (yes, ne_eqb _ _ c.if-cells-rows.true))
 
 pub packed_length-needed-requires : goal.packed_length-needed-requires
@@ -56,7 +56,7 @@ returns-then-out-needed c =
     let packed-length-call = c.packed_length-needed in
     let yes : sizes_fit c.args.rows c.args.tracks ≡ true =
     sym sizes-fit.ensures ∙ c.if-not-sizes_fit.false in
-    is-answer-with packing_numbers (
+    is-answer-with value_numbers (
       simp (yes, eq-eqb _ _ c.if-cells-rows.false, ← packed-length-call.ensures, lt-ltb _ _ c.if-out-needed.true, c.refuse-then-out-needed.ensures),
       simp (yes, eq-eqb _ _ c.if-cells-rows.false, ← packed-length-call.ensures, lt-ltb _ _ c.if-out-needed.true),
     )
@@ -86,7 +86,7 @@ returns c =
     let packed-length-call = c.packed_length-needed in
     let yes : sizes_fit c.args.rows c.args.tracks ≡ true =
     sym sizes-fit.ensures ∙ c.if-not-sizes_fit.false in
-    is-answer-with packing_numbers (
+    is-answer-with value_numbers (
       simp (yes, eq-eqb _ _ c.if-cells-rows.false, ← packed-length-call.ensures, le-ltb _ _ c.if-out-needed.false),
       simp (yes, eq-eqb _ _ c.if-cells-rows.false, ← packed-length-call.ensures, le-ltb _ _ c.if-out-needed.false)
           (ap (◌++ drop packed-length-call.result c.args.out.now) c.write_rows.ensures),

@@ -5,4 +5,4 @@ use Rattle.packed_rows.proofs.shown_at.Goals as goal
 
 pub returns : goal.returns
 returns c =
-    c.shown.ensures ∙ ap shown_cell (sym (cell-fields c.args.row.now c.args.at c.requires))
+    c.from.ensures ∙ ap shown_cell (sym (cell-fields c.args.row.now c.args.at c.requires))

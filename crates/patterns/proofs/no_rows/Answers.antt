@@ -1,4 +1,4 @@
 use Rattle.patterns.proofs.no_rows.Goals as goal
 
 pub returns : goal.returns
-returns c = rw c.outcome_of.ensures
+returns c = rw c.from.ensures

@@ -34,7 +34,7 @@ returns c =
         ← count_of.ensures,
         lt-ltb _ _ c.if-count_of-index.false,
         c.block_at.ensures.0,
-        c.block_kind.ensures,
+        c.from.ensures,
         c.chunk_of.ensures,
       ),
       search rules,

@@ -11,7 +11,7 @@ returns-then-out-needed c =
     let all-length = c.all_length-needed in
     all-lacking (all_records c.args.m.now c.args.l) c.args.out.now all-length.result
     all-length.ensures c.if-out-needed.true _
-    (c.refused.ensures ∙ ap (λ (r : Refusal). refused_length r) c.refuse.ensures)
+    (c.from.ensures ∙ ap (λ (r : Refusal). refused_length r) c.refuse.ensures)
 
 pub write_all-requires : goal.write_all-requires
 write_all-requires c =
@@ -22,4 +22,4 @@ returns c =
     let all-length = c.all_length-needed in
     let write-all = c.write_all in
     all-enough (all_records c.args.m.now c.args.l) c.args.out.now
-    (omega (arith, all-length.ensures, c.if-out-needed.false)) write-all.result _ _ c.written.ensures write-all.ensures
+    (omega (arith, all-length.ensures, c.if-out-needed.false)) write-all.result _ _ c.from-2.ensures write-all.ensures

@@ -1,96 +1,31 @@
 use native.Mathlib.Omega.{arith}
-use mathlib.Core.Path.{sym}
-use Rattle.blocks.specs.declared.RecordKind.TheVariants.{Song, Instrument, Pattern, Sample, VolumeEnvelope, PanningEnvelope}
-use Rattle.records.specs.Records.{summary_record}
-use Rattle.records.specs.Steps.{records_of_three}
-use Rattle.records.proofs.RecordLengths.{summary-length}
-use Rattle.records.proofs.Accepting.{all_room, all-written}
-use Rattle.acceptance.proofs.Ahead.{first_fits, second-inside, second-part, second-small, third-inside, third-part, third-small, three-written}
+use Rattle.records.proofs.Accepting.{all-lengths, kinds-first, kinds-inside, kinds-part, kinds-small, kinds-turn, kinds-last}
 use Rattle.records.proofs.write_all.Goals as goal
 
 pub write_summary-requires : goal.write_summary-requires
-write_summary-requires c =
-    let m = c.args.m.now in
-    let l = c.args.l in
-    omega (
-      arith,
-      first_fits (summary_record m l) (records_of_three m l Song Instrument Pattern)
-          (records_of_three m l Sample VolumeEnvelope PanningEnvelope) c.args.out.now (all_room m l c.requires.1),
-      summary-length m l,
-    )
+write_summary-requires c = omega (arith, all-lengths c.args.m.now c.args.l, c.requires.1)
 
-pub slice_bounds-write_three-count : goal.slice_bounds-write_three-count
-slice_bounds-write_three-count c =
-    let m = c.args.m.now in
-    let l = c.args.l in
-    second-inside (summary_record m l) (records_of_three m l Song Instrument Pattern)
-    (records_of_three m l Sample VolumeEnvelope PanningEnvelope) c.args.out.now (all_room m l c.requires.1) _
-    (sym (summary-length m l), c.write_summary.ensures)
+pub loop-kind-init : goal.loop-kind-init
+loop-kind-init c = kinds-first c.args.m.now c.args.l c.args.out.now _ c.write_summary.ensures
 
-pub write_three-to-requires : goal.write_three-to-requires
-write_three-to-requires c =
-    let m = c.args.m.now in
-    let l = c.args.l in (
-      c.requires.0,
-      second-part (summary_record m l) (records_of_three m l Song Instrument Pattern)
-          (records_of_three m l Sample VolumeEnvelope PanningEnvelope) c.args.out.now (all_room m l c.requires.1) _
-          (sym (summary-length m l), c.write_summary.ensures),
-    )
+pub slice_bounds-write_records-count : goal.slice_bounds-write_records-count
+slice_bounds-write_records-count c = kinds-inside c.args.m.now c.args.l c.loop-kind.kind-index c.requires.1 c.loop-kind.invariant
+
+pub write_records-to-requires : goal.write_records-to-requires
+write_records-to-requires c =
+    (c.requires.0, kinds-part c.args.m.now c.args.l c.loop-kind.kind-index c.requires.1 c.loop-kind.invariant c.loop-kind-test.true)
 
 pub overflow_add-to : goal.overflow_add-to
 overflow_add-to c =
-    let m = c.args.m.now in
-    let l = c.args.l in
-    let write-summary = c.write_summary in
     omega (
       arith,
-      second-small (summary_record m l) (records_of_three m l Song Instrument Pattern)
-          (records_of_three m l Sample VolumeEnvelope PanningEnvelope) c.args.out.now (all_room m l c.requires.1) _
-          (sym (summary-length m l), write-summary.ensures),
-      c.write_three-to.ensures.0,
+      kinds-small c.args.m.now c.args.l c.loop-kind.kind-index c.requires.1 c.loop-kind.invariant c.loop-kind-test.true,
+      c.write_records-to.ensures.0,
     )
 
-pub slice_bounds-write_three-count-2 : goal.slice_bounds-write_three-count-2
-slice_bounds-write_three-count-2 c =
-    let m = c.args.m.now in
-    let l = c.args.l in
-    let write-summary = c.write_summary in
-    third-inside (summary_record m l) (records_of_three m l Song Instrument Pattern)
-    (records_of_three m l Sample VolumeEnvelope PanningEnvelope) c.args.out.now (all_room m l c.requires.1) _
-    (sym (summary-length m l), write-summary.ensures) _ c.write_three-to.ensures
-
-pub write_three-requires : goal.write_three-requires
-write_three-requires c =
-    let m = c.args.m.now in
-    let l = c.args.l in
-    let write-summary = c.write_summary in (
-      c.requires.0,
-      third-part (summary_record m l) (records_of_three m l Song Instrument Pattern)
-          (records_of_three m l Sample VolumeEnvelope PanningEnvelope) c.args.out.now (all_room m l c.requires.1) _
-          (sym (summary-length m l), write-summary.ensures) _ c.write_three-to.ensures,
-    )
-
-pub overflow_add-result : goal.overflow_add-result
-overflow_add-result c =
-    let m = c.args.m.now in
-    let l = c.args.l in
-    let write-summary = c.write_summary in
-    let write-three = c.write_three-to in
-    omega (
-      arith,
-      third-small (summary_record m l) (records_of_three m l Song Instrument Pattern)
-          (records_of_three m l Sample VolumeEnvelope PanningEnvelope) c.args.out.now (all_room m l c.requires.1) _
-          (sym (summary-length m l), write-summary.ensures) _ write-three.ensures,
-      c.write_three.ensures.0,
-    )
+pub loop-kind-preserved : goal.loop-kind-preserved
+loop-kind-preserved c =
+    kinds-turn c.args.m.now c.args.l c.loop-kind.kind-index c.requires.1 c.loop-kind.invariant c.loop-kind-test.true _ c.write_records-to.ensures
 
 pub returns : goal.returns
-returns c =
-    let m = c.args.m.now in
-    let l = c.args.l in
-    let out = c.args.out.now in
-    let write-summary = c.write_summary in
-    let write-three = c.write_three-to in
-    all-written m l out (three-written (summary_record m l) (records_of_three m l Song Instrument Pattern)
-    (records_of_three m l Sample VolumeEnvelope PanningEnvelope) out (all_room m l c.requires.1) _
-    (sym (summary-length m l), write-summary.ensures) _ write-three.ensures _ c.write_three.ensures)
+returns c = kinds-last c.args.m.now c.args.l c.loop-kind.kind-index c.requires.1 c.loop-kind.invariant c.loop-kind-test.false

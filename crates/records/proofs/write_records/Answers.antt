@@ -7,7 +7,7 @@ write_blocks-requires c =
     let m = c.args.m.now in
     let l = c.args.l in
     let kind = c.args.kind in
-    let block-kind = c.block_kind-blocks in
+    let block-kind = c.from-blocks in
     let Chunk-of = c.chunk_of in
     let block_at = c.block_at-start in
     let count_of = c.count_of-count in (
@@ -20,7 +20,7 @@ write_blocks-requires c =
 
 pub returns : goal.returns
 returns c =
-    let block-kind = c.block_kind-blocks in
+    let block-kind = c.from-blocks in
     let Chunk-of = c.chunk_of in
     let block_at = c.block_at-start in
     let count_of = c.count_of-count in

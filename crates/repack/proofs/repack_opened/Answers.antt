@@ -17,7 +17,7 @@ returns-then-out-needed c =
     let room-needed = c.room_needed-needed in
     module-lacks m (slice-bytes m c.type_inv.m) c.args.l c.requires c.args.out.now
     room-needed.result c.if-out-needed.true room-needed.ensures.1 _
-    (c.refused.ensures ∙ ap (λ (r : Refusal). refused_length r) c.refuse.ensures)
+    (c.from.ensures ∙ ap (λ (r : Refusal). refused_length r) c.refuse.ensures)
 
 pub write_module-requires : goal.write_module-requires
 write_module-requires c =
@@ -32,5 +32,5 @@ returns c =
     let room-needed = c.room_needed-needed in
     let write-module = c.write_module in
     module-done m (slice-bytes m c.type_inv.m) c.args.l c.requires c.args.out.now
-    (omega (arith, room-needed.ensures.0, c.if-out-needed.false)) write-module.result _ _ c.written.ensures
+    (omega (arith, room-needed.ensures.0, c.if-out-needed.false)) write-module.result _ _ c.from-2.ensures
     write-module.ensures

@@ -4,7 +4,6 @@ use Rattle.blocks.specs.declared.BlockKind.TheVariants.{Pattern}
 use Rattle.repack.proofs.WritingModule.{front-room, rest-length, rest-room, module-written}
 use Rattle.repack.specs.Steps.{rewritten_blocks}
 use native.Mathlib.Omega.{arith}
-use Rattle.repack.proofs.WritingModule.{front-room, rest-length, module-written}
 use Rattle.byte_copy.proofs.Copying.{copied-in}
 use Rattle.repack.proofs.write_module.Goals as goal
 

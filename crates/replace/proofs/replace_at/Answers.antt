@@ -97,4 +97,4 @@ returns c =
           c.requires.2 size.ensures.0,
     ))
     (result-counted m (slice-bytes m c.type_inv.m) l c.requires.0 sample c.requires.1 new c.requires.2
-    size.ensures.0) write-result.ensures.0 c.outcome_of.ensures write-result.ensures.1
+    size.ensures.0) write-result.ensures.0 c.from.ensures write-result.ensures.1

@@ -11,20 +11,20 @@ replace_at-requires c =
     let sample = c.args.sample in
     let find-in = c.find_in in (
       c.requires,
-      (sample-found m l sample find-in.ensures.0.0 c.in-At.is).0,
-      (sample-found m l sample find-in.ensures.0.0 c.in-At.is).1,
+      (sample-found m l sample find-in.ensures.0.0 c.in-Ok.is).0,
+      (sample-found m l sample find-in.ensures.0.0 c.in-Ok.is).1,
     )
 
-pub returns-in-At : goal.returns-in-At
-returns-in-At c = c.replace_at.ensures
+pub returns-in-Ok : goal.returns-in-Ok
+returns-in-Ok c = c.replace_at.ensures
 
-pub returns-in-Refused : goal.returns-in-Refused
-returns-in-Refused c =
+pub returns-in-Err : goal.returns-in-Err
+returns-in-Err c =
     let m = c.args.m.now in
     let l = c.args.l in
     let sample = c.args.sample in
     let find-in = c.find_in in
     lacks-sample m l sample c.args.new.now c.args.out.now
-    (sample-lacking m l sample find-in.ensures.0.0 c.in-Refused.is).0
+    (sample-lacking m l sample find-in.ensures.0.0 c.in-Err.is).0
     (c.refused.ensures
-    ∙ ap (λ (r : Refusal). refused_replace r) (sample-lacking m l sample find-in.ensures.0.0 c.in-Refused.is).1)
+    ∙ ap (λ (r : Refusal). refused_replace r) (sample-lacking m l sample find-in.ensures.0.0 c.in-Err.is).1)

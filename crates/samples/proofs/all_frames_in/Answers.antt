@@ -9,7 +9,7 @@ use Rattle.samples.proofs.all_frames_in.Goals as goal
 pub returns-then-out-needed : goal.returns-then-out-needed
 returns-then-out-needed c =
     let sample-frames = c.sample_frames-frames in (
-      simp (← sample-frames.ensures, lt-ltb _ _ c.if-out-needed.true, c.refused.ensures, c.refuse.ensures),
+      simp (← sample-frames.ensures, lt-ltb _ _ c.if-out-needed.true, c.from.ensures, c.refuse.ensures),
       simp (← sample-frames.ensures, lt-ltb _ _ c.if-out-needed.true),
     )
 
@@ -34,6 +34,6 @@ pub returns : goal.returns
 returns c =
     let sample-frames = c.sample_frames-frames in
     let frame-bytes = c.frame_bytes in (
-      simp (← sample-frames.ensures, le-ltb _ _ c.if-out-needed.false, c.written.ensures),
+      simp (← sample-frames.ensures, le-ltb _ _ c.if-out-needed.false, c.from-2.ensures),
       simp (← sample-frames.ensures, le-ltb _ _ c.if-out-needed.false, c.write_frames.ensures, frame-bytes.ensures.0, pairs-length),
     )

@@ -33,6 +33,6 @@ pub returns : goal.returns
 returns c =
     let sample-frames = c.sample_frames in
     let signed = c.signed in
-    frame-shown _ _ _ _ _ _ _ c.outcome_of.ensures sample-frames.ensures c.if-sample_frames-frame.false
+    frame-shown _ _ _ _ _ _ _ c.from.ensures sample-frames.ensures c.if-sample_frames-frame.false
     c.frame_bytes-bytes.ensures.0
     (to_z-of_z w16 signed.result (record { sfits = signed.type_inv }) ∙ signed.ensures ∙ c.at_16_bits.ensures)

@@ -10,6 +10,6 @@ returns c =
     simp (
       ← c.song_length.ensures,
       lt-ltb _ _ c.if-song_length-entry.false,
-      c.outcome_of.ensures,
+      c.from.ensures,
       c.song_entry.ensures,
     )

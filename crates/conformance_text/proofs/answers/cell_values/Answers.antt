@@ -1,4 +1,4 @@
 use Rattle.conformance_text.proofs.answers.cell_values.Goals as goal
 
 pub returns : goal.returns
-returns c = rw c.note_numbers-n.ensures
+returns c = rw c.from-n.ensures

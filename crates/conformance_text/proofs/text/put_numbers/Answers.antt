@@ -1,26 +1,16 @@
-use borrow.Author.Rules.{rules}
 use native.Mathlib.Omega.{arith}
 use Rattle.conformance_text.specs.Text.{numbers_text, spaced}
-use Rattle.conformance_text.proofs.Lines.{going-first, going-turn, going_end}
+use Rattle.conformance_text.proofs.Lines.{going-first, going-turn}
 use Rattle.conformance_text.proofs.text.put_numbers.Goals as goal
 
-pub loop-i-init : goal.loop-i-init
+pub loop-number-init : goal.loop-number-init
 unfolding numbers_text
-loop-i-init c =
-    let args = c.args in
-    (search rules, going-first args.line.now args.at (numbers_text args.numbers.now) (search rules))
+loop-number-init c = let args = c.args in going-first args.line.now args.at (numbers_text args.numbers.now) c.requires
 
-pub loop-i-preserved : goal.loop-i-preserved
-loop-i-preserved c =
+pub loop-number-preserved : goal.loop-number-preserved
+loop-number-preserved c =
     let args = c.args in
-    let loop = c.loop-i in
-    let one = c.put_number-next.ensures in
+    let loop = c.loop-number in
     let numbers = args.numbers.now in
-    (omega arith, going-turn args.line.now args.at (numbers_text numbers) spaced numbers loop.i (omega arith) loop.invariant.1 one)
-
-pub returns : goal.returns
-returns c =
-    let args = c.args in
-    let loop = c.loop-i in
-    going_end args.line.now args.at (numbers_text args.numbers.now) spaced args.numbers.now loop.i
-    (omega arith) loop.invariant.1
+    going-turn args.line.now args.at (numbers_text numbers) spaced numbers loop.number-index (omega arith) loop.invariant
+    c.put_number-next.ensures

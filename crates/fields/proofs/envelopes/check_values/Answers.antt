@@ -1,27 +1,13 @@
-use mathlib.Core.Path.{refl}
+use Prim.Native.Nat.{◌+◌, ◌*◌}
+use mathlib.Core.Path.{◌≡◌}
 use native.Mathlib.Omega.{arith}
-use Rattle.blocks.proofs.Passing.{passing-first, passing-turn, passing-stopped, passing-last}
+use Rattle.blocks.proofs.Passing.{steps-turn}
 use Rattle.fields.proofs.envelopes.check_values.Goals as goal
 
-pub loop-left-init : goal.loop-left-init
-loop-left-init c = passing-first
-
-pub returns-then-not-value_fits : goal.returns-then-not-value_fits
-returns-then-not-value_fits c =
-    let loop = c.loop-left in
-    let loop-test = c.loop-left-test in
-    let value-fits = c.value_fits in
-    passing-stopped loop.invariant refl refl loop-test.true
-    (simp (← c.number16.ensures, ← value-fits.ensures, c.if-not-value_fits.true))
-    c.refuse.ensures
-
-pub loop-left-preserved : goal.loop-left-preserved
-loop-left-preserved c =
-    let loop = c.loop-left in
-    let value-fits = c.value_fits in
-    passing-turn loop.invariant c.loop-left-test.true
-    (simp (← c.number16.ensures, ← value-fits.ensures, c.if-not-value_fits.false))
-    (refl, omega arith)
-
-pub returns : goal.returns
-returns c = passing-last c.loop-left.invariant refl refl c.loop-left-test.false
+pub loop-point-preserved : goal.loop-point-preserved
+loop-point-preserved c =
+    let at = c.args.at in
+    let point = c.loop-point.point in
+    let place : at + 8 + 4 * point + 2 ≡ at + 10 + 4 * point = omega arith in
+    steps-turn c.loop-point.invariant (omega (arith, c.loop-point-test.true))
+    (simp (place, ← c.envelope_value.ensures, ← c.value_fits.ensures, c.if-not-value_fits.false))

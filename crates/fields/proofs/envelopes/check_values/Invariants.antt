@@ -1,9 +1,7 @@
-use Rattle.blocks.proofs.Passing.{Passing}
+use Prim.Native.Nat.{◌+◌}
+use Rattle.blocks.proofs.Passing.{PassingSteps}
 use Rattle.fields.specs.Fields.{value_rules}
 use Rattle.fields.proofs.envelopes.check_values.Given as goal
 
-abbrev pub invariant-loop-left : goal.invariant-loop-left
-invariant-loop-left l = Passing (value_rules l.m l.signed) (λ point. 4) l.initial.left l.initial.point l.left l.point
-
-abbrev pub decreases-loop-left : goal.decreases-loop-left
-decreases-loop-left l = l.left
+abbrev pub invariant-loop-point : goal.invariant-loop-point
+invariant-loop-point l = PassingSteps (value_rules l.m l.signed) 4 (l.sections + 1) (l.at + 8) l.point

@@ -1,15 +1,10 @@
 use Prim.Native.Nat.{◌*◌, ◌≤◌}
-use mathlib.Core.Path.{◌∙◌, sym, refl}
-use borrow.Author.Rules.{rules}
+use mathlib.Core.Path.{◌∙◌, refl}
 use native.Mathlib.Omega.{arith}
 use lib.ListN.{length}
-use Rattle.packed_rows.proofs.ListingRows.{left-inside, left-ahead, rows-first, rows-small, rows-wide, rows_last}
+use Rattle.packed_rows.proofs.ListingRows.{left-inside, left-ahead, rows-small, rows-wide}
 use Rattle.packed_rows.proofs.ListingRows.{rows-marked, rows_empty, rows-turn}
 use Rattle.packed_rows.proofs.comparer.list_rows.Goals as goal
-
-pub loop-row-init : goal.loop-row-init
-loop-row-init c =
-    rows-first c.requires.0 c.requires.1 c.requires.2 c.requires.3 (search rules)
 
 pub bounds-a-at : goal.bounds-a-at
 bounds-a-at c =
@@ -22,9 +17,6 @@ bounds-b-to c =
       left-inside c.requires.1 c.loop-row.invariant.second-left c.loop-row-test.true,
     )
 
-pub slice_bounds-mark_row-end : goal.slice_bounds-mark_row-end
-slice_bounds-mark_row-end c = sym c.loop-row.invariant.marks-long
-
 pub mark_row-requires : goal.mark_row-requires
 mark_row-requires c =
     let tracks = c.args.tracks in
@@ -36,11 +28,6 @@ mark_row-requires c =
       ),
       loop.invariant.marks-long,
     )
-
-pub slice_bounds-mark_row-end-in-loop-row : goal.slice_bounds-mark_row-end-in-loop-row
-slice_bounds-mark_row-end-in-loop-row c =
-    let loop = c.loop-row in
-    sym (c.mark_row.auto.marks ∙ loop.invariant.marks-long)
 
 pub mark_row-requires-in-loop-row : goal.mark_row-requires-in-loop-row
 mark_row-requires-in-loop-row c =
@@ -62,11 +49,6 @@ carry_row-to-requires c =
     let loop = c.loop-row in
     let loop-test = c.loop-row-test in
     left-ahead c.requires.1 loop.invariant.second-left loop-test.true (length loop.second) (rows-wide loop.invariant).1
-
-pub slice_bounds-list_row-end : goal.slice_bounds-list_row-end
-slice_bounds-list_row-end c =
-    let loop = c.loop-row in
-    sym (c.mark_row-in-loop-row.auto.marks ∙ c.mark_row.auto.marks ∙ loop.invariant.marks-long)
 
 pub list_row-count-requires : goal.list_row-count-requires
 list_row-count-requires c =
@@ -97,11 +79,6 @@ overflow_add-count c =
     let most : list-row.result ≤ c.args.tracks * 6 = list-row.ensures.1 in
     omega (arith, small, most, c.requires.5)
 
-pub overflow_add-row : goal.overflow_add-row
-overflow_add-row c =
-    let loop-test = c.loop-row-test in
-    omega (arith, c.requires.4, loop-test.true)
-
 pub loop-row-preserved : goal.loop-row-preserved
 loop-row-preserved c =
     let loop = c.loop-row in
@@ -110,6 +87,3 @@ loop-row-preserved c =
     c.carry_row-to.new.row c.carry_row-at.result c.carry_row-to.result c.carry_row-at.ensures c.carry_row-to.ensures
     c.list_row-count.result c.list_row-count.ensures.0 c.list_row-count.ensures.2 c.list_row-count.ensures.3 c.list_row-count.ensures.4
     (c.list_row-count.auto.marks ∙ c.mark_row-in-loop-row.auto.marks ∙ c.mark_row.auto.marks ∙ loop.invariant.marks-long)
-
-pub returns : goal.returns
-returns c = rows_last c.loop-row.invariant c.loop-row-test.false

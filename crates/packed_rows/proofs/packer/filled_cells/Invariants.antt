@@ -1,10 +1,6 @@
-use Prim.Native.Nat.{◌-◌}
-use lib.ListN.{length}
+use Prim.Native.Nat.{◌*◌}
 use Rattle.packed_rows.proofs.Counting.{CountingCells}
 use Rattle.packed_rows.proofs.packer.filled_cells.Given as goal
 
-abbrev pub invariant-loop-at : goal.invariant-loop-at
-invariant-loop-at l = CountingCells l.cells l.n l.count l.at
-
-abbrev pub decreases-loop-at : goal.decreases-loop-at
-decreases-loop-at l = length l.cells - l.at
+abbrev pub invariant-loop-cell : goal.invariant-loop-cell
+invariant-loop-cell l = CountingCells l.cells l.n l.count (l.cell * 6)

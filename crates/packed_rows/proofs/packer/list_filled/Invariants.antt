@@ -1,4 +1,4 @@
-use Prim.Native.Nat.{◌≤◌, ◌-◌}
+use Prim.Native.Nat.{◌≤◌}
 use lib.ListN.{drop}
 use Rattle.cells.specs.Cells.{row_of}
 use Rattle.packed_rows.specs.Steps.{filled_tracks}
@@ -7,9 +7,5 @@ use Rattle.packed_rows.proofs.packer.list_filled.Given as goal
 
 abbrev pub invariant-loop-track : goal.invariant-loop-track
 invariant-loop-track l =
-    (l.track ≤ l.tracks)
-    × (l.n ≤ l.track)
+    (l.n ≤ l.track)
     × Writing l.initial.list 0 (filled_tracks 0 (row_of l.tracks l.row)) l.list l.n (filled_tracks l.track (drop l.track (row_of l.tracks l.row)))
-
-abbrev pub decreases-loop-track : goal.decreases-loop-track
-decreases-loop-track l = l.tracks - l.track

@@ -1,4 +1,3 @@
-use Prim.Native.Nat.{◌≤◌, ◌-◌}
 use lib.ListN.{drop}
 use Rattle.cells.specs.Cells.{non_zeros}
 use Rattle.packed_rows.specs.Steps.{cell_at}
@@ -7,7 +6,4 @@ use Rattle.packed_rows.proofs.packer.write_fields.Given as goal
 
 abbrev pub invariant-loop-field : goal.invariant-loop-field
 invariant-loop-field l =
-    (l.field ≤ 6) × Writing l.initial.out l.to (non_zeros (cell_at l.cells l.from)) l.out l.at (non_zeros (drop l.field (cell_at l.cells l.from)))
-
-abbrev pub decreases-loop-field : goal.decreases-loop-field
-decreases-loop-field l = 6 - l.field
+    Writing l.initial.out l.to (non_zeros (cell_at l.cells l.from)) l.out l.at (non_zeros (drop l.field (cell_at l.cells l.from)))

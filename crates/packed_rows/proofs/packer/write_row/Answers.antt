@@ -6,7 +6,6 @@ pub write_entries-end-requires : goal.write_entries-end-requires
 write_entries-end-requires c =
     let list-filled = c.list_filled-n in (
       omega arith,
-      omega arith,
       rw list-filled.ensures.0 (tracks-listed c.args.row.now c.args.tracks 0 (omega arith)),
       (row_room c.args.row.now c.args.tracks c.args.out.now c.args.to
           c.list_filled-n.ensures.0 c.requires.3),
@@ -14,13 +13,6 @@ write_entries-end-requires c =
 
 pub bounds-out-end : goal.bounds-out-end
 bounds-out-end c = omega (
-  arith,
-  (row_room c.args.row.now c.args.tracks c.args.out.now c.args.to
-      c.list_filled-n.ensures.0 c.requires.3),
-)
-
-pub overflow_add-result : goal.overflow_add-result
-overflow_add-result c = omega (
   arith,
   (row_room c.args.row.now c.args.tracks c.args.out.now c.args.to
       c.list_filled-n.ensures.0 c.requires.3),

@@ -1,10 +1,7 @@
 use mathlib.Core.Path.{◌∙◌, refl}
 use native.Mathlib.Omega.{arith}
-use Rattle.packed_rows.proofs.Carrying.{carrying-first, carrying-inside, carrying-ready, carrying-cell, carrying-turn, carrying-last}
+use Rattle.packed_rows.proofs.Carrying.{carrying-inside, carrying-ready, carrying-cell, carrying-turn, carrying-last}
 use Rattle.packed_rows.proofs.reader.carry_row.Goals as goal
-
-pub loop-at-init : goal.loop-at-init
-loop-at-init c = (refl, λ ahead. carrying-first _ _ _ ahead)
 
 pub bounds-s-at : goal.bounds-s-at
 bounds-s-at c =
@@ -15,44 +12,8 @@ bounds-s-at c =
           (loop.invariant.1 c.requires) loop.invariant.0,
     )
 
-pub bounds-s-at-in-loop-at : goal.bounds-s-at-in-loop-at
-bounds-s-at-in-loop-at c =
-    let loop = c.loop-at in
-    omega (
-      arith,
-      carrying-inside c.args.s.now c.args.start c.args.row.now c.requires loop.row loop.at
-          (loop.invariant.1 c.requires) loop.invariant.0,
-    )
-
-pub overflow_add-mask : goal.overflow_add-mask
-overflow_add-mask c =
-    let loop = c.loop-at in
-    omega (
-      arith,
-      carrying-inside c.args.s.now c.args.start c.args.row.now c.requires loop.row loop.at
-          (loop.invariant.1 c.requires) loop.invariant.0,
-    )
-
 pub bounds-s-at-in-loop-at-2 : goal.bounds-s-at-in-loop-at-2
 bounds-s-at-in-loop-at-2 c =
-    let loop = c.loop-at in
-    omega (
-      arith,
-      carrying-ready c.args.s.now c.args.start c.args.row.now c.requires loop.row loop.at
-          (loop.invariant.1 c.requires) loop.invariant.0 c.loop-at-test.true,
-    )
-
-pub overflow_add-at : goal.overflow_add-at
-overflow_add-at c =
-    let loop = c.loop-at in
-    omega (
-      arith,
-      carrying-ready c.args.s.now c.args.start c.args.row.now c.requires loop.row loop.at
-          (loop.invariant.1 c.requires) loop.invariant.0 c.loop-at-test.true,
-    )
-
-pub overflow_sub-track : goal.overflow_sub-track
-overflow_sub-track c =
     let loop = c.loop-at in
     omega (
       arith,
@@ -72,28 +33,14 @@ store_fields-requires c =
     carrying-cell s start row c.requires loop.row loop.at (loop.invariant.1 c.requires) loop.invariant.0 c.loop-at-test.true in
     (omega arith, omega arith)
 
-pub overflow_add-at-in-loop-at : goal.overflow_add-at-in-loop-at
-overflow_add-at-in-loop-at c =
-    let loop = c.loop-at in
-    let ready = carrying-ready c.args.s.now c.args.start c.args.row.now c.requires loop.row
-    loop.at (loop.invariant.1 c.requires) loop.invariant.0 c.loop-at-test.true in
-    omega arith
-
-pub loop-at-smaller : goal.loop-at-smaller
-loop-at-smaller c =
-    let loop = c.loop-at in
-    let ready = carrying-ready c.args.s.now c.args.start c.args.row.now c.requires loop.row
-    loop.at (loop.invariant.1 c.requires) loop.invariant.0 c.loop-at-test.true in
-    omega arith
-
 pub loop-at-preserved : goal.loop-at-preserved
 loop-at-preserved c =
     let loop = c.loop-at in
-    let wide = c.wide-track in (
+    let track = c.from-track in (
       c.store_fields.auto.out ∙ loop.invariant.0,
       λ ahead.
           carrying-turn c.args.s.now c.args.start c.args.row.now ahead loop.row loop.at
-          (loop.invariant.1 ahead) loop.invariant.0 c.loop-at-test.true wide.result _ c.entry_length-at.result _ wide.ensures.0
+          (loop.invariant.1 ahead) loop.invariant.0 c.loop-at-test.true track.result _ c.entry_length-at.result _ track.ensures
           refl c.entry_length-at.ensures.0 c.store_fields.ensures,
     )
 

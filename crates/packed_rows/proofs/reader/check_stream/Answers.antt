@@ -1,8 +1,8 @@
 use Prim.Native.Nat.{suc, ◌-◌}
+use Rattle.std.specs.Prelude.{Err}
 use mathlib.Core.Path.{◌≡◌, ◌∙◌, sym, refl, ap}
 use borrow.Author.Rules.{rules}
 use native.Mathlib.Omega.{arith}
-use Rattle.refusal.specs.declared.Verdict.TheVariants.{Refused}
 use Rattle.packed_rows.proofs.Checking.{check-broken, check-row-end, check-entry, check-over, check-end, front-inside}
 use Rattle.packed_rows.proofs.reader.check_stream.Goals as goal
 
@@ -14,7 +14,7 @@ returns-then-length-eq0 c =
     let loop = c.loop-left in
     let front_length = c.front_length-length in
     let some : loop.left ≡ suc (loop.left - 1) = omega arith in
-    ap Refused c.refuse.ensures
+    ap Err c.refuse.ensures
     ∙ sym (check-broken c.args.s.now c.args.tracks (loop.left - 1) loop.left loop.at
     front_length.result some front_length.ensures c.if-length-eq0.true)
     ∙ loop.invariant.1
@@ -92,7 +92,7 @@ returns-then-at-s c =
     let loop = c.loop-left in
     let none : loop.left ≡ 0 = omega arith in
     let same = rw none at loop.invariant.1 in
-    ap Refused c.refuse-then-at-s.ensures
+    ap Err c.refuse-then-at-s.ensures
     ∙ sym (check-over c.args.s.now c.args.tracks loop.at c.if-at-s.true)
     ∙ same
 

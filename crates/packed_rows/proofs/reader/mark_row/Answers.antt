@@ -3,41 +3,12 @@ use mathlib.Core.Path.{refl, ◌∙◌}
 use lib.ListN.{length-set}
 use native.Mathlib.Omega.{arith}
 use Rattle.packed_rows.proofs.Carrying.{skipping-inside, skipping-ready}
-use Rattle.packed_rows.proofs.MarkingRows.{marking-first, marking-skips, marking-inside, marking-turn, marking-last}
+use Rattle.packed_rows.proofs.MarkingRows.{marking-skips, marking-inside, marking-turn, marking-last}
 use Rattle.packed_rows.proofs.reader.mark_row.Goals as goal
-
-pub loop-at-init : goal.loop-at-init
-loop-at-init c = (refl, λ size ahead. marking-first)
 
 pub bounds-s-at : goal.bounds-s-at
 bounds-s-at c =
     let state = c.loop-at.invariant.1 c.requires.0.0 c.requires.0.1 in
-    omega (arith, skipping-inside _ _ c.requires.0.0 c.requires.0.1 _ (marking-skips state))
-
-pub bounds-s-at-in-loop-at : goal.bounds-s-at-in-loop-at
-bounds-s-at-in-loop-at c =
-    let state = c.loop-at.invariant.1 c.requires.0.0 c.requires.0.1 in
-    omega (arith, skipping-inside _ _ c.requires.0.0 c.requires.0.1 _ (marking-skips state))
-
-pub overflow_sub-marks : goal.overflow_sub-marks
-overflow_sub-marks c =
-    let loop = c.loop-at in
-    let state = loop.invariant.1 c.requires.0.0 c.requires.0.1 in
-    let ready =
-    skipping-ready _ _ c.requires.0.0 c.requires.0.1 _ (marking-skips state) c.loop-at-test.true in
-    omega arith
-
-pub bounds-marks-track : goal.bounds-marks-track
-bounds-marks-track c =
-    let loop = c.loop-at in
-    let state = loop.invariant.1 c.requires.0.0 c.requires.0.1 in
-    marking-inside state c.loop-at-test.true c.requires.0.2 (loop.invariant.0 ∙ c.requires.1) c.wide-track.result
-    c.wide-track.ensures.0
-
-pub overflow_add-at : goal.overflow_add-at
-overflow_add-at c =
-    let loop = c.loop-at in
-    let state = loop.invariant.1 c.requires.0.0 c.requires.0.1 in
     omega (arith, skipping-inside _ _ c.requires.0.0 c.requires.0.1 _ (marking-skips state))
 
 pub bounds-s-at-in-loop-at-2 : goal.bounds-s-at-in-loop-at-2
@@ -49,30 +20,16 @@ bounds-s-at-in-loop-at-2 c =
     c.loop-at-test.true in
     omega arith
 
-pub overflow_add-at-in-loop-at : goal.overflow_add-at-in-loop-at
-overflow_add-at-in-loop-at c =
-    let loop = c.loop-at in
-    let state = loop.invariant.1 c.requires.0.0 c.requires.0.1 in
-    let ready = skipping-ready _ _ c.requires.0.0 c.requires.0.1 _ (marking-skips state) c.loop-at-test.true in
-    omega arith
-
-pub loop-at-smaller : goal.loop-at-smaller
-loop-at-smaller c =
-    let loop = c.loop-at in
-    let state = loop.invariant.1 c.requires.0.0 c.requires.0.1 in
-    let ready = skipping-ready _ _ c.requires.0.0 c.requires.0.1 _ (marking-skips state) c.loop-at-test.true in
-    omega arith
-
 pub loop-at-preserved : goal.loop-at-preserved
 loop-at-preserved c =
     let loop = c.loop-at in
-    let wide = c.wide-track in
+    let track = c.from-track in
     let state = loop.invariant.1 c.requires.0.0 c.requires.0.1 in
     let inside =
-    marking-inside state c.loop-at-test.true c.requires.0.2 (loop.invariant.0 ∙ c.requires.1) wide.result wide.ensures.0 in (
-      length-set loop.marks ((wide.result - 1) / 8) 1 ∙ loop.invariant.0,
+    marking-inside state c.loop-at-test.true c.requires.0.2 (loop.invariant.0 ∙ c.requires.1) track.result track.ensures in (
+      length-set loop.marks ((track.result - 1) / 8) 1 ∙ loop.invariant.0,
       λ size ahead.
-          marking-turn (loop.invariant.1 size ahead) c.loop-at-test.true wide.result c.entry_length-at.result _ wide.ensures.0
+          marking-turn (loop.invariant.1 size ahead) c.loop-at-test.true track.result c.entry_length-at.result _ track.ensures
           c.entry_length-at.ensures.0 inside refl,
     )
 

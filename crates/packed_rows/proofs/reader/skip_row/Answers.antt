@@ -1,21 +1,9 @@
 use native.Mathlib.Omega.{arith}
-use Rattle.packed_rows.proofs.Carrying.{skipping-first, skipping-inside, skipping-ready, skipping-turn, skipping-last}
+use Rattle.packed_rows.proofs.Carrying.{skipping-inside, skipping-ready, skipping-turn, skipping-last}
 use Rattle.packed_rows.proofs.reader.skip_row.Goals as goal
-
-pub loop-at-init : goal.loop-at-init
-loop-at-init c = λ size ahead. skipping-first _ _ size ahead
 
 pub bounds-s-at : goal.bounds-s-at
 bounds-s-at c =
-    let loop = c.loop-at in
-    omega (
-      arith,
-      skipping-inside c.args.s.now c.args.start c.requires.0 c.requires.1 loop.at
-          (loop.invariant c.requires.0 c.requires.1),
-    )
-
-pub overflow_add-at : goal.overflow_add-at
-overflow_add-at c =
     let loop = c.loop-at in
     omega (
       arith,
@@ -31,20 +19,6 @@ bounds-s-at-in-loop-at c =
       skipping-ready c.args.s.now c.args.start c.requires.0 c.requires.1 loop.at
           (loop.invariant c.requires.0 c.requires.1) c.loop-at-test.true,
     )
-
-pub overflow_add-at-in-loop-at : goal.overflow_add-at-in-loop-at
-overflow_add-at-in-loop-at c =
-    let loop = c.loop-at in
-    let ready = skipping-ready c.args.s.now c.args.start c.requires.0 c.requires.1 loop.at
-    (loop.invariant c.requires.0 c.requires.1) c.loop-at-test.true in
-    omega arith
-
-pub loop-at-smaller : goal.loop-at-smaller
-loop-at-smaller c =
-    let loop = c.loop-at in
-    let ready = skipping-ready c.args.s.now c.args.start c.requires.0 c.requires.1 loop.at
-    (loop.invariant c.requires.0 c.requires.1) c.loop-at-test.true in
-    omega arith
 
 pub loop-at-preserved : goal.loop-at-preserved
 loop-at-preserved c =

@@ -1,4 +1,0 @@
-use Rattle.layout.proofs.header.header_fits.Goals as goal
-
-pub returns : goal.returns
-returns c = simp c.number32.ensures
