@@ -71,8 +71,10 @@ module _ (m k : List ℕ) (bytes : Bytes m) (others : Bytes k) (l j : Layout) (o
   pub info-same : (field : ℕ)
       → (info_field l field ≡ info_field j field) ↔ (get_or (info_numbers (info_answer m)) field 0 ≡ get_or (info_numbers (info_answer k)) field 0)
   info-same field =
-      let here : get_or (info_numbers (info_answer m)) field 0 ≡ info_field l field = ap (λ (x : Result Layout Refusal). get_or (info_numbers (info_if x)) field 0) o in
-      let there : get_or (info_numbers (info_answer k)) field 0 ≡ info_field j field = ap (λ (x : Result Layout Refusal). get_or (info_numbers (info_if x)) field 0) p in
+      let here : get_or (info_numbers (info_answer m)) field 0 ≡ info_field l field =
+      ap (λ (x : Result Layout Refusal). get_or (info_numbers (info_if x)) field 0) o in
+      let there : get_or (info_numbers (info_answer k)) field 0 ≡ info_field j field =
+      ap (λ (x : Result Layout Refusal). get_or (info_numbers (info_if x)) field 0) p in
       (λ e. here ∙ e ∙ sym there, λ e. sym here ∙ e ∙ there)
 
   info-tested : (field : ℕ)

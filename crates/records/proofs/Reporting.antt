@@ -67,7 +67,9 @@ module _ (m : List ℕ) (l : Layout) (o : opened m ≡ Ok l) where
   songs-reported bytes =
       ap (λ (x : Result Layout Refusal). joined (each_from (reported_song m) 0 (info_if x).songs)) o
       ∙ records-numbered m l o Song
-      (λ (f : Result Block Refusal). song_record (song_if m f) (joined (each_from (λ (entry : ℕ). bytes16 (entry_if m entry f).pattern) 0 (song_if m f).length)))
+      (λ (f : Result Block Refusal).
+      song_record (song_if m f)
+      (joined (each_from (λ (entry : ℕ). bytes16 (entry_if m entry f).pattern) 0 (song_if m f).length)))
       (λ b. ap (song_record (shown_song m b.at)) (playlist-given m bytes b.at))
 
   instruments-reported : joined (each_from (reported_instrument m) 1 (info_if (opened m)).instruments) ≡ records_of m l Instrument

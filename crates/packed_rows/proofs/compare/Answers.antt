@@ -43,9 +43,13 @@ returns-in_err-check_stream c =
     let yes = checked.0 in
     let refused =
     second-refused (read_stream rows tracks a) (read_stream rows tracks b)
-    (length (stream_differences a b rows tracks c.args.pattern)) _
-    checked.1 (sym c.check_stream.ensures ∙ c.in_err-check_stream.was) in
-    is-answer-with value_numbers (simp (yes, ← refused) (passed-on c.from_residual-in_err-check_stream.result c.from_residual-in_err-check_stream.ensures.1), simp (yes, ← refused))
+    (length (stream_differences a b rows tracks c.args.pattern)) _ checked.1
+    (sym c.check_stream.ensures ∙ c.in_err-check_stream.was) in
+    is-answer-with value_numbers (
+      simp (yes, ← refused)
+          (passed-on c.from_residual-in_err-check_stream.result c.from_residual-in_err-check_stream.ensures.1),
+      simp (yes, ← refused),
+    )
 
 pub overflow_mul-width : goal.overflow_mul-width
 overflow_mul-width c =
