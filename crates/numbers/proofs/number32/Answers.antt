@@ -1,4 +1,5 @@
 use mathlib.Core.Path.{sym}
+use native.Mathlib.Omega.{arith}
 use Rattle.numbers.proofs.Bytes.{number32-past, number32-bytes}
 use Rattle.numbers.proofs.number32.Goals as goal
 
@@ -7,4 +8,12 @@ returns-then-m-at c = sym (number32-past c.args.m.now c.args.at c.if-m-at.true)
 
 pub returns : goal.returns
 returns c =
-    rw (number32-bytes c.args.m.now c.args.at) (simp (c.from_be_bytes.ensures, c.byte.ensures, c.byte-2.ensures, c.byte-3.ensures, c.byte-4.ensures))
+    omega (
+      arith,
+      number32-bytes c.args.m.now c.args.at,
+      c.from_be_bytes.ensures,
+      c.byte.ensures,
+      c.byte-2.ensures,
+      c.byte-3.ensures,
+      c.byte-4.ensures,
+    )
