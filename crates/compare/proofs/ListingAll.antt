@@ -39,8 +39,12 @@ lists-two a b n out {r} {s} {out₁} {out₂} one two = (
 lists-same : {a b : List Difference} → a ≡ b → (n : ℕ) (out : List ℕ) {r : ℕ} {out' : List ℕ} → Lists a n out r out' → Lists b n out r out'
 lists-same e n out {r} {out'} lists = subst (λ (ds : List Difference). Lists ds n out r out') e lists
 
+-- The same after another number of entries that is equal.
+pub lists-at : (ds : List Difference) (out : List ℕ) {to n r : ℕ} {out' : List ℕ} → to ≡ n → Lists ds to out r out' → Lists ds n out r out'
+lists-at ds out {to} {n} {r} {out'} same lists = subst (λ (i : ℕ). Lists ds i out r out') same lists
+
 lists-front : (ds : List Difference) (out : List ℕ) (n : ℕ) {r : ℕ} {out' : List ℕ} → Lists ds n out r out' → Lists ds (0 + n) out r out'
-lists-front ds out n {r} {out'} lists = let same : n ≡ 0 + n = omega arith in subst (λ (i : ℕ). Lists ds i out r out') same lists
+lists-front ds out n lists = lists-at ds out (omega arith) lists
 
 -- All records of a kind.
 module _ (m : List ℕ) (l : Layout) (k : List ℕ) (j : Layout) (kind : RecordKind) (n : ℕ) (out : List ℕ) {first a b common : ℕ}

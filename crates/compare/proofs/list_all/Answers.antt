@@ -1,6 +1,6 @@
 use native.Mathlib.Omega.{arith}
 use Rattle.numbers.proofs.AllBytes.{slice-bytes}
-use Rattle.compare.proofs.ListingAll.{kinds-first, kinds-turn, kinds-small, kinds-last}
+use Rattle.compare.proofs.ListingAll.{lists-at, kinds-first, kinds-turn, kinds-small, kinds-last}
 use Rattle.compare.proofs.list_all.Goals as goal
 
 pub loop-kind-init : goal.loop-kind-init
@@ -12,10 +12,10 @@ loop-kind-init c =
 pub list_kind-n-requires : goal.list_kind-n-requires
 list_kind-n-requires c =
     let m = c.args.m.now in
-    let k = c.args.k.now in (
-      c.requires,
-      kinds-small m c.args.l k c.args.j c.loop-kind.invariant (slice-bytes m c.type_inv.m) (slice-bytes k c.type_inv.k) c.requires c.loop-kind-test.true,
-    )
+    let k = c.args.k.now in
+    let small =
+    kinds-small m c.args.l k c.args.j c.loop-kind.invariant (slice-bytes m c.type_inv.m) (slice-bytes k c.type_inv.k) c.requires c.loop-kind-test.true in
+    (c.requires, omega (arith, small))
 
 pub overflow_add-n-in-loop-kind : goal.overflow_add-n-in-loop-kind
 overflow_add-n-in-loop-kind c =
@@ -29,7 +29,8 @@ overflow_add-n-in-loop-kind c =
 
 pub loop-kind-preserved : goal.loop-kind-preserved
 loop-kind-preserved c =
-    kinds-turn c.args.m.now c.args.l c.args.k.now c.args.j c.loop-kind.invariant c.loop-kind-test.true c.list_kind-n.ensures
+    kinds-turn c.args.m.now c.args.l c.args.k.now c.args.j c.loop-kind.invariant c.loop-kind-test.true
+    (lists-at _ _ (omega arith) c.list_kind-n.ensures)
 
 pub returns : goal.returns
 returns c =

@@ -19,7 +19,7 @@ list_group-count-requires c =
     let here : min start c.args.tracks ≡ start = omega arith in
     let state = rw here at c.loop-group.invariant in
     let inside : start < c.args.tracks = omega arith in
-    let end = c.min-end.ensures in
+    let end : c.min-end.result ≡ min (start + 8) c.args.tracks = omega (arith, c.min-end.ensures) in
     let fits = group-fits state inside end c.requires.1 c.requires.2 in
     let most = groups-count state in (
       group-order state inside end,
@@ -44,7 +44,7 @@ loop-group-preserved c =
     let group = c.list_group-count in
     let next : min ((c.loop-group.group + 1) * 8) c.args.tracks ≡ c.min-end.result = omega (arith, c.min-end.ensures) in
     rw next
-    (groups-turn state (omega arith) c.min-end.ensures _ _ _ _ group.result group.ensures.0 group.ensures.2 group.ensures.3
+    (groups-turn state (omega arith) (omega (arith, c.min-end.ensures)) _ _ _ _ group.result group.ensures.0 group.ensures.2 group.ensures.3
     group.ensures.4 group.ensures.5)
 
 pub returns : goal.returns
