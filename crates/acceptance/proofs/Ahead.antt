@@ -66,10 +66,10 @@ module _ {out₀ all : List ℕ} (room : length all ≤ length out₀) (out : Li
   last : Ahead out₀ all out to (xs ++ [])
   last = rw append-nil a
 
-  last-small : to + length xs ≤ length out₀
+  pub last-small : to + length xs ≤ length out₀
   last-small = ahead_small room out xs [] last
 
-  last-part : length xs ≤ length (mid_of to (length out - to) out)
+  pub last-part : length xs ≤ length (mid_of to (length out - to) out)
   last-part = ahead-part room out xs [] last
 
   pub ahead-last : (mid : List ℕ) {r : ℕ} → (r ≡ length xs) × (mid ≡ xs ++ drop r (mid_of to (length out - to) out))

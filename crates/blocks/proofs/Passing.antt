@@ -2,7 +2,7 @@
 use Prim.Native.Nat.{ℕ, suc, ◌+◌, ◌-◌, ◌*◌, ◌<◌}
 use Rattle.std.specs.Prelude.{Ok, Err}
 use mathlib.Core.Path.{◌≡◌, refl, sym, ◌∙◌}
-use mathlib.Core.List.{List, ◌∷◌}
+use mathlib.Core.List.{List, [], ◌∷◌}
 use native.Mathlib.Omega.{arith}
 use native.Mathlib.Nat.{mul-add}
 use Rattle.refusal.specs.Rules.{Rule, first_broken, rules_of_each}
@@ -14,7 +14,15 @@ use Rattle.blocks.specs.Sizes.{places_from}
 pub record Passing (rules : ℕ → List Rule) (all left : List ℕ) : Type 0 where
   pub same : first_broken (rules_of_each rules left) ≡ first_broken (rules_of_each rules all)
 
+-- The loop begins with all the places.
+pub passing-first : {rules : ℕ → List Rule} {all : List ℕ} → Passing rules all all
+passing-first = record { same = refl }
+
 module _ {rules : ℕ → List Rule} {all left : List ℕ} (p : Passing rules all left) where
+  -- It ends with none left: all rules hold.
+  pub passing-last : left ≡ [] → Ok tt ≡ first_broken (rules_of_each rules all)
+  passing-last none = rw none at p.same
+
   module _ {next : List ℕ} {at : ℕ} (e : left ≡ at ∷ next) where
     -- The rules of this place hold.
     pub passing-turn : first_broken (rules at) ≡ Ok tt → Passing rules all next

@@ -51,6 +51,9 @@ module _ (s : List ℕ) (rows tracks : ℕ) where
       }
 
   module _ (out : List ℕ) (at base left : ℕ) (state : CarryingRows s rows tracks out at base left) where
+    pub rows-length : length out ≡ base + left * (tracks * 6)
+    rows-length = ap length state.holds ∙ length-append state.done _ ∙ rw (length-replicate, state.base-is)
+
     pub rows_last : left ≡ 0 → out ≡ cells_read rows tracks s
     rows_last z =
         let read : reading tracks 0 at (drop at s) ≡ whole state.later = rw z at state.reads in

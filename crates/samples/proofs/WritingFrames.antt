@@ -34,7 +34,7 @@ pub record Writing (f : ℕ → ℤ) (n : ℕ) (out : List ℕ) (i : ℕ) : Type
   pub room : 2 * i + length rest ≡ 2 * n
 
 module _ (f : ℕ → ℤ) (n : ℕ) where
-  writing-length : (out : List ℕ) (i : ℕ) → Writing f n out i → length out ≡ 2 * n
+  pub writing-length : (out : List ℕ) (i : ℕ) → Writing f n out i → length out ≡ 2 * n
   writing-length out i h =
       let joint : length out ≡ length (pairs f 0 i) + length h.rest = ap length h.same ∙ length-append (pairs f 0 i) h.rest in
       omega (arith, pairs-length f i 0, h.room)
